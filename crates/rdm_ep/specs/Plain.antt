@@ -1,0 +1,45 @@
+-- The deeds that the built calls of an endpoint reach: messages in one packet each, the first one of a life to
+-- another, no life forgotten, none closed, no receive cancelled.
+use Rattle.std.specs.Prelude.{◌≡◌, ℕ, Bool, true, false, nat_le, List, [], ◌∷◌, is_some}
+use Rattle.rdm_num.specs.declared.numbers.Life.{Life}
+use Rattle.rdm_pkt.specs.declared.Packet.{Packet}
+use Rattle.rdm_pkt.specs.declared.Packet.TheVariants.{Rtm, Handshake}
+use Rattle.rdm_pkt.specs.declared.Form.TheVariants.{Eager}
+use Rattle.rdm_pkt.specs.Choice.{eager_room}
+use Rattle.rdm_num.specs.declared.request.SendReq.{SendReq}
+use Rattle.rdm_model.specs.declared.job.Instr.{Instr}
+use Rattle.rdm_model.specs.declared.job.Instr.TheVariants.{OpenLife, Insert, Reg, Send, Recv, Cancel, Note, Await, Wait, CloseLife}
+use Rattle.rdm_model.specs.Owns.{Own}
+use Rattle.rdm_model.specs.Deeds.{Deed, Did, Took, Item, Spelled}
+use Rattle.rdm_model.specs.Currents.{forgotten_by}
+use Rattle.rdm_model.specs.Heard.{is_heard}
+
+-- the message has room in one packet, whatever its headers
+abbrev pub FitsOnePacket : Own → SendReq → Type 0
+FitsOnePacket own req = (raw : Bool) → nat_le req.len (eager_room (is_some req.tag) (is_some req.cq_data) raw own.limits) ≡ true
+
+-- an instruction that is built
+abbrev pub IsPlainInstr : Own → List Deed → Instr → Type 0
+IsPlainInstr own before (OpenLife connid) = ⊥
+IsPlainInstr own before (Insert life) = forgotten_by before (Did (Insert life)) ≡ []
+IsPlainInstr own before (Send req) = FitsOnePacket own req
+IsPlainInstr own before (Cancel recv) = ⊥
+IsPlainInstr own before CloseLife = ⊥
+IsPlainInstr own before _ = Unit {0}
+
+-- the first message of a life in one packet, or a handshake
+abbrev pub IsPlainItem : Own → List Deed → Life → Item → Type 0
+IsPlainItem own before from (Spelled (Rtm number tag opt (Eager bytes))) = (number.0 ≡ own.limits.first) × (is_heard before from number.0 ≡ false)
+IsPlainItem own before from (Spelled (Handshake words connid)) = Unit {0}
+IsPlainItem own before from _ = ⊥
+
+-- a deed that is built
+abbrev pub IsPlainDeed : Own → List Deed → Deed → Type 0
+IsPlainDeed own before (Did instr) = IsPlainInstr own before instr
+IsPlainDeed own before (Took from item) = IsPlainItem own before from item
+IsPlainDeed own before _ = Unit {0}
+
+-- all deeds of a life are built
+abbrev pub IsPlain : Own → List Deed → Type 0
+IsPlain own [] = Unit {0}
+IsPlain own (d ∷ before) = IsPlain own before × IsPlainDeed own before d

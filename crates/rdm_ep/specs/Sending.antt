@@ -1,0 +1,105 @@
+-- What the calls that register, insert and send make of an endpoint.
+use Rattle.std.specs.Prelude.{ℕ, ◌+◌, Bool, false, ◌&&◌, ◌==◌, nat_lt, nat_le, List, [], ◌∷◌, ◌++◌, length, get_or, Option, Some, None, is_none, Result, Ok, Err, if◌then◌else◌}
+use Rattle.std.specs.List.{list_any}
+use Rattle.rdm_num.specs.Lists.{first_case}
+use Rattle.rdm_num.specs.Pieces.{overlaps}
+use Rattle.rdm_num.specs.Lives.{same_life}
+use Rattle.rdm_num.specs.declared.numbers.Life.{Life}
+use Rattle.rdm_num.specs.declared.request.SendReq.{SendReq}
+use Rattle.rdm_pkt.specs.declared.Packet.TheVariants.{Rtm}
+use Rattle.rdm_pkt.specs.declared.Form.TheVariants.{Eager}
+use Rattle.rdm_model.specs.declared.answer.SendWhy.TheVariants as Why
+use Rattle.rdm_model.specs.declared.answer.PoolName.TheVariants as Pool
+use Rattle.rdm_model.specs.Sends.{wants_raw, opt_for, range_of}
+use Rattle.rdm_ep.specs.declared.state.Posted.{Posted}
+use Rattle.rdm_ep.specs.declared.state.Outbound.{Outbound}
+use Rattle.rdm_ep.specs.declared.answer.SendAnswer.{SendAnswer}
+use Rattle.rdm_ep.specs.declared.answer.SendAnswer.TheVariants.{Did, Refused, Again}
+use Rattle.rdm_ep.specs.declared.answer.Inserted.{Inserted as InsertedAnswer}
+use Rattle.rdm_ep.specs.declared.answer.Inserted.TheVariants.{Inserted, Same}
+use Rattle.rdm_ep.specs.declared.answer.InsertRefused.{InsertRefused}
+use Rattle.rdm_ep.specs.declared.answer.InsertRefused.TheVariants.{Superseded}
+use Rattle.rdm_ep.specs.View.{EndpointView, current_in, cq_in}
+use Rattle.rdm_ep.specs.Peers.{peer_in, with_peer, sent_peer}
+
+-- one more region
+unfoldable pub after_reg : EndpointView → List ℕ → EndpointView
+after_reg v content = record v { regions = v.regions ++ content ∷ [] }
+
+-- the answer of an insert by the current life of its port. One that takes the place of another life is not built
+unfoldable pub insert_answer : Life → Option Life → Result InsertedAnswer InsertRefused
+insert_answer life None = Ok Inserted
+insert_answer life (Some old) = if same_life old life then Ok Same else Err Superseded
+
+-- the endpoint after an insert
+unfoldable pub after_insert : EndpointView → Life → EndpointView
+after_insert v life = if is_none (current_in v life.port.0) then record v { currents = v.currents ++ life ∷ [] } else v
+
+-- no region of that number was registered
+unfoldable pub has_no_region : EndpointView → ℕ → Bool
+has_no_region v region = nat_le (length v.regions) region
+
+-- the range passes the end of its region
+unfoldable pub is_out_of_range : EndpointView → (region at len : ℕ) → Bool
+is_out_of_range v region at len = nat_lt (length (get_or v.regions region [])) (at + len)
+
+-- the range shares a place with that of a receive
+unfoldable pub meets_posted : EndpointView → (region at len : ℕ) → Bool
+meets_posted v region at len = list_any (λ (p : Posted). p.req.region.0 == region && overlaps at len p.req.at p.req.len) v.posted
+
+-- the range shares a place with that of a send
+unfoldable pub meets_outgoing : EndpointView → (region at len : ℕ) → Bool
+meets_outgoing v region at len = list_any (λ (o : Outbound). o.req.region.0 == region && overlaps at len o.req.at o.req.len) v.outgoing
+
+-- the number of the next message to a life
+unfoldable pub number_to : EndpointView → Life → ℕ
+number_to v to = v.own.limits.first + (peer_in v.peers to).sent
+
+-- the same to the current life of a port
+unfoldable pub number_to_current : EndpointView → Option Life → ℕ
+number_to_current v None = 0
+number_to_current v (Some to) = number_to v to
+
+-- every number to the life is used
+unfoldable pub has_no_number : EndpointView → Option Life → Bool
+has_no_number v None = false
+has_no_number v (Some to) = nat_le 4294967296 (number_to v to)
+
+-- every place for a completion is taken
+unfoldable pub cq_is_full : EndpointView → Bool
+cq_is_full v = nat_le v.own.limits.cq (cq_in v)
+
+-- what a send answers
+unfoldable pub send_answer : EndpointView → SendReq → SendAnswer
+send_answer v req =
+    first_case
+    ((has_no_region v req.region.0, Refused Why.NoRegion)
+    ∷ (is_out_of_range v req.region.0 req.at req.len, Refused Why.Range)
+    ∷ (is_none (current_in v req.to.0), Refused Why.NoEntry)
+    ∷ (meets_posted v req.region.0 req.at req.len, Refused Why.Busy)
+    ∷ (has_no_number v (current_in v req.to.0), Refused Why.Numbers)
+    ∷ (nat_le v.own.limits.tx (length v.outgoing), Again Pool.Tx)
+    ∷ (cq_is_full v, Again Pool.Cq)
+    ∷ [])
+    (Did (record { 0 = v.sends }) (record { 0 = number_to_current v (current_in v req.to.0) }))
+
+-- a send to a life, with its packet: the whole message, with the raw address as long as the life's features say so
+unfoldable pub outbound : EndpointView → SendReq → Life → Outbound
+outbound v req to =
+    record {
+      number = record { 0 = v.sends };
+      to = to;
+      req = req;
+      packet = Rtm (record { 0 = number_to v to }) req.tag (opt_for v.own.life (wants_raw (peer_in v.peers to).known) req.cq_data)
+          (Eager (range_of v.regions req.region.0 req.at req.len));
+    }
+
+-- the endpoint after a send to a life
+unfoldable pub after_send_to : EndpointView → SendReq → Option Life → EndpointView
+after_send_to v req None = v
+after_send_to v req (Some to) =
+    record v { sends = v.sends + 1; peers = with_peer sent_peer to v.peers; outgoing = v.outgoing ++ outbound v req to ∷ [] }
+
+-- the endpoint after a send that was accepted
+unfoldable pub after_send : EndpointView → SendReq → EndpointView
+after_send v req = after_send_to v req (current_in v req.to.0)

@@ -1,0 +1,13 @@
+//! The endpoint of one life: its regions, its sends and receives, what it knows of its peers, and
+//! what it owes them.
+#![tactic(auto)]
+
+mod answer;
+mod endpoint;
+mod state;
+
+pub use answer::{
+    CancelAnswer, HandleAnswer, InsertRefused, Inserted, Outgoing, RecvAnswer, SendAnswer,
+};
+pub use endpoint::Endpoint;
+pub use state::{Heard, Inbound, Outbound, Peer, Posted};

@@ -1,0 +1,50 @@
+//! What an endpoint keeps.
+use rdm_num::{Bytes, Life, MsgNo, RecvNo, RecvReq, SendNo, SendReq};
+use rdm_pkt::Packet;
+
+/// What is known of a life.
+#[derive(Clone, Copy, Debug, PartialEq, Eq)]
+pub struct Peer {
+    pub life: Life,
+    /// A datagram of it was taken.
+    pub greeted: bool,
+    /// Its features, from its handshake.
+    pub known: Option<u64>,
+    /// How many messages were sent to it.
+    pub sent: u64,
+}
+
+/// A receive that waits for its message.
+#[derive(Clone, Copy, Debug, PartialEq, Eq)]
+pub struct Posted {
+    pub number: RecvNo,
+    pub req: RecvReq,
+    /// The life that it names.
+    pub from: Option<Life>,
+}
+
+/// A message number that was heard.
+#[derive(Clone, Copy, Debug, PartialEq, Eq)]
+pub struct Heard {
+    pub life: Life,
+    pub no: MsgNo,
+}
+
+/// A message that waits for its receive.
+#[derive(Debug, Drop)]
+pub struct Inbound {
+    pub life: Life,
+    pub no: MsgNo,
+    pub tag: Option<u64>,
+    pub cq_data: Option<u64>,
+    pub bytes: Bytes,
+}
+
+/// A send that was not pushed yet, with the packet that it owes.
+#[derive(Debug, Drop)]
+pub struct Outbound {
+    pub number: SendNo,
+    pub to: Life,
+    pub req: SendReq,
+    pub packet: Packet,
+}
