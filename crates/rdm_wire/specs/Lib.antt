@@ -2,3 +2,4 @@
 pub mod Counts
 pub mod Accounts
 pub mod Flights
+pub mod Queues
