@@ -1,5 +1,5 @@
 -- Fetches one after another.
-use Rattle.std.proofs.Common.{◌≡◌, ◌≢◌, ℕ, ◌==◌, cond, Bool, true, false, List, [], ◌∷◌, ◌++◌, Option, Some, None, option_map, ap, sym, refl, subst, ◌∙◌}
+use Rattle.std.proofs.Common.{◌≡◌, ℕ, ◌==◌, cond, Bool, true, false, List, [], ◌++◌, Option, Some, None, option_map, ap, sym, refl, subst, ◌∙◌}
 use Rattle.std.proofs.Math.Path.{fun_ext}
 use Rattle.std.proofs.lemmas.List.{append_assoc, append-nil}
 use Rattle.std.proofs.lemmas.List.Sorted.{IsPermutation-refl, IsPermutation-trans, IsPermutation-append_right}
@@ -54,8 +54,8 @@ added_at-more : (port : ℕ) (ds es : List Datagram) (lists : ℕ → List Datag
 unfolding added_at
 added_at-more port ds es lists =
     fun_ext (λ p. elim (p == port) as (λ b. cond b (cond b (lists p ++ ds) (lists p) ++ es) (cond b (lists p ++ ds) (lists p)) ≡ cond b (lists p ++ (ds ++ es)) (lists p)) [
-      true ↦ append_assoc (lists p) ds es
-    | false ↦ refl
+      | true ↦ append_assoc (lists p) ds es
+      | false ↦ refl
     ])
 
 -- the account after no fetch
