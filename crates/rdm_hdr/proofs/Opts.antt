@@ -1,12 +1,12 @@
 -- The optional headers: their sizes, and when bytes begin with them.
-use Rattle.std.proofs.Common.{◌≡◌, ℕ, ◌+◌, ◌<◌, ◌≤◌, ◌^◌, Bool, true, false, if◌then◌else◌, List, [], ◌∷◌, ◌++◌, length, Option, Some, None, refl, arith, zero-add}
+use Rattle.std.proofs.Common.{◌≡◌, ℕ, ◌+◌, ◌<◌, Bool, true, false, if◌then◌else◌, List, [], ◌++◌, length, Option, Some, None, refl, arith, zero-add}
 use Rattle.std.specs.Prelude.{is_some, nat_le, not, ◌&&◌, ◌||◌, drop}
 use Rattle.std.specs.Bool.{then_some}
 use Rattle.std.proofs.lemmas.List.{length-append}
-use Rattle.std.proofs.Math.Bool.{and-true, and_assoc}
+use Rattle.std.proofs.Math.Bool.{and-true}
 use Rattle.std.proofs.lemmas.Grind.{flat_map-append}
 use Rattle.rdm_hdr.specs.declared.Opt.{Opt}
-use Rattle.rdm_hdr.specs.Fields.{Field, Number, field_bytes, fields_bytes}
+use Rattle.rdm_hdr.specs.Fields.{Field, field_bytes, fields_bytes}
 use Rattle.rdm_hdr.specs.Fields.{number_at, has_bit}
 use Rattle.rdm_hdr.specs.Headers.{raw_fields, cq_data_fields, connid_fields, opt_fields, opt_size, opt_at}
 use Rattle.rdm_hdr.specs.Reading.{begins, opt_in}

@@ -4,7 +4,7 @@ use Rattle.std.specs.Bool.{then_some}
 use Rattle.rdm_hdr.specs.declared.Base.{Base}
 use Rattle.rdm_hdr.specs.declared.Opt.{Opt}
 use Rattle.rdm_hdr.specs.Fields.{number_at, fields_bytes}
-use Rattle.rdm_hdr.specs.Headers.{raw_fields, opt_fields, opt_size, opt_at}
+use Rattle.rdm_hdr.specs.Headers.{opt_fields, opt_size, opt_at}
 
 -- the bytes begin with that front
 unfoldable pub begins : (front bytes : List ℕ) → Bool

@@ -48,7 +48,7 @@ fn raw_address_both_ways(rt: HostRuntime) {
         connid: None,
     };
     let mut to = Vec::new(rt.alloc());
-    assert!(rt; to.reserve(36).is_ok());
+    assert!(rt; to.reserve(opt_size(&opt)).is_ok());
     append_opt(&opt, &mut to);
     assert!(rt; to.as_slice() == RAW.as_slice());
     assert!(rt; read_opt(0x0009, &RAW) == Some((opt, 36)));

@@ -1,4 +1,4 @@
-use Rattle.std.proofs.Common.{◌≡◌, ◌∙◌, ◌<◌, ◌++◌, refl, sym, arith}
+use Rattle.std.proofs.Common.{◌∙◌, refl, sym}
 use Rattle.rdm_hdr.proofs.opt_headers.read_opt.Goals as goal
 use Rattle.rdm_hdr.specs.Fields.{has_bit}
 use Rattle.rdm_hdr.proofs.Opts.{opt_in-by, none-then, some-then}

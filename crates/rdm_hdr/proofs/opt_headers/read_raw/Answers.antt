@@ -1,5 +1,4 @@
 use Rattle.std.proofs.Common.{refl}
-use Rattle.std.specs.Prelude.{Some, None}
 use Rattle.rdm_hdr.proofs.opt_headers.read_raw.Goals as goal
 use Rattle.rdm_hdr.proofs.Opts.{no_raw-stands, raw-longer}
 use Rattle.rdm_hdr.specs.Reading.{begins}
