@@ -92,7 +92,8 @@ fn append_connid(connid: Option<u32>, to: &mut Vec<u8>)
 /// How many bytes the optional headers have.
 #[tactic(auto, using(crate::proofs::Opts::opt_sizes))]
 pub fn opt_size(opt: &Opt) -> usize
-    ensures { result ≡ Headers.opt_size opt.now }
+    ensures value { result ≡ Headers.opt_size opt.now }
+    ensures bound { result ≤ 48 }
 {
     size_if(opt.raw.is_some(), 36)
         + size_if(opt.cq_data.is_some(), 8)

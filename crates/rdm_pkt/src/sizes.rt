@@ -1,5 +1,5 @@
 //! How many bytes packets have.
-ghost use Rattle.std.specs.Prelude.{◌≡◌, ◌≤◌, ◌+◌, ◌*◌, IsTrue, length};
+ghost use Rattle.std.specs.Prelude.{◌≡◌, ◌≤◌, ◌<◌, ◌+◌, ◌*◌, ◌^◌, IsTrue, length};
 ghost use Rattle.rdm_hdr.specs.Fields.{fields_bytes};
 ghost use Rattle.rdm_pkt.specs.Grammar.{fits, form_fits, spelling, form_fields, last_fields, tag_fields};
 
@@ -8,6 +8,7 @@ use rdm_hdr::opt_size;
 
 impl Packet {
     /// How many bytes the packet has.
+    #[tactic(auto, using(crate::proofs::PacketSizes::packet_sizes))]
     pub fn size(&self) -> usize
         requires { IsTrue (fits self.now) }
         ensures { result ≡ length (spelling self.now) }
@@ -25,6 +26,7 @@ impl Packet {
 }
 
 /// How many bytes the header of a form has after the message number.
+#[tactic(auto, using(crate::proofs::PacketSizes::part_sizes))]
 fn form_size(form: &Form) -> usize
     ensures value { result ≡ length (fields_bytes (form_fields form.now)) }
     ensures bound { result ≤ 32 }
@@ -37,6 +39,7 @@ fn form_size(form: &Form) -> usize
 }
 
 /// How many bytes the tag has.
+#[tactic(auto, using(crate::proofs::PacketSizes::part_sizes))]
 fn tag_size(tag: Option<u64>) -> usize
     ensures value { result ≡ length (fields_bytes (tag_fields tag)) }
     ensures bound { result ≤ 8 }
@@ -45,9 +48,11 @@ fn tag_size(tag: Option<u64>) -> usize
 }
 
 /// How many bytes the read list and the data have.
+#[tactic(auto, using(crate::proofs::PacketSizes::part_sizes))]
 fn last_size(form: &Form) -> usize
     requires { IsTrue (form_fits form.now) }
-    ensures { result ≡ length (fields_bytes (last_fields form.now)) }
+    ensures value { result ≡ length (fields_bytes (last_fields form.now)) }
+    ensures bound { result < 2 ^ 63 + 96 }
 {
     match form {
         Form::Eager { bytes } | Form::Medium { bytes, .. } | Form::LongCts { bytes, .. } => {

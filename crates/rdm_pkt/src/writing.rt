@@ -29,6 +29,7 @@ impl Packet {
     }
 
     /// Appends the packet, for which room is reserved.
+    #[tactic(auto, using(crate::proofs::PacketBytes::packet_parts))]
     fn append(&self, to: &mut Vec<u8>)
         requires fits { IsTrue (fits self.now) }
         requires room { vec_len to.old + length (spelling self.now) ≤ vec_capacity to.old }
@@ -36,14 +37,24 @@ impl Packet {
     {
         match self {
             Packet::Rtm { no, tag, opt, form } => append_rtm(*no, *tag, opt, form, to),
-            Packet::Cts { send_id, recv_id, recv_length, connid } => {
+            Packet::Cts {
+                send_id,
+                recv_id,
+                recv_length,
+                connid,
+            } => {
                 append_head(3, CONNID_FLAG, to);
                 append_u32(to, send_id.0);
                 append_u32(to, recv_id.0);
                 append_u64(to, *recv_length);
                 append_u32(to, connid.0);
             }
-            Packet::CtsData { recv_id, offset, connid, bytes } => {
+            Packet::CtsData {
+                recv_id,
+                offset,
+                connid,
+                bytes,
+            } => {
                 let bytes = bytes.as_slice();
                 append_head(4, CONNID_FLAG, to);
                 append_u32(to, recv_id.0);
@@ -52,7 +63,11 @@ impl Packet {
                 append_u32(to, connid.0);
                 append_bytes(to, bytes);
             }
-            Packet::Eor { send_id, recv_id, connid } => {
+            Packet::Eor {
+                send_id,
+                recv_id,
+                connid,
+            } => {
                 append_head(7, CONNID_FLAG, to);
                 append_u32(to, send_id.0);
                 append_u32(to, recv_id.0);
@@ -100,6 +115,7 @@ fn append_head(kind: u8, flags: u16, to: &mut Vec<u8>)
 }
 
 /// The type of a packet that opens a message.
+#[tactic(auto, unfolding(crate::specs::Grammar::type_of))]
 fn rtm_kind(form: &Form, tag: Option<u64>) -> u8
     ensures { result ≡ Grammar.type_of form.now + (if is_some tag then 1 else 0) }
 {
@@ -114,6 +130,7 @@ fn rtm_kind(form: &Form, tag: Option<u64>) -> u8
 }
 
 /// The flags of a packet that opens a message.
+#[tactic(auto, unfolding(crate::specs::Grammar::rtm_flags))]
 fn rtm_flags(tag: Option<u64>, opt: &Opt) -> u16
     ensures { result ≡ Grammar.rtm_flags tag opt.now }
 {
@@ -122,6 +139,7 @@ fn rtm_flags(tag: Option<u64>, opt: &Opt) -> u16
 }
 
 /// The flags that say which optional headers there are.
+#[tactic(auto, unfolding(rdm_hdr::specs::Headers::opt_flags))]
 fn opt_flags(opt: &Opt) -> u16
     ensures value { result ≡ Headers.opt_flags opt.now }
     ensures bound { result ≤ 32771 }
@@ -133,6 +151,7 @@ fn opt_flags(opt: &Opt) -> u16
 }
 
 /// Appends the header of a form, for which room is reserved.
+#[tactic(auto, using(crate::proofs::PacketSizes::part_sizes), unfolding(crate::specs::Grammar::form_fields, rdm_hdr::specs::Fields::fields_bytes))]
 fn append_form(form: &Form, to: &mut Vec<u8>)
     requires fits { IsTrue (form_fits form.now) }
     requires room { vec_len to.old + length (fields_bytes (form_fields form.now)) ≤ vec_capacity to.old }
@@ -142,21 +161,41 @@ fn append_form(form: &Form, to: &mut Vec<u8>)
 {
     match form {
         Form::Eager { .. } => {}
-        Form::Medium { msg_length, offset, .. } => {
+        Form::Medium {
+            msg_length,
+            offset,
+            ..
+        } => {
             append_u64(to, *msg_length);
             append_u64(to, *offset);
         }
-        Form::LongCts { msg_length, send_id, credit_request, .. } => {
+        Form::LongCts {
+            msg_length,
+            send_id,
+            credit_request,
+            ..
+        } => {
             append_u64(to, *msg_length);
             append_u32(to, send_id.0);
             append_u32(to, *credit_request);
         }
-        Form::LongRead { msg_length, send_id, iov } => {
+        Form::LongRead {
+            msg_length,
+            send_id,
+            iov,
+        } => {
             append_u64(to, *msg_length);
             append_u32(to, send_id.0);
             append_u32(to, iov.as_slice().len() as u32);
         }
-        Form::Runt { msg_length, send_id, iov, runt_length, offset, .. } => {
+        Form::Runt {
+            msg_length,
+            send_id,
+            iov,
+            runt_length,
+            offset,
+            ..
+        } => {
             append_u64(to, *msg_length);
             append_u32(to, send_id.0);
             append_u32(to, iov.as_slice().len() as u32);
@@ -167,6 +206,7 @@ fn append_form(form: &Form, to: &mut Vec<u8>)
 }
 
 /// Appends the tag, if it is there, for which room is reserved.
+#[tactic(auto, using(crate::proofs::PacketSizes::part_sizes), unfolding(crate::specs::Grammar::tag_fields, rdm_hdr::specs::Fields::fields_bytes))]
 fn append_tag(tag: Option<u64>, to: &mut Vec<u8>)
     requires { vec_len to.old + length (fields_bytes (tag_fields tag)) ≤ vec_capacity to.old }
     ensures items { to.new.items ≡ to.old.items ++ fields_bytes (tag_fields tag) }
@@ -179,6 +219,7 @@ fn append_tag(tag: Option<u64>, to: &mut Vec<u8>)
 }
 
 /// Appends the read list and the data, for which room is reserved.
+#[tactic(auto, using(crate::proofs::PacketBytes::last_parts))]
 fn append_last(form: &Form, to: &mut Vec<u8>)
     requires { vec_len to.old + length (fields_bytes (last_fields form.now)) ≤ vec_capacity to.old }
     ensures { to.new.items ≡ to.old.items ++ fields_bytes (last_fields form.now) }

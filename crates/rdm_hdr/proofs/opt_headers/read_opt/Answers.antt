@@ -30,4 +30,4 @@ returns c =
     let raw = some-then _ _ _ (sym c.read_raw.ensures ∙ c.in_ok-read_raw.was) in
     let cq_data = some-then _ _ _ (sym (rw c.size_if-cq_data_place.ensures at c.read_cq_data.ensures) ∙ c.in_ok-read_cq_data.was) in
     let connid = some-then _ _ _ (sym (rw (c.size_if-cq_data_place.ensures, c.size_if.ensures) at c.read_connid.ensures) ∙ c.in_ok-read_connid.was) in
-    rw (e, raw.0, cq_data.0, connid.0, c.opt_size.ensures, raw.1, cq_data.1, connid.1) refl
+    rw (e, raw.0, cq_data.0, connid.0, c.opt_size.ensures.value, raw.1, cq_data.1, connid.1) refl

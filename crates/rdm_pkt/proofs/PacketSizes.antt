@@ -6,6 +6,7 @@ use Rattle.std.proofs.lemmas.Bool.{and_parts, leb-true}
 use Rattle.byteorder.specs.Numbers.{length-bytes_low_first}
 use Rattle.rdm_num.specs.declared.lists.IovEntry.{IovEntry}
 use Rattle.rdm_num.specs.declared.numbers.MsgNo.{MsgNo}
+use Rattle.rdm_num.specs.declared.numbers.Connid.{Connid}
 use Rattle.rdm_hdr.specs.declared.Opt.{Opt}
 use Rattle.rdm_hdr.specs.Fields.{Field, Number, Data, field_bytes, fields_bytes, fields_fit}
 use Rattle.rdm_hdr.specs.Headers.{base_fields, opt_fields, opt_size}
@@ -101,11 +102,14 @@ last-size (Runt size send iov runt offset bytes) = rw (size_of-append (flat_map 
 pub rtm-size : (number : MsgNo) (tag : Option ℕ) (opt : Opt) (form : Form) → length (spelling (Rtm number tag opt form)) ≡ 8 + size_of (form_fields form) + size_of (tag_fields tag) + opt_size opt + size_of (last_fields form)
 unfolding spelling layout opt_size
 rtm-size number tag opt form =
-    rw (size_of-append (head_fields (type_of form + (if is_some tag then 1 else 0)) (rtm_flags tag opt) ++ Number 4 number.0 ∷ form_fields form ++ tag_fields tag ++ opt_fields opt) (last_fields form),
-        size_of-append (head_fields (type_of form + (if is_some tag then 1 else 0)) (rtm_flags tag opt) ++ Number 4 number.0 ∷ form_fields form ++ tag_fields tag) (opt_fields opt),
-        size_of-append (head_fields (type_of form + (if is_some tag then 1 else 0)) (rtm_flags tag opt) ++ Number 4 number.0 ∷ form_fields form) (tag_fields tag),
-        size_of-append (head_fields (type_of form + (if is_some tag then 1 else 0)) (rtm_flags tag opt)) (Number 4 number.0 ∷ form_fields form),
-        size_of-number 4 number.0 (form_fields form), head-size) (omega arith)
+    rw (
+      size_of-append (head_fields (type_of form + (if is_some tag then 1 else 0)) (rtm_flags tag opt) ++ Number 4 number.0 ∷ form_fields form ++ tag_fields tag ++ opt_fields opt) (last_fields form),
+      size_of-append (head_fields (type_of form + (if is_some tag then 1 else 0)) (rtm_flags tag opt) ++ Number 4 number.0 ∷ form_fields form ++ tag_fields tag) (opt_fields opt),
+      size_of-append (head_fields (type_of form + (if is_some tag then 1 else 0)) (rtm_flags tag opt) ++ Number 4 number.0 ∷ form_fields form) (tag_fields tag),
+      size_of-append (head_fields (type_of form + (if is_some tag then 1 else 0)) (rtm_flags tag opt)) (Number 4 number.0 ∷ form_fields form),
+      size_of-number 4 number.0 (form_fields form),
+      head-size,
+    ) (omega arith)
 
 -- the size of a packet by its kind
 abbrev pub packet_size : Packet → ℕ
@@ -117,14 +121,59 @@ packet_size (Handshake words connid) = 12 + 8 * length words
 
 -- the size of a packet
 pub packet-size : (p : Packet) → length (spelling p) ≡ packet_size p
-unfolding spelling layout head_fields base_fields fields_bytes field_bytes
+unfolding spelling layout
 packet-size (Rtm number tag opt form) = rtm-size number tag opt form
-packet-size (Cts send recv size connid) = refl
-packet-size (CtsData recv offset connid bytes) = ap (λ n. 28 + n) (size_of-data bytes)
-packet-size (Eor send recv connid) = refl
-packet-size (Handshake words connid) = ?
+packet-size (Cts send recv size connid) = simp (size_of-append, size_of-number, head-size, nothing-size) refl
+packet-size (CtsData recv offset connid bytes) = simp (size_of-append, size_of-number, size_of-data, head-size) (omega arith)
+packet-size (Eor send recv connid) = simp (size_of-append, size_of-number, head-size, nothing-size) refl
+packet-size (Handshake words connid) = simp (size_of-append, size_of-number, words-size, head-size, nothing-size) (omega arith)
 
 -- a read list has up to four ranges
 pub iov-few : (iov : List IovEntry) (size : ℕ) → iov_fits iov size ≡ true → length iov ≤ 4
 unfolding iov_fits
-iov-few iov size h = ?
+iov-few iov size h =
+    let a = and_parts _ _ h in
+    let b = and_parts _ _ a.0 in
+    let c = and_parts (nat_le 1 (length iov)) (nat_le (length iov) 4) b.0 in
+    leb-true (length iov) 4 c.1
+
+-- how many ranges the read list of a form has
+abbrev pub iov_count : Form → ℕ
+iov_count (Eager bytes) = 0
+iov_count (Medium size offset bytes) = 0
+iov_count (LongCts size send credits bytes) = 0
+iov_count (LongRead size send iov) = length iov
+iov_count (Runt size send iov runt offset bytes) = length iov
+
+-- the read list of a form has up to four ranges
+pub form-few : (form : Form) → form_fits form ≡ true → iov_count form ≤ 4
+unfolding form_fits
+form-few (Eager bytes) h = omega arith
+form-few (Medium size offset bytes) h = omega arith
+form-few (LongCts size send credits bytes) h = omega arith
+form-few (LongRead size send iov) h = iov-few iov size h
+form-few (Runt size send iov runt offset bytes) h =
+    let a = and_parts _ _ h in
+    let b = and_parts _ _ a.0 in
+    let c = and_parts _ _ b.0 in
+    let d = and_parts _ _ c.0 in
+    iov-few iov size d.0
+
+-- a packet that fits opens a message by a form that fits
+pub fits-form : (number : MsgNo) (tag : Option ℕ) (opt : Opt) (form : Form) → fits (Rtm number tag opt form) ≡ true → form_fits form ≡ true
+unfolding fits packet_fits
+fits-form number tag opt form h = let a = and_parts _ _ h in let b = and_parts _ _ a.0 in b.1
+
+-- a handshake that fits has up to eight words
+pub fits-few : (words : List ℕ) (connid : Connid) → fits (Handshake words connid) ≡ true → length words ≤ 8
+unfolding fits packet_fits
+fits-few words connid h =
+    let a = and_parts _ _ h in
+    let b = and_parts (nat_le 1 (length words)) (nat_le (length words) 8) a.0 in
+    leb-true (length words) 8 b.1
+
+-- the sizes of the parts of packets that open messages
+pub ruleset part_sizes = (form-size, tag-size, last-size, head-size, form-few)
+
+-- the sizes of packets
+pub ruleset packet_sizes = (packet-size, fits-form, fits-few, form-few, last-size)
