@@ -1,5 +1,5 @@
 -- What a source and a sink in memory keep, and how a call changes it.
-use Rattle.std.specs.Prelude.{ℕ, ◌-◌, ◌≡◌, ◌⊎◌, min, List, length, drop, take, ◌++◌, Contains}
+use Rattle.std.specs.Prelude.{ℕ, ◌-◌, ◌≡◌, ◌⊎◌, min, List, length, drop, ◌++◌, Contains}
 use Rattle.rdm_io.specs.Faults.{next_count}
 
 -- a source in memory
