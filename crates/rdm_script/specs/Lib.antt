@@ -1,0 +1,4 @@
+-- How a script is read.
+pub mod Values
+pub mod FirstPath
+pub mod Script
