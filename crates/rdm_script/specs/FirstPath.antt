@@ -1,13 +1,13 @@
 -- The scripts that are built: rank 0 sends one tagged message, and rank 1 receives it.
-use Rattle.std.specs.Prelude.{◌≡◌, ℕ, ◌+◌, Bool, IsTrue, ◌&&◌, ◌==◌, nat_le, List, [], ◌∷◌, length, replicate, codes, if◌then◌else◌, Option, Some, None, is_none}
+use Rattle.std.specs.Prelude.{◌≡◌, ℕ, ◌+◌, Bool, IsTrue, ◌&&◌, ◌==◌, nat_le, nat_lt, List, [], ◌∷◌, length, replicate, codes, if◌then◌else◌, Option, Some, None, is_none}
+use Rattle.std.specs.List.{list_all}
 use Rattle.serde_json.specs.Data.{Data}
 use Rattle.serde_json.specs.Find.{get, at}
 use Rattle.rdm_num.specs.declared.limits.EpLimits.{EpLimits}
 use Rattle.rdm_model.specs.declared.job.Job.{Job}
-use Rattle.rdm_model.specs.declared.job.Rank.{Rank as JobRank}
 use Rattle.rdm_model.specs.declared.job.Instr.{Instr}
 use Rattle.rdm_model.specs.declared.job.Instr.TheVariants as I
-use Rattle.rdm_model.specs.Jobs.{len_max}
+use Rattle.rdm_model.specs.Jobs.{len_max, is_u64}
 use Rattle.rdm_script.specs.declared.value.Form.TheVariants.{Script, Rank, Open, Insert, RegText, RegZero, Send, Recv, Wait}
 use Rattle.rdm_script.specs.declared.first_path.Sender.{Sender}
 use Rattle.rdm_script.specs.declared.first_path.Receiver.{Receiver}
@@ -65,10 +65,15 @@ receiver_of script = do
   count ← number_at (codes "count") waits
   Some (record { connid = connid; zeros = zeros; region = region; at = place; len = len; tag = tag; count = count })
 
+-- the numbers have 64 bits, and the text is bytes
+unfoldable pub in_types : Sender → List ℕ → Receiver → Bool
+in_types s text r =
+    is_u64 s.tag && is_u64 s.count && is_u64 r.tag && is_u64 r.count && list_all (λ b. nat_lt b 256) text
+
 -- the numbers are in their ranges, and the two programs are about one message of at most 12 bytes
 abbrev pub fits : Sender → List ℕ → Receiver → Bool
 fits s text r =
-    nat_le s.connid 4294967295 && nat_le r.connid 4294967295 && nat_le (length text) len_max && nat_le r.zeros len_max
+    in_types s text r && nat_le s.connid 4294967295 && nat_le r.connid 4294967295 && nat_le (length text) len_max && nat_le r.zeros len_max
     && (s.port == 1) && (s.peer == r.connid) && (s.to == 1)
     && (s.region == 0) && nat_le (s.at + s.len) (length text) && nat_le s.len 12
     && (r.region == 0) && nat_le (r.at + r.len) r.zeros && nat_le s.len r.len

@@ -1,7 +1,7 @@
 //! The scripts that are built: rank 0 sends one tagged message, and rank 1 receives it.
-ghost use Rattle.std.specs.Prelude.{◌≡◌, ◌+◌, nat_le, IsTrue, IfOk, option_map, length};
+ghost use Rattle.std.specs.Prelude.{◌≡◌, ◌+◌, true, nat_le, IsTrue, IfOk, option_map, length};
 ghost use Rattle.serde_json.specs.View.{view};
-ghost use Rattle.rdm_script.specs.FirstPath.{program, sender_of, sent_text, receiver_of, fits, first_limits, first_job};
+ghost use Rattle.rdm_script.specs.FirstPath.{program, sender_of, sent_text, receiver_of, in_types, fits, first_limits, first_job};
 
 use crate::value::{Form, instruction_at, keys_known, number_at, text_at};
 use rdm_model::{Choices, Instr, Job, Ops, Rank, Ranks};
@@ -108,10 +108,16 @@ fn lies_within(at: u64, len: u64, size: u64) -> bool
     at <= size && len <= size - at
 }
 
+/// What the types of the arguments say of them.
+fn in_types(sender: Sender, text: &str, receiver: Receiver)
+    ensures { in_types sender text.now receiver ≡ true }
+{}
+
 /// The numbers are in their ranges, and the two programs are about one message.
 pub fn fits(sender: Sender, text: &str, receiver: Receiver) -> bool
     ensures { result ≡ fits sender text.now receiver }
 {
+    in_types(sender, text, receiver);
     let size = text.len() as u64;
     sender.connid <= 4_294_967_295
         && receiver.connid <= 4_294_967_295
