@@ -1,0 +1,72 @@
+//! Why a script is refused.
+use crate::Place;
+use std::alloc::AllocError;
+use std::fmt;
+
+/// What is wrong with a script.
+#[derive(Clone, Copy, Debug, PartialEq, Eq)]
+pub enum Reason {
+    /// More bytes came than a script may have.
+    TooLong,
+    /// The bytes are no JSON text.
+    NotJson,
+    /// A value of the wrong kind, a key that is missing, or one that is not known.
+    Shape,
+    Version,
+    /// A number outside its range.
+    Limit,
+    /// A port that is no rank of the job.
+    NoRank,
+    /// An instruction that needs an open life, where none is open.
+    NoLife,
+    /// An open where a life is open.
+    OpenTwice,
+    /// A connection identifier that the rank opened before.
+    RepeatConnid,
+    /// All instructions, all regions or all sends together are too many.
+    TooBig,
+    Frame,
+    RankTwice,
+    NoComm,
+    /// The script asks for what is not built yet.
+    Unbuilt,
+}
+
+/// The first thing that is wrong with a script, and where.
+#[derive(Clone, Copy, Debug, PartialEq, Eq)]
+pub struct BadScript {
+    pub place: Place,
+    pub why: Reason,
+}
+
+/// Why no job came of a script.
+#[derive(Clone, Copy, Debug, PartialEq, Eq)]
+pub enum ScriptRefused {
+    Bad(BadScript),
+    Memory,
+}
+
+impl From<AllocError> for ScriptRefused {
+    ghost use Rattle.std.specs.Prelude.{◌≡◌};
+    ghost use Rattle.rdm_script.specs.declared.refusal.ScriptRefused.TheVariants.{Memory};
+
+    ghost from_gives = { λ _ e. e ≡ Memory };
+
+    fn from(_: AllocError) -> ScriptRefused {
+        ScriptRefused::Memory
+    }
+}
+
+impl fmt::Display for Reason {
+    fn fmt<W: fmt::Write>(&self, f: &mut fmt::Formatter<W>) -> fmt::Result {
+        write!(f, "{self:?}")
+    }
+}
+
+impl fmt::Display for BadScript {
+    fn fmt<W: fmt::Write>(&self, f: &mut fmt::Formatter<W>) -> fmt::Result {
+        let why = self.why;
+        let place = self.place;
+        write!(f, "{why} at {place}")
+    }
+}
