@@ -15,8 +15,9 @@ use Rattle.rdm_model.specs.Matches.{pairs}
 use Rattle.rdm_model.specs.Parts.{carried_pieces, has_landed}
 use Rattle.rdm_model.specs.Receives.{is_filled}
 use Rattle.rdm_model.specs.Local.{heads_by, bytes_by, heard_by}
-use Rattle.rdm_model.proofs.Lists.{some_of, each_below_at}
-use Rattle.rdm_model.proofs.Arrivals.{heard_still, is_pair_heard}
+use Rattle.rdm_model.proofs.Members.{some_of, each_below_at}
+use Rattle.rdm_model.proofs.Matches.{heard_still}
+use Rattle.rdm_model.proofs.SameMatches.{is_pair_heard}
 use Rattle.rdm_model.proofs.SameMatches.{HeadsAgree, carried_pieces_same}
 use Rattle.rdm_model.proofs.SameReceives.{byte_at_more}
 use Rattle.rdm_model.proofs.SameRegions.{Agree}

@@ -1,12 +1,10 @@
 -- Lemmas on the definitions.
--- Lists, and lives compared:
-pub mod Lists
-pub mod LifeTests
+-- Elements of lists, and lives compared:
 pub mod Members
--- What the matcher of a life keeps; what meets a receive was heard of:
+pub mod Lists
+-- What the matcher of a life keeps:
 pub mod Matches
 pub mod Numbers
-pub mod Arrivals
 -- Two accounts of the messages that agree on what was heard, and on the bytes of what was received, say the same:
 pub mod SameMatches
 pub mod SameReceives

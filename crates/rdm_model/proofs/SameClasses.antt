@@ -17,7 +17,7 @@ use Rattle.rdm_model.specs.Sends.{Sent}
 use Rattle.rdm_model.specs.Scenes.{Scene}
 use Rattle.rdm_model.specs.Named.{live_send, live_pair}
 use Rattle.rdm_model.specs.Classes.{is_received, passes_grants, allowed_bytes, is_wrong_grant, is_early_end, is_mismatch, is_taken, is_taken_pair, repeats, is_overlap, item_class, body_class, class_of, body_lives_class, lives_class}
-use Rattle.rdm_model.proofs.Lists.{some_of}
+use Rattle.rdm_model.proofs.Members.{some_of}
 use Rattle.rdm_model.proofs.SameMatches.{carried_pieces_same}
 use Rattle.rdm_model.proofs.SameReceives.{recv_ends_same, and_where}
 use Rattle.rdm_model.proofs.SameReplies.{granted_bytes_same}

@@ -1,8 +1,9 @@
 -- By two accounts that agree on what was heard, the same messages meet the same receives, and the same bytes came.
-use Rattle.std.proofs.Common.{◌≡◌, ℕ, List, [], ◌∷◌, map, Some, refl, ap}
+use Rattle.std.proofs.Common.{◌≡◌, ℕ, true, subst, List, [], ◌∷◌, map, Some, refl, ap}
+use Rattle.rdm_num.specs.Lists.{Member}
 use Rattle.rdm_num.specs.declared.numbers.Life.{Life}
 use Rattle.rdm_num.specs.declared.head.Head.{Head}
-use Rattle.rdm_match.specs.Matcher.{Matching}
+use Rattle.rdm_match.specs.Matcher.{is_pair, Matching}
 use Rattle.rdm_model.specs.declared.job.Instr.TheVariants.{Recv, Cancel as CancelOp, Insert}
 use Rattle.rdm_model.specs.Deeds.{Deed, Did, Took}
 use Rattle.rdm_model.specs.Owns.{Heads}
@@ -10,7 +11,7 @@ use Rattle.rdm_model.specs.Heard.{heard_head, entering}
 use Rattle.rdm_model.specs.Matches.{matching, pairs, events_by, arrival, merge}
 use Rattle.rdm_model.specs.Parts.{carried_pieces}
 use Rattle.rdm_model.proofs.Lists.{map_same}
-use Rattle.rdm_model.proofs.Arrivals.{heard_still, entering_heard}
+use Rattle.rdm_model.proofs.Matches.{is_pair_member, heard_still, entered_heard, entering_parts, pair_heard}
 
 -- the heads agree on each message that was heard of
 abbrev pub HeadsAgree : Heads → Heads → List Deed → Type 0
@@ -19,6 +20,19 @@ HeadsAgree hs ks log = (source : Life) (n : ℕ) (h : Head) → heard_head log s
 -- and so they did before a deed
 pub heads_before : (hs ks : Heads) (d : Deed) (before : List Deed) → HeadsAgree hs ks (d ∷ before) → HeadsAgree hs ks before
 heads_before hs ks d before a source n h is = a source n h (heard_still d before source n h is)
+
+-- a message that enters by a deed was heard of after it
+entering_heard : (first : ℕ) (d : Deed) (before : List Deed) (source : Life) (n : ℕ) → Member n (entering first d before source)
+    → (h : Head) × (heard_head (d ∷ before) source n ≡ Some h)
+entering_heard first d before source n m = entered_heard first (d ∷ before) source n (entering_parts first d before source n m).0
+
+-- the message of a pair that a test found was heard of
+pub is_pair_heard : (first : ℕ) (heads : Heads) (log : List Deed) (recv : ℕ) (source : Life) (n : ℕ) → is_pair (pairs first heads log) recv source n ≡ true
+    → (h : Head) × (heard_head log source n ≡ Some h)
+is_pair_heard first heads log recv source n h =
+    let r = is_pair_member (pairs first heads log) recv source n h in
+    subst (λ (m : ℕ). (x : Head) × (heard_head log source m ≡ Some x)) r.4
+    (subst (λ (l : Life). (x : Head) × (heard_head log l r.0.message.no.0 ≡ Some x)) r.3 (pair_heard first heads log r.0 r.1))
 
 arrivals_same : (first : ℕ) (hs ks : Heads) (d : Deed) (before : List Deed) (source : Life) → HeadsAgree hs ks (d ∷ before)
     → map (arrival hs source) (entering first d before source) ≡ map (arrival ks source) (entering first d before source)

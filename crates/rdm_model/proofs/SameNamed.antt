@@ -15,8 +15,8 @@ use Rattle.rdm_model.specs.Receives.{has_ended, recv_ends}
 use Rattle.rdm_model.specs.Sends.{Sent}
 use Rattle.rdm_model.specs.Scenes.{Scene}
 use Rattle.rdm_model.specs.Named.{live_send, live_pair, is_good_ask, is_bad_key, is_long_shape, is_read_shape, has_shape, is_no_op}
-use Rattle.rdm_model.proofs.Lists.{find_member}
-use Rattle.rdm_model.proofs.Arrivals.{pair_heard}
+use Rattle.rdm_model.proofs.Members.{find_member}
+use Rattle.rdm_model.proofs.Matches.{pair_heard}
 use Rattle.rdm_model.proofs.SameMatches.{pairs_same}
 use Rattle.rdm_model.proofs.SameReceives.{recv_ends_same}
 use Rattle.rdm_model.proofs.SameTurns.{live_sends_same}
@@ -37,8 +37,8 @@ live_pair_same s ns from n a =
 pub live_pair_member : (s : Scene) (from : Life) (n : ℕ) (p : Pair) → live_pair s from n ≡ Some p → Member p (pairs s.own.limits.first s.ms.head s.log)
 unfolding live_pair
 live_pair_member s from n p h =
-    find_member (λ (p : Pair). is_recv n p.recv && same_life p.message.life from && not (has_ended (recv_ends s.own.limits.first s.ms.head s.log) n)) p
-    (pairs s.own.limits.first s.ms.head s.log) h
+    (find_member (λ (p : Pair). is_recv n p.recv && same_life p.message.life from && not (has_ended (recv_ends s.own.limits.first s.ms.head s.log) n)) p
+    (pairs s.own.limits.first s.ms.head s.log) h).0
 
 -- the accounts agree on the message of the pair of a live receive
 pub live_pair_head : (s : Scene) (ns : Messages) (from : Life) (n : ℕ) (p : Pair) → AgreesIn s ns → live_pair s from n ≡ Some p

@@ -12,9 +12,10 @@ use Rattle.rdm_model.specs.Currents.{forgotten_by}
 use Rattle.rdm_model.specs.Matches.{pairs}
 use Rattle.rdm_model.specs.Parts.{carried_pieces, has_landed}
 use Rattle.rdm_model.specs.Receives.{RecvEnd, is_filled, filled_by, gone_with, recv_ends_by, with_recv_ends, recv_ends, live_receives}
-use Rattle.rdm_model.proofs.Lists.{filter_same, flat_map_same, some_of, is_some_from, each_below_more}
-use Rattle.rdm_model.proofs.Arrivals.{is_pair_heard, is_pair_still}
-use Rattle.rdm_model.proofs.SameMatches.{HeadsAgree, heads_before, matching_same, pairs_same, carried_pieces_same}
+use Rattle.rdm_model.proofs.Members.{some_of, is_some_from, each_below_more}
+use Rattle.rdm_model.proofs.Lists.{filter_same, flat_map_same}
+use Rattle.rdm_model.proofs.Matches.{is_pair_still}
+use Rattle.rdm_model.proofs.SameMatches.{is_pair_heard, HeadsAgree, heads_before, matching_same, pairs_same, carried_pieces_same}
 
 -- whether a matched message has landed is the same
 landed_same : (first : ℕ) (hs ks : Heads) (log : List Deed) (source : Life) (n : ℕ) → HeadsAgree hs ks log → hs source n ≡ ks source n

@@ -14,8 +14,8 @@ use Rattle.rdm_model.specs.Sends.{Sent}
 use Rattle.rdm_model.specs.Grants.{first_part, window_of, window, with_window, granted_bytes}
 use Rattle.rdm_model.specs.Replies.{pair_items, pair_replies, replies_by}
 use Rattle.rdm_model.proofs.Lists.{flat_map_same}
-use Rattle.rdm_model.proofs.Arrivals.{is_pair_heard, pair_heard}
-use Rattle.rdm_model.proofs.SameMatches.{HeadsAgree, heads_before, pairs_same, carried_pieces_same}
+use Rattle.rdm_model.proofs.Matches.{pair_heard}
+use Rattle.rdm_model.proofs.SameMatches.{is_pair_heard, HeadsAgree, heads_before, pairs_same, carried_pieces_same}
 use Rattle.rdm_model.proofs.SameReceives.{is_filled_same}
 
 -- values that agree where a test holds
