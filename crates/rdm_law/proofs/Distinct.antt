@@ -277,7 +277,7 @@ entered_still first d before source n h =
     let a = and_parts _ (is_heard before source n) h in
     let b = and_parts (nat_le first n) (each_below (λ k. is_heard before source (first + k)) (n - first)) a.0 in
     and_from _ _ (and_from _ _ b.0 (each_below_more (λ k. is_heard before source (first + k)) (λ k. is_heard (d ∷ before) source (first + k)) (n - first)
-        (λ k i. is_heard_still d before source (first + k) i) b.1)) (is_heard_still d before source n a.1)
+    (λ k i. is_heard_still d before source (first + k) i) b.1)) (is_heard_still d before source n a.1)
 
 events_distinct : (first : ℕ) (heads : Heads) (d : Deed) (before : List Deed) (m : Matching) → Distinct (Entered first before) m
     → Distinct (Entered first (d ∷ before)) (run m (events_by first heads before d))

@@ -117,7 +117,8 @@ posted_accepted first heads (d ∷ before) =
     run_keeps_posted (IsAccepted (d ∷ before)) (matching first heads before) (events_by first heads before d) (accepted_event first heads d before)
     (record { waiting = λ r h. accepted_still d before r (earlier.waiting r h); paired = λ p h. accepted_still d before p.recv (earlier.paired p h) })
 
-slice_get_split : {A : Type 0} (xs ys : List A) (n : ℕ) (x : A) → slice_get (xs ++ ys) n ≡ Some x
+-- an element of two lists in a row is of the first, or past it
+pub slice_get_split : {A : Type 0} (xs ys : List A) (n : ℕ) (x : A) → slice_get (xs ++ ys) n ≡ Some x
     → (slice_get xs n ≡ Some x) ⊎ ((k : ℕ) × (n ≡ length xs + k) × (slice_get ys k ≡ Some x))
 slice_get_split [] ys n x h = inr (n, omega arith, h)
 slice_get_split (y ∷ xs) ys zero x h = inl h
