@@ -18,3 +18,7 @@ pub mod SameClasses
 pub mod SameFits
 -- What a log says of its messages stays as it grows:
 pub mod Grows
+pub mod Cuts
+pub mod Rows
+pub mod Opens
+pub mod Turns
