@@ -22,3 +22,4 @@ pub mod Cuts
 pub mod Rows
 pub mod Opens
 pub mod Turns
+pub mod Pushes
