@@ -37,6 +37,10 @@ unfolding piece_bytes
 piece_bytes-append [] qs = omega arith
 piece_bytes-append (p ∷ ps) qs = let e = piece_bytes-append ps qs in omega arith
 
+pub single_bytes : (p : Piece) → piece_bytes (p ∷ []) ≡ length p.bytes
+unfolding piece_bytes
+single_bytes p = omega arith
+
 -- the rest of a message is a part of it
 pub rest_part : (whole bytes : List ℕ) (offset : ℕ) → bytes ≡ drop offset whole → Part (record { offset = offset; bytes = bytes }) whole
 rest_part whole bytes offset e = sym (ap (take (length bytes)) (sym e) ∙ take_all (length bytes) bytes (omega arith))

@@ -23,3 +23,4 @@ pub mod Rows
 pub mod Opens
 pub mod Turns
 pub mod Pushes
+pub mod Served

@@ -1,26 +1,17 @@
 -- What was pushed of each send: the openings in order, then granted bytes, in a row; and no push twice.
-use Rattle.std.proofs.Common.{◌≡◌, ℕ, zero, suc, ◌+◌, ◌-◌, ◌<◌, ◌≤◌, min, Bool, true, false, cond, List, [], ◌∷◌, ◌++◌, length, take, drop, Option, Some, None, refl, arith, ◌⊎◌, inl, inr, sym, ◌∙◌, ap, subst, append_assoc}
-use Rattle.std.specs.Prelude.{slice_get, nat_lt, ◌==◌}
-use Rattle.std.proofs.lemmas.Bool.{ltb-true, eq-eqb, ne_eqb, eqb-true, eqb-false, cases_eq}
+use Rattle.std.proofs.Common.{◌≡◌, ℕ, ◌≤◌, Bool, cond, List, [], ◌∷◌, ◌++◌, length, Option, Some, None, refl, arith, ◌⊎◌, inl, inr, sym, ◌∙◌, ap, subst}
+use Rattle.std.proofs.lemmas.Bool.{eq-eqb, ne_eqb, cases_eq}
 use Rattle.std.proofs.lemmas.List.{append-nil, length-append}
-use Rattle.rdm_num.specs.Lists.{Member, or_else}
-use Rattle.rdm_num.specs.Lives.{op_id}
-use Rattle.rdm_num.specs.Pieces.{Piece, piece_bytes, overlaps}
+use Rattle.rdm_num.specs.Lists.{Member}
 use Rattle.rdm_pkt.specs.declared.Packet.{Packet}
-use Rattle.rdm_pkt.specs.declared.Packet.TheVariants.{CtsData}
-use Rattle.rdm_pkt.specs.Openings.{openings}
-use Rattle.rdm_model.specs.Deeds.{Deed, Did, PushedNote, Pushed, TookNote, Took, Polled, Nothing}
+use Rattle.rdm_model.specs.Deeds.{Deed, Pushed}
 use Rattle.rdm_model.specs.Owns.{Own, Messages}
 use Rattle.rdm_model.specs.Sends.{Sent, sent_by, with_sent, sends}
-use Rattle.rdm_model.specs.Grants.{Grant, grants, grant_bytes, data_room}
-use Rattle.rdm_model.specs.Replies.{Reply}
-use Rattle.rdm_model.specs.Turns.{Progress, Turn, Replies, Sends, packet_piece, pieces_in, is_over, next_packet, next_turn, after_turn, after_push, after_deed, progress, turn}
+use Rattle.rdm_model.specs.Grants.{grants}
+use Rattle.rdm_model.specs.Turns.{Turn, Replies, Sends, next_packet, after_turn, after_push, after_deed, progress, turn}
 use Rattle.rdm_model.proofs.Members.{member-append_left, member-append_cases}
-use Rattle.rdm_model.proofs.Cuts.{Part, InRow, piece_bytes-append}
-use Rattle.rdm_model.proofs.Rows.{apart, apart_after}
-use Rattle.rdm_model.proofs.Opens.{pieces_in-append, pieces_in_one, openings_in_row}
-use Rattle.rdm_model.proofs.Numbers.{NewSent, sends_step, sends_one, send_below, new_number}
-use Rattle.rdm_model.proofs.Turns.{SendTurn, turn_cases, Underway, NextOf, next_is, next_underway, next_piece, none_underway}
+use Rattle.rdm_model.proofs.Numbers.{sends_step, sends_one, send_below, new_number}
+use Rattle.rdm_model.proofs.Turns.{SendTurn, turn_cases, Underway, next_is, next_underway, none_underway}
 
 -- the packets of the send of that number that were pushed
 abbrev pub pushed_of : Own → Messages → List Deed → ℕ → List Packet
@@ -63,8 +54,11 @@ turn_step own ms before n (Some (Replies r)) e = inl refl
 turn_step own ms before n (Some (Sends s packet)) e =
     let by = packets_by own ms before n s packet e in
     elim (cases_eq n s.number) [
-      | inl a ↦ inr (by.0, ap (λ (x : Sent). x.number) by.1 ∙ sym a,
-        ap (λ (b : Bool). pushed_of own ms before n ++ cond b (packet ∷ []) []) (eq-eqb n s.number a) ∙ ap (λ (x : Packet). pushed_of own ms before n ++ x ∷ []) (sym by.2))
+      | inl a ↦ inr (
+        by.0,
+        ap (λ (x : Sent). x.number) by.1 ∙ sym a,
+        ap (λ (b : Bool). pushed_of own ms before n ++ cond b (packet ∷ []) []) (eq-eqb n s.number a) ∙ ap (λ (x : Packet). pushed_of own ms before n ++ x ∷ []) (sym by.2),
+      )
       | inr a ↦ inl (ap (λ (b : Bool). pushed_of own ms before n ++ cond b (packet ∷ []) []) (ne_eqb n s.number a) ∙ append-nil (pushed_of own ms before n))
     ]
 
@@ -107,7 +101,7 @@ underway own ms (d ∷ before) s m =
         | inl b ↦ underway own ms before s b
         | inr b ↦ elim b [
           | inl same ↦ (let e : s.number ≡ length (sends own ms before) = ap (λ (x : Sent). x.number) (sym same) ∙ new_number own ms before (sends own ms before) d a.0 a.1 in
-            subst (λ (xs : List Packet). Underway own s xs) (sym (none_pushed own ms before s.number (omega arith))) (none_underway own s))
+              subst (λ (xs : List Packet). Underway own s xs) (sym (none_pushed own ms before s.number (omega arith))) (none_underway own s))
           | inr never ↦ elim never [ ]
         ]
       ]

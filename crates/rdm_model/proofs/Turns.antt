@@ -7,7 +7,7 @@ use Rattle.rdm_num.specs.Lists.{Member, or_else}
 use Rattle.rdm_num.specs.Lives.{op_id}
 use Rattle.rdm_num.specs.Pieces.{Piece, piece_bytes}
 use Rattle.rdm_pkt.specs.declared.Packet.{Packet}
-use Rattle.rdm_pkt.specs.declared.Packet.TheVariants.{CtsData}
+use Rattle.rdm_pkt.specs.declared.Packet.TheVariants.{Rtm, Cts, CtsData, Eor, Handshake}
 use Rattle.rdm_pkt.specs.declared.Kind.{Kind}
 use Rattle.rdm_pkt.specs.declared.Kind.TheVariants.{Eager, Medium, LongCts, LongRead, Runt}
 use Rattle.rdm_pkt.specs.Openings.{openings}
@@ -110,16 +110,32 @@ granted_is own gs s pushed Medium p e h = cc
 granted_is own gs s pushed LongRead p e h = cc
 granted_is own gs s pushed (Runt runt) p e h = cc
 
+-- packets of granted bytes
+abbrev pub IsData : Packet → Type 0
+IsData (Rtm number tag opt form) = ⊥
+IsData (Cts send recv size connid) = ⊥
+IsData (CtsData recv offset connid bytes) = Unit {0}
+IsData (Eor send recv connid) = ⊥
+IsData (Handshake words connid) = ⊥
+
+abbrev pub AllData : List Packet → Type 0
+AllData [] = Unit {0}
+AllData (p ∷ ps) = IsData p × AllData ps
+
+data_more : (ps : List Packet) (p : Packet) → AllData ps → IsData p → AllData (ps ++ p ∷ [])
+data_more [] p a d = (d, tt)
+data_more (q ∷ ps) p a d = (a.0, data_more ps p a.1 d)
+
 -- how far a send is: some of its openings were pushed, or all of them and then granted bytes; their bytes stand in a row
 pub record Underway (own : Own) (s : Sent) (pushed : List Packet) : Type 0 where
-  pub how : ((later : List Packet) × (openings own.limits s.message s.kind ≡ pushed ++ later)) ⊎ ((datas : List Packet) × (pushed ≡ openings own.limits s.message s.kind ++ datas) × (s.kind ≡ LongCts))
+  pub how : ((later : List Packet) × (openings own.limits s.message s.kind ≡ pushed ++ later)) ⊎ ((datas : List Packet) × (pushed ≡ openings own.limits s.message s.kind ++ datas) × (s.kind ≡ LongCts) × AllData datas)
   pub row : InRow s.message.bytes 0 (pieces_in pushed)
 
 -- what the next packet of a send is: the next opening, or granted bytes after all openings
 abbrev pub NextOf : Own → List Grant → Sent → List Packet → Packet → Type 0
 NextOf own gs s pushed p =
     ((later : List Packet) × (openings own.limits s.message s.kind ≡ pushed ++ p ∷ later))
-    ⊎ ((datas : List Packet) × (pushed ≡ openings own.limits s.message s.kind ++ datas) × GrantedNext own gs s pushed p)
+    ⊎ ((datas : List Packet) × (pushed ≡ openings own.limits s.message s.kind ++ datas) × AllData datas × GrantedNext own gs s pushed p)
 
 slice_get_after : {A : Type 0} (xs ys : List A) → slice_get (xs ++ ys) (length xs) ≡ slice_get ys 0
 slice_get_after [] ys = refl
@@ -140,7 +156,7 @@ next_by_openings own gs s pushed [] p e h =
     let at : slice_get (openings own.limits s.message s.kind) (length pushed) ≡ None = ap (λ (xs : List Packet). slice_get xs (length pushed)) e ∙ slice_get_after pushed [] in
     elim (or_else_at (slice_get (openings own.limits s.message s.kind) (length pushed)) (granted_packet own gs s pushed s.kind) p h None at) [
       | inl a ↦ (let x = a.1 in cc)
-      | inr a ↦ inr ([], sym (append-nil pushed) ∙ sym e ∙ sym (append-nil (openings own.limits s.message s.kind)), granted_is own gs s pushed s.kind p refl a.1)
+      | inr a ↦ inr ([], sym (append-nil pushed) ∙ sym e ∙ sym (append-nil (openings own.limits s.message s.kind)), tt, granted_is own gs s pushed s.kind p refl a.1)
     ]
 next_by_openings own gs s pushed (q ∷ later) p e h =
     let at : slice_get (openings own.limits s.message s.kind) (length pushed) ≡ Some q = ap (λ (xs : List Packet). slice_get xs (length pushed)) e ∙ slice_get_after pushed (q ∷ later) in
@@ -160,7 +176,7 @@ next_is own log s pushed p u h =
           let at : slice_get (openings own.limits s.message s.kind) (length pushed) ≡ None = ap (λ (xs : List Packet). slice_get (openings own.limits s.message s.kind) (length xs)) a.1 ∙ slice_get_longer (openings own.limits s.message s.kind) a.0 in
           elim (or_else_at (slice_get (openings own.limits s.message s.kind) (length pushed)) (granted_packet own (grants log s.to s.number) s pushed s.kind) p h None at) [
             | inl b ↦ (let x = b.1 in cc)
-            | inr b ↦ inr (a.0, a.1, granted_is own (grants log s.to s.number) s pushed s.kind p refl b.1)
+            | inr b ↦ inr (a.0, a.1, a.3, granted_is own (grants log s.to s.number) s pushed s.kind p refl b.1)
           ]
     ]
 
@@ -179,13 +195,13 @@ next_underway own gs s pushed p u (inl a) =
     subst (λ (xs : List Piece). InRow s.message.bytes 0 xs) (ap pieces_in split ∙ pieces_in-append (pushed ++ p ∷ []) a.0) (openings_in_row own.limits s.message s.kind) in
     record { how = inl (a.0, split); row = (row_parts s.message.bytes 0 (pieces_in (pushed ++ p ∷ [])) (pieces_in a.0) all).0 }
 next_underway own gs s pushed p u (inr a) =
-    let g = granted_piece own gs s pushed p a.2 in
-    let more : pieces_in (pushed ++ p ∷ []) ≡ pieces_in pushed ++ record { offset = piece_bytes (pieces_in pushed); bytes = a.2.bytes } ∷ [] =
+    let g = granted_piece own gs s pushed p a.3 in
+    let more : pieces_in (pushed ++ p ∷ []) ≡ pieces_in pushed ++ record { offset = piece_bytes (pieces_in pushed); bytes = a.3.bytes } ∷ [] =
     pieces_in-append pushed (p ∷ []) ∙ ap (λ (xs : List Piece). pieces_in pushed ++ xs) (pieces_in_one p _ g.0) in
     record {
-      how = inr (a.0 ++ p ∷ [], ap (λ (xs : List Packet). xs ++ p ∷ []) a.1 ∙ append_assoc (openings own.limits s.message s.kind) a.0 (p ∷ []), a.2.long);
+      how = inr (a.0 ++ p ∷ [], ap (λ (xs : List Packet). xs ++ p ∷ []) a.1 ∙ append_assoc (openings own.limits s.message s.kind) a.0 (p ∷ []), a.3.long, data_more a.0 p a.2 (subst IsData (sym a.3.is) tt));
       row = subst (λ (xs : List Piece). InRow s.message.bytes 0 xs) (sym more)
-          (row_append s.message.bytes 0 (pieces_in pushed) (record { offset = piece_bytes (pieces_in pushed); bytes = a.2.bytes } ∷ []) u.row (omega arith, g.1, tt));
+          (row_append s.message.bytes 0 (pieces_in pushed) (record { offset = piece_bytes (pieces_in pushed); bytes = a.3.bytes } ∷ []) u.row (omega arith, g.1, tt));
     }
 
 -- the piece of the next packet begins where those before it end
