@@ -111,7 +111,7 @@ unfolding turn_going
 turn_goes None to item h = cc
 turn_goes (Some t) to item h = (t, refl, h)
 
-note_goes : (o : Option OwedNote) (others : Option Going) (to : Life) (item : Item) → note_going o others ≡ Some (Goes to item) → others ≡ Some (Goes to item)
+pub note_goes : (o : Option OwedNote) (others : Option Going) (to : Life) (item : Item) → note_going o others ≡ Some (Goes to item) → others ≡ Some (Goes to item)
 unfolding note_going
 note_goes None others to item h = h
 note_goes (Some note) others to item h = cc
