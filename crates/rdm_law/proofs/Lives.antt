@@ -1,8 +1,8 @@
 -- The deeds of a life, by themselves.
-use Rattle.std.proofs.Common.{◌≡◌, ℕ, ◌+◌, ◌<◌, ◌≤◌, Bool, true, false, cond, List, [], ◌∷◌, length, Option, Some, None, refl, arith, ◌⊎◌, inl, inr, sym, ◌∙◌, ap, subst}
-use Rattle.std.specs.Prelude.{not, nat_eq, slice_get}
-use Rattle.std.proofs.lemmas.Bool.{eq-eqb, eqb-true, cases_Bool, not-true}
-use Rattle.rdm_num.specs.Lists.{Member, first_case}
+use Rattle.std.proofs.Common.{◌≡◌, ℕ, Bool, true, false, cond, List, [], ◌∷◌, length, Option, Some, None, refl, ◌⊎◌, sym, ◌∙◌, ap, subst}
+use Rattle.std.specs.Prelude.{not, slice_get}
+use Rattle.std.proofs.lemmas.Bool.{eq-eqb, eqb-true}
+use Rattle.rdm_num.specs.Lists.{first_case}
 use Rattle.rdm_num.specs.Lives.{life}
 use Rattle.rdm_num.specs.declared.numbers.PortNo.{PortNo}
 use Rattle.rdm_num.specs.declared.numbers.Connid.{Connid}
@@ -17,7 +17,7 @@ use Rattle.rdm_model.specs.declared.answer.DidWhat.{DidWhat}
 use Rattle.rdm_model.specs.declared.answer.Next.{Next as Answer}
 use Rattle.rdm_model.specs.declared.answer.Next.TheVariants.{Did as DidAnswer}
 use Rattle.rdm_model.specs.declared.answer.Handled.{Handled}
-use Rattle.rdm_model.specs.declared.answer.Handled.TheVariants.{Took as TookAnswer, Dropped}
+use Rattle.rdm_model.specs.declared.answer.Handled.TheVariants.{Took as TookAnswer}
 use Rattle.rdm_model.specs.declared.answer.Class.{Class}
 use Rattle.rdm_model.specs.declared.answer.Class.TheVariants.{ToOther}
 use Rattle.rdm_model.specs.declared.answer.Entered.{Entered}
@@ -25,15 +25,15 @@ use Rattle.rdm_model.specs.declared.entry.Entry.{Entry}
 use Rattle.rdm_model.specs.declared.entry.Act.{Act}
 use Rattle.rdm_model.specs.declared.entry.Act.TheVariants.{Next, Push, Handle, Poll}
 use Rattle.rdm_model.specs.Deeds.{Deed, Did, PushedNote, Pushed, TookNote, Took, Polled, Nothing, Item, item_of, deed_by_next, deed_by_push, deed_by_handle, deed_of, deeds, open_life, is_connid, of_life, of_open_life}
-use Rattle.rdm_model.specs.Owns.{Own, Messages, rank_of, port_count, life_at, own_of}
+use Rattle.rdm_model.specs.Owns.{Own, rank_of, port_count, life_at, own_of}
 use Rattle.rdm_model.specs.Notes.{OwedNote, next_note}
 use Rattle.rdm_model.specs.Turns.{Turn, turn}
 use Rattle.rdm_model.specs.Scenes.{Scene, scene, deeds_at}
 use Rattle.rdm_model.specs.Answers.{answer_of}
 use Rattle.rdm_model.specs.Going.{Going, GoesNote, Goes, turn_going, life_going, note_going, going, Bears, IsGoing, IsNext}
 use Rattle.rdm_model.specs.Classes.{item_class, body_class, class_of}
-use Rattle.rdm_model.specs.Takes.{taken_answer, class_answer, handled_answer}
-use Rattle.rdm_model.specs.Steps.{Does, Fits}
+use Rattle.rdm_model.specs.Takes.{class_answer, handled_answer}
+use Rattle.rdm_model.specs.Steps.{Does}
 use Rattle.rdm_model.specs.Local.{heard_by, own_scene, Local}
 
 -- the scene of a life that is open, by what it took itself
@@ -189,7 +189,7 @@ taken_class s d None entered h = refl
 taken_class s d (Some class') entered h = cc
 
 -- what a life takes is for it
-item_to : (s : Scene) (from : Life) (to : Connid) (item : Item) → item_class s from to item ≡ None → is_connid s.now to ≡ true
+pub item_to : (s : Scene) (from : Life) (to : Connid) (item : Item) → item_class s from to item ≡ None → is_connid s.now to ≡ true
 unfolding item_class
 item_to s from to item h = not-false (is_connid s.now to) (first_none (not (is_connid s.now to)) ToOther _ h).0
 

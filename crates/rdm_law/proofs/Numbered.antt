@@ -1,21 +1,18 @@
 -- Receives and pairs have numbers of their own.
-use Rattle.std.proofs.Common.{◌≡◌, ℕ, zero, suc, ◌+◌, ◌-◌, ◌<◌, ◌≤◌, Bool, true, false, cond, ◌&&◌, not, List, [], ◌∷◌, ◌++◌, map, length, Option, Some, None, refl, arith, ◌⊎◌, inl, inr, sym, ◌∙◌, ap, subst}
-use Rattle.std.specs.Prelude.{◌==◌, find, filter, is_some, slice_get}
-use Rattle.std.proofs.lemmas.List.{append-nil, append_assoc, length-append}
+use Rattle.std.proofs.Common.{◌≡◌, ℕ, ◌<◌, ◌≤◌, Bool, true, false, cond, List, [], ◌∷◌, ◌++◌, map, length, Option, Some, None, refl, arith, inl, inr, sym, ◌∙◌, ap, subst}
+use Rattle.std.specs.Prelude.{find, filter}
+use Rattle.std.proofs.lemmas.List.{append-nil, length-append}
 use Rattle.rdm_num.specs.Lists.{Member, without_first}
-use Rattle.rdm_num.specs.declared.numbers.Life.{Life}
 use Rattle.rdm_match.specs.declared.PostedRecv.{PostedRecv}
 use Rattle.rdm_match.specs.declared.Arrived.{Arrived}
-use Rattle.rdm_match.specs.Matcher.{Event, Post, Arrive, Cancel, Forget, Pair, Matching, accepts, after_post, after_arrive, after, run, nothing_yet, is_recv, is_pair}
-use Rattle.rdm_model.specs.declared.job.Instr.{Instr}
-use Rattle.rdm_model.specs.declared.job.Instr.TheVariants.{OpenLife, Insert, Reg, Send, Recv, Cancel as CancelOp, Note, Await, Wait, CloseLife}
-use Rattle.rdm_model.specs.Deeds.{Deed, Did, PushedNote, Pushed, TookNote, Took, Polled, Nothing, Item}
+use Rattle.rdm_match.specs.Matcher.{Event, Post, Arrive, Cancel, Forget, Pair, Matching, accepts, after_post, after_arrive, after, run}
+use Rattle.rdm_model.specs.declared.job.Instr.TheVariants.{Insert, Recv, Cancel as CancelOp}
+use Rattle.rdm_model.specs.Deeds.{Deed, Did, Took}
 use Rattle.rdm_model.specs.Owns.{Heads}
 use Rattle.rdm_model.specs.Currents.{forgotten_by}
 use Rattle.rdm_model.specs.Heard.{entering}
-use Rattle.rdm_model.specs.Matches.{Receive, receive, receives, received_by, with_received, arrival, events_by, matching, pairs}
-use Rattle.rdm_model.proofs.Members.{member-append_left, member-append_cases, member-append_right, member-filter, member-map, find_member, without_member, slice_get-append, slice_get-member}
-use Rattle.rdm_model.proofs.Matches.{run_member}
+use Rattle.rdm_model.specs.Matches.{Receive, receive, receives, received_by, with_received, arrival, events_by, matching}
+use Rattle.rdm_model.proofs.Members.{member-append_cases, member-filter, member-map, find_member, without_member}
 
 -- the receives have numbers of their own, below a bound
 abbrev pub Lacks : ℕ → List PostedRecv → Type 0

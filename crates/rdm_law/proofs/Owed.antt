@@ -1,6 +1,6 @@
 -- What each reply is owed for.
-use Rattle.std.proofs.Common.{◌≡◌, ℕ, zero, suc, ◌+◌, ◌-◌, ◌<◌, ◌≤◌, Bool, true, false, cond, ◌&&◌, not, List, [], ◌∷◌, ◌++◌, map, length, take, drop, Option, Some, None, refl, arith, ◌⊎◌, inl, inr, sym, ◌∙◌, ap, subst}
-use Rattle.std.specs.Prelude.{◌==◌, filter, slice_get, flat_map, find, nat_lt}
+use Rattle.std.proofs.Common.{◌≡◌, ℕ, ◌<◌, Bool, true, false, cond, ◌&&◌, not, List, [], ◌∷◌, ◌++◌, map, take, drop, Option, Some, None, refl, ◌⊎◌, inl, inr, sym, ◌∙◌, ap, subst}
+use Rattle.std.specs.Prelude.{◌==◌, flat_map, find, nat_lt}
 use Rattle.std.specs.List.{list_any}
 use Rattle.std.proofs.lemmas.Bool.{and_parts, eqb-true, not-true, ltb-true}
 use Rattle.rdm_num.specs.Lists.{Member}
@@ -9,21 +9,17 @@ use Rattle.rdm_num.specs.declared.numbers.Life.{Life}
 use Rattle.rdm_num.specs.declared.numbers.OpId.{OpId}
 use Rattle.rdm_num.specs.declared.head.Shape.{Shape}
 use Rattle.rdm_num.specs.declared.head.Shape.TheVariants.{Eager, Medium, LongCts, LongRead, Runt}
-use Rattle.rdm_pkt.specs.declared.Packet.{Packet}
-use Rattle.rdm_pkt.specs.declared.Packet.TheVariants.{Rtm, Cts, CtsData, Eor, Handshake}
+use Rattle.rdm_pkt.specs.declared.Packet.TheVariants.{Cts, Eor, Handshake}
 use Rattle.rdm_wire.specs.declared.ReadAsk.{ReadAsk}
-use Rattle.rdm_wire.specs.declared.ReadData.{ReadData}
 use Rattle.rdm_match.specs.Matcher.{Pair, is_pair}
-use Rattle.rdm_model.specs.declared.job.Instr.{Instr}
-use Rattle.rdm_model.specs.Deeds.{Deed, Did, PushedNote, Pushed, TookNote, Took, Polled, Nothing, Item, Spelled, Asks, Gives, Garbled}
+use Rattle.rdm_model.specs.Deeds.{Deed, Took, Item, Spelled, Asks, Gives}
 use Rattle.rdm_model.specs.Owns.{Own, Messages, Heads}
 use Rattle.rdm_model.specs.Matches.{pairs}
 use Rattle.rdm_model.specs.Receives.{is_filled}
-use Rattle.rdm_model.specs.Sends.{Sent, sends, with_sent}
+use Rattle.rdm_model.specs.Sends.{Sent, sends}
 use Rattle.rdm_model.specs.Grants.{window, granted_bytes}
 use Rattle.rdm_model.specs.Replies.{Reply, reply, is_from, handshake_by, asks_for, grant_for, end_for, pair_items, pair_replies, given_of, given_by, replies_by}
-use Rattle.rdm_model.proofs.Members.{member-append_cases, member-append_left, member-append_right, member-filter, member-map, find_member, same_life-true}
-use Rattle.rdm_model.proofs.Matches.{pair_still}
+use Rattle.rdm_model.proofs.Members.{member-append_cases, member-map, find_member, same_life-true}
 use Rattle.rdm_law.proofs.Unique.{member-flat_map}
 use Rattle.rdm_law.proofs.Queue.{owed}
 

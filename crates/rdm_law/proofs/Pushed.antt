@@ -1,28 +1,25 @@
 -- The datagrams that a port pushed, and the turns of its lives.
-use Rattle.std.proofs.Common.{◌≡◌, ℕ, zero, suc, ◌+◌, ◌<◌, ◌≤◌, Bool, true, false, List, [], ◌∷◌, length, Option, Some, None, refl, arith, ◌⊎◌, inl, inr, sym, ◌∙◌, ap, subst}
-use Rattle.rdm_num.specs.Lists.{Member}
+use Rattle.std.proofs.Common.{◌≡◌, ℕ, ◌<◌, ◌≤◌, List, [], ◌∷◌, length, Option, Some, None, refl, arith, ◌⊎◌, inl, inr, sym, ◌∙◌, ap, subst}
 use Rattle.rdm_num.specs.declared.numbers.PortNo.{PortNo}
 use Rattle.rdm_num.specs.declared.numbers.Connid.{Connid}
 use Rattle.rdm_num.specs.declared.numbers.Life.{Life}
 use Rattle.rdm_wire.specs.declared.Datagram.{Datagram}
-use Rattle.rdm_wire.specs.declared.Body.{Body}
-use Rattle.rdm_wire.specs.declared.Body.TheVariants.{Note, Between}
+use Rattle.rdm_wire.specs.declared.Body.TheVariants.{Between}
 use Rattle.rdm_wire.specs.declared.Load.{Load}
 use Rattle.rdm_model.specs.declared.job.Job.{Job}
 use Rattle.rdm_model.specs.declared.entry.Entry.{Entry}
-use Rattle.rdm_model.specs.declared.entry.Act.{Act}
-use Rattle.rdm_model.specs.declared.entry.Act.TheVariants.{Next, Push, Handle, Poll}
-use Rattle.rdm_model.specs.Deeds.{Deed, Pushed, Item, deed_by_push, deed_of, deeds, open_life, is_connid, of_life}
+use Rattle.rdm_model.specs.declared.entry.Act.TheVariants.{Push}
+use Rattle.rdm_model.specs.Deeds.{Deed, Pushed, Item, deed_by_push, deed_of, deeds, open_life, of_life}
 use Rattle.rdm_model.specs.Owns.{Own, rank_of, port_count, own_of}
-use Rattle.rdm_model.specs.Notes.{OwedNote, next_note}
+use Rattle.rdm_model.specs.Notes.{next_note}
 use Rattle.rdm_model.specs.Turns.{Turn, turn}
 use Rattle.rdm_model.specs.Scenes.{Scene, scene, deeds_at}
 use Rattle.rdm_model.specs.Going.{Goes, turn_going, Bears, IsNext, going, GoesNote, Going, life_going, IsGoing}
 use Rattle.rdm_model.specs.Classes.{class_of}
-use Rattle.rdm_model.specs.Steps.{Does, Fits, count, is_push}
+use Rattle.rdm_model.specs.Steps.{Does}
 use Rattle.rdm_model.specs.Local.{heard_by, own_scene, Local}
 use Rattle.rdm_model.specs.Wire.{PushedIn}
-use Rattle.rdm_law.proofs.Lives.{life_of, note_goes, life_scene, LifeLocal, TurnedAt, at_of_life, is_connid-from, opened_scene, IsPush, push_is}
+use Rattle.rdm_law.proofs.Lives.{life_of, note_goes, life_scene, TurnedAt, at_of_life, is_connid-from, opened_scene, push_is}
 
 -- the datagram was pushed after so many deeds of the life that it names
 abbrev pub PlacedAt : Job → ℕ → Connid → Datagram → ℕ → List Entry → Type 0

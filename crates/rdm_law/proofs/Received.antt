@@ -1,24 +1,16 @@
 -- What is posted or was paired is an accepted receive, under its own number.
-use Rattle.std.proofs.Common.{◌≡◌, ℕ, zero, suc, ◌+◌, ◌-◌, ◌<◌, ◌≤◌, Bool, true, false, cond, ◌&&◌, not, List, [], ◌∷◌, ◌++◌, map, length, Option, Some, None, refl, arith, ◌⊎◌, inl, inr, sym, ◌∙◌, ap, subst}
-use Rattle.std.specs.Prelude.{◌==◌, find, filter, is_some, slice_get}
-use Rattle.std.proofs.lemmas.Bool.{eqb-true, eq-eqb, ne_eqb}
-use Rattle.std.proofs.lemmas.List.{append-nil}
-use Rattle.rdm_num.specs.Lists.{Member, without_first}
-use Rattle.rdm_num.specs.Lives.{is_life}
-use Rattle.rdm_num.specs.declared.numbers.Life.{Life}
+use Rattle.std.proofs.Common.{◌≡◌, ℕ, zero, suc, ◌+◌, List, [], ◌∷◌, ◌++◌, length, Option, Some, None, refl, arith, ◌⊎◌, inl, inr, sym, ◌∙◌, ap, subst}
+use Rattle.std.specs.Prelude.{find, slice_get}
+use Rattle.rdm_num.specs.Lists.{Member}
 use Rattle.rdm_num.specs.declared.request.RecvReq.{RecvReq}
 use Rattle.rdm_match.specs.declared.PostedRecv.{PostedRecv}
 use Rattle.rdm_match.specs.declared.Arrived.{Arrived}
-use Rattle.rdm_match.specs.Matcher.{Event, Post, Arrive, Cancel, Forget, Pair, Matching, accepts, after_post, after_arrive, after, run, nothing_yet, is_recv, is_pair}
-use Rattle.rdm_model.specs.declared.job.Instr.{Instr}
-use Rattle.rdm_model.specs.declared.job.Instr.TheVariants.{OpenLife, Insert, Reg, Send, Recv, Cancel as CancelOp, Note, Await, Wait, CloseLife}
-use Rattle.rdm_model.specs.Deeds.{Deed, Did, PushedNote, Pushed, TookNote, Took, Polled, Nothing, Item}
+use Rattle.rdm_match.specs.Matcher.{Event, Post, Arrive, Cancel, Forget, Pair, Matching, accepts, after_post, after_arrive, after, run, is_recv}
+use Rattle.rdm_model.specs.declared.job.Instr.TheVariants.{Insert, Recv, Cancel as CancelOp}
+use Rattle.rdm_model.specs.Deeds.{Deed, Did, Took}
 use Rattle.rdm_model.specs.Owns.{Heads}
-use Rattle.rdm_model.specs.Currents.{forgotten_by}
-use Rattle.rdm_model.specs.Heard.{entering}
-use Rattle.rdm_model.specs.Matches.{Receive, receive, receives, received_by, with_received, arrival, events_by, matching, pairs}
-use Rattle.rdm_model.specs.Receives.{receive_numbered}
-use Rattle.rdm_model.proofs.Members.{member-append_left, member-append_cases, member-append_right, member-filter, member-map, find_member, without_member, slice_get-append, slice_get-member}
+use Rattle.rdm_model.specs.Matches.{Receive, receive, receives, received_by, with_received, arrival, events_by, matching}
+use Rattle.rdm_model.proofs.Members.{member-append_left, member-append_cases, member-append_right, member-filter, member-map, find_member, without_member}
 
 -- each receive that is posted or was paired is of a kind
 pub record AllPosted (Q : PostedRecv → Type 0) (m : Matching) : Type 0 where

@@ -1,6 +1,6 @@
 -- Lists of which elements that clash stand at one place.
-use Rattle.std.proofs.Common.{◌≡◌, ℕ, zero, suc, ◌+◌, ◌-◌, ◌<◌, ◌≤◌, Bool, true, false, cond, List, [], ◌∷◌, ◌++◌, map, length, Option, Some, None, refl, arith, ◌⊎◌, inl, inr, sym, ◌∙◌, ap, subst}
-use Rattle.std.specs.Prelude.{slice_get, flat_map, filter}
+use Rattle.std.proofs.Common.{◌≡◌, ℕ, zero, suc, List, [], ◌∷◌, ◌++◌, map, Some, refl, arith, inl, inr, sym, ◌∙◌, ap, subst}
+use Rattle.std.specs.Prelude.{slice_get, flat_map}
 use Rattle.rdm_num.specs.Lists.{Member}
 use Rattle.rdm_match.specs.Matcher.{Pair}
 use Rattle.rdm_model.proofs.Members.{member-append_cases, slice_get-member}
