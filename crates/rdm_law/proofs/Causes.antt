@@ -1,14 +1,9 @@
 -- What a reply of each kind says of the life that owes it.
-use Rattle.std.proofs.Common.{◌≡◌, ℕ, zero, suc, ◌+◌, ◌<◌, Bool, true, false, cond, List, [], ◌∷◌, ◌++◌, length, take, drop, Option, Some, None, refl, arith, ◌⊎◌, inl, inr, sym, ◌∙◌, ap, subst}
-use Rattle.std.specs.Prelude.{◌==◌}
-use Rattle.std.specs.List.{list_any}
-use Rattle.std.proofs.lemmas.Bool.{or_left, or_right, eq-eqb, and_from}
+use Rattle.std.proofs.Common.{◌≡◌, ℕ, ◌<◌, true, List, [], ◌∷◌, take, drop, Some, inl, inr, ◌∙◌, ap, subst}
 use Rattle.rdm_num.specs.Lists.{Member}
-use Rattle.rdm_num.specs.Lives.{same_life}
 use Rattle.rdm_num.specs.declared.numbers.Life.{Life}
 use Rattle.rdm_num.specs.declared.numbers.Connid.{Connid}
 use Rattle.rdm_num.specs.declared.numbers.OpId.{OpId}
-use Rattle.rdm_num.specs.declared.head.Shape.{Shape}
 use Rattle.rdm_num.specs.declared.head.Shape.TheVariants.{LongCts}
 use Rattle.rdm_pkt.specs.declared.Packet.TheVariants.{Cts, Eor, Handshake}
 use Rattle.rdm_wire.specs.declared.ReadAsk.{ReadAsk}
@@ -18,13 +13,12 @@ use Rattle.rdm_model.specs.Deeds.{Deed, Took, Item, Spelled, Asks, Gives}
 use Rattle.rdm_model.specs.Owns.{Own, Messages, Heads}
 use Rattle.rdm_model.specs.Matches.{pairs}
 use Rattle.rdm_model.specs.Receives.{is_filled}
-use Rattle.rdm_model.specs.Reads.{asked_by, asks_of}
 use Rattle.rdm_model.specs.Sends.{Sent, sends, with_sent}
-use Rattle.rdm_model.specs.Replies.{Reply, is_from, asks_for, end_for}
-use Rattle.rdm_model.proofs.Members.{member-append_left, member-append_right, same_life-refl}
+use Rattle.rdm_model.specs.Replies.{Reply, asks_for, end_for}
+use Rattle.rdm_model.proofs.Members.{member-append_left}
 use Rattle.rdm_model.proofs.Matches.{pair_still}
 use Rattle.rdm_model.proofs.SameReceives.{filled_still}
-use Rattle.rdm_law.proofs.Owed.{shape_in, recv_in, NewShake, NewAsk, NewCts, NewEnd, NewGiven, NewReply, OwedIn}
+use Rattle.rdm_law.proofs.Owed.{shape_in, recv_in, OwedIn}
 
 -- an ask is of a pair
 pub record OfAsk (first : ℕ) (heads : Heads) (log : List Deed) (to : Life) (ask : ReadAsk) : Type 0 where
