@@ -24,3 +24,4 @@ pub mod Opens
 pub mod Turns
 pub mod Pushes
 pub mod Served
+pub mod Sending
