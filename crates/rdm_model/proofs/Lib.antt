@@ -25,3 +25,4 @@ pub mod Turns
 pub mod Pushes
 pub mod Served
 pub mod Sending
+pub mod SentTo
