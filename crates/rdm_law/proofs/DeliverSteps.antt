@@ -100,7 +100,7 @@ abbrev pub one_more : (ℕ → List Datagram) → Datagram → ℕ → List Data
 one_more waiting d = put_at d.dst.0 (waiting d.dst.0 ++ d ∷ []) waiting
 
 -- what waits with one more is that one, or waited before
-one_more_cases : (waiting : ℕ → List Datagram) (d q : Datagram) (p : ℕ) → Member q (one_more waiting d p) → ((p ≡ d.dst.0) × (d ≡ q)) ⊎ Member q (waiting p)
+pub one_more_cases : (waiting : ℕ → List Datagram) (d q : Datagram) (p : ℕ) → Member q (one_more waiting d p) → ((p ≡ d.dst.0) × (d ≡ q)) ⊎ Member q (waiting p)
 one_more_cases waiting d q p =
     put_at_case (λ (ds : List Datagram). Member q ds → ((p ≡ d.dst.0) × (d ≡ q)) ⊎ Member q (waiting p)) d.dst.0 (waiting d.dst.0 ++ d ∷ []) waiting p
     (λ is m. elim (member-append_cases q (waiting d.dst.0) (d ∷ []) m) [
@@ -163,7 +163,7 @@ push_delivers logs waiting port e d is src number i =
 abbrev pub one_less : (ℕ → List Datagram) → ℕ → List Datagram → List Datagram → ℕ → List Datagram
 one_less waiting port front back = put_at port (front ++ back) waiting
 
-one_less_was : (waiting : ℕ → List Datagram) (port : ℕ) (front : List Datagram) (d : Datagram) (back : List Datagram) (q : Datagram) (p : ℕ)
+pub one_less_was : (waiting : ℕ → List Datagram) (port : ℕ) (front : List Datagram) (d : Datagram) (back : List Datagram) (q : Datagram) (p : ℕ)
     → waiting port ≡ front ++ d ∷ back → Member q (one_less waiting port front back p) → Member q (waiting p) × (p ≡ port → Member q (front ++ back))
 one_less_was waiting port front d back q p was =
     put_at_case (λ (ds : List Datagram). Member q ds → Member q (waiting p) × (p ≡ port → Member q (front ++ back))) port (front ++ back) waiting p
