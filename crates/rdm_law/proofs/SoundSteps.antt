@@ -71,7 +71,7 @@ quiet_sound job w port act q worn does s =
       delivers = quiet_delivers w.logs (waiting_in w) port (entry_of job port (w.logs port) act) q s.delivers;
     }
 
-next_sound : (job : Job) (w : World) (port : ℕ) (o : Option Instr) → instruction_left job port (w.logs port) ≡ o → Sound job w → Sound job (step_next job w port o)
+pub next_sound : (job : Job) (w : World) (port : ℕ) (o : Option Instr) → instruction_left job port (w.logs port) ≡ o → Sound job w → Sound job (step_next job w port o)
 unfolding step_next next_act scene_in instruction_left
 next_sound job w port None is s = s
 next_sound job w port (Some instr) is s =
@@ -82,7 +82,7 @@ next_sound job w port (Some instr) is s =
       quiet_sound job w port (Next (count is_next (w.logs port)) (op_of instr) answer) tt (not-true _ both.1) (refl, (instr, is, refl, refl), both.0) s)
     (λ no. s)
 
-poll_sound : (job : Job) (w : World) (port : ℕ) (o : Option Completion) → next_completion (own_scene job port (deeds_at job port (w.logs port))) ≡ o → Sound job w
+pub poll_sound : (job : Job) (w : World) (port : ℕ) (o : Option Completion) → next_completion (own_scene job port (deeds_at job port (w.logs port))) ≡ o → Sound job w
     → Sound job (with_poll job w port o)
 unfolding with_poll next_completion
 poll_sound job w port None is s = s
@@ -129,7 +129,7 @@ push_sound job w port d fit does s =
           (push_delivers w.logs (waiting_in w) port (entry_of job port (w.logs port) (Push d)) d refl (ap (λ x. x.0) push.0) push.1 s.delivers);
       })
 
-goes_sound : (job : Job) (w : World) (port : ℕ) (o : Option Going) → GoesWell job → going (own_scene job port (deeds_at job port (w.logs port))) ≡ o → Sound job w
+pub goes_sound : (job : Job) (w : World) (port : ℕ) (o : Option Going) → GoesWell job → going (own_scene job port (deeds_at job port (w.logs port))) ≡ o → Sound job w
     → Sound job (step_push job w port o)
 unfolding step_push datagram_of scene_in
 goes_sound job w port None well is s = s
