@@ -1,5 +1,5 @@
 -- Lists of datagrams of which no two have the same source and number.
-use Rattle.std.proofs.Common.{◌≡◌, ℕ, zero, suc, ◌<◌, Bool, true, false, cond, eqb-true, eq-eqb, List, [], ◌∷◌, ◌++◌, length, take, drop, remove, slice_get, Some, refl, arith, ◌⊎◌, inl, inr, sym, ◌∙◌, ap, subst, append_assoc}
+use Rattle.std.proofs.Common.{◌≡◌, ℕ, zero, suc, true, false, cond, eqb-true, List, [], ◌∷◌, ◌++◌, remove, slice_get, Some, refl, ◌⊎◌, inl, inr, sym, ap, subst}
 use Rattle.std.proofs.lemmas.Bool.{eqb-false}
 use Rattle.std.specs.Prelude.{◌==◌}
 use Rattle.rdm_num.specs.Lists.{Member}
@@ -43,13 +43,13 @@ apart_push [] d a o = ((λ q m. elim m [ ]), tt)
 apart_push (x ∷ ds) d a o =
     let before : AreApart (ds ++ d ∷ []) = apart_push ds d a.1 (λ q m. o q (inr m)) in
     let first : DiffersFrom x (ds ++ d ∷ []) =
-        λ q m s n. elim (member-append_cases q ds (d ∷ []) m) [
-          | inl k ↦ a.0 q k s n
-          | inr k ↦ elim k [
-            | inl is ↦ o x (inl refl) (subst (λ (y : Datagram). x.src ≡ y.src) (sym is) (sym s)) (subst (λ (y : Datagram). x.number ≡ y.number) (sym is) (sym n))
-            | inr never ↦ elim never [ ]
-          ]
-        ] in
+    λ q m s n. elim (member-append_cases q ds (d ∷ []) m) [
+      | inl k ↦ a.0 q k s n
+      | inr k ↦ elim k [
+        | inl is ↦ o x (inl refl) (subst (λ (y : Datagram). x.src ≡ y.src) (sym is) (sym s)) (subst (λ (y : Datagram). x.number ≡ y.number) (sym is) (sym n))
+        | inr never ↦ elim never [ ]
+      ]
+    ] in
     (first, before)
 
 -- an element between two parts of a list is in it
@@ -79,10 +79,10 @@ apart_without (x ∷ front) d back a =
     let r = apart_without front d back a.1 in
     let first : DiffersFrom x (front ++ back) = λ q m. a.0 q (member_around q d front back m) in
     let others : DiffersFrom d (x ∷ front ++ back) =
-        λ q m s n. elim m [
-          | inl is ↦ a.0 d (member_seam d front back) (subst (λ (y : Datagram). d.src ≡ y.src) (sym is) (sym s)) (subst (λ (y : Datagram). d.number ≡ y.number) (sym is) (sym n))
-          | inr k ↦ r.1 q k s n
-        ] in
+    λ q m s n. elim m [
+      | inl is ↦ a.0 d (member_seam d front back) (subst (λ (y : Datagram). d.src ≡ y.src) (sym is) (sym s)) (subst (λ (y : Datagram). d.number ≡ y.number) (sym is) (sym n))
+      | inr k ↦ r.1 q k s n
+    ] in
     ((first, r.0), others)
 
 -- an element of a list stands between two parts, and they are the list without it

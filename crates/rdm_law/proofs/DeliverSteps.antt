@@ -1,5 +1,5 @@
 -- Each step keeps what inboxes keep.
-use Rattle.std.proofs.Common.{◌≡◌, ℕ, ◌+◌, ◌<◌, List, [], ◌∷◌, ◌++◌, refl, arith, ◌⊎◌, inl, inr, sym, ◌∙◌, ap, subst}
+use Rattle.std.proofs.Common.{◌≡◌, ℕ, ◌<◌, List, [], ◌∷◌, ◌++◌, refl, arith, ◌⊎◌, inl, inr, sym, ◌∙◌, ap, subst}
 use Rattle.rdm_num.specs.Lists.{Member}
 use Rattle.rdm_wire.specs.declared.Datagram.{Datagram}
 use Rattle.rdm_model.specs.declared.answer.Handled.{Handled}
@@ -10,8 +10,8 @@ use Rattle.rdm_model.specs.Steps.{count, is_push}
 use Rattle.rdm_model.specs.Wire.{PushedIn, IsOther, IsUnhandled}
 use Rattle.rdm_model.specs.Worlds.{put_at}
 use Rattle.rdm_model.proofs.Members.{member-append_left, member-append_right, member-append_cases}
-use Rattle.rdm_law.proofs.Apart.{put_at_case, put_at_here, put_at_there, Differ, DiffersFrom, AreApart, apart_push, apart_without, member_around, member_without, member_seam}
-use Rattle.rdm_law.proofs.Delivers.{IsNumbered, AreNumbered, HadWaited, AllHadWaited, Waits, Delivers, pushed_below, pushed_once, more_logs, pushed_still, pushed_before, more_numbered, more_handled, unhandled_still, unhandled_before}
+use Rattle.rdm_law.proofs.Apart.{put_at_case, put_at_here, Differ, AreApart, apart_push, apart_without, member_around, member_without, member_seam}
+use Rattle.rdm_law.proofs.Delivers.{IsNumbered, AreNumbered, HadWaited, AllHadWaited, Waits, Delivers, pushed_below, more_logs, pushed_still, pushed_before, more_numbered, more_handled, unhandled_still, unhandled_before}
 
 -- the act neither pushes nor handles
 abbrev pub IsQuiet : Act → Type 0
@@ -45,31 +45,31 @@ quiet_no_push act d q is = elim (subst IsQuiet is q) [ ]
 pub quiet_delivers : (logs : ℕ → List Entry) (waiting : ℕ → List Datagram) (port : ℕ) (e : Entry) → IsQuiet e.act
     → Delivers logs waiting → Delivers (more_logs logs port e) waiting
 quiet_delivers logs waiting port e q i = record {
-    numbered = more_numbered logs port e i.numbered (quiet_numbered port (logs port) e.act q);
-    handled = more_handled logs port e i.handled (quiet_waited logs port (logs port) e.act q);
-    waits = λ p d m.
+  numbered = more_numbered logs port e i.numbered (quiet_numbered port (logs port) e.act q);
+  handled = more_handled logs port e i.handled (quiet_waited logs port (logs port) e.act q);
+  waits = λ p d m.
       let w = i.waits p d m in
       record {
         for_it = w.for_it;
         pushed = pushed_still logs port e d d.src.0 w.pushed;
         fresh = unhandled_still logs port e d p (λ here. quiet_other e.act d q) w.fresh;
       };
-    apart = i.apart;
-    arrives = λ d h k. elim (pushed_before logs port e d d.src.0 h) [
-      | inl now ↦ absurd (quiet_no_push e.act d q now.1)
-      | inr was ↦ i.arrives d was (unhandled_before logs port e d d.dst.0 k).0
-    ];
-  }
+  apart = i.apart;
+  arrives = λ d h k. elim (pushed_before logs port e d d.src.0 h) [
+    | inl now ↦ absurd (quiet_no_push e.act d q now.1)
+    | inr was ↦ i.arrives d was (unhandled_before logs port e d d.dst.0 k).0
+  ];
+}
 
 -- where lists have the same elements in the same order
 pub same_delivers : (logs : ℕ → List Entry) (waiting later : ℕ → List Datagram) → ((p : ℕ) → later p ≡ waiting p) → Delivers logs waiting → Delivers logs later
 same_delivers logs waiting later same i = record {
-    numbered = i.numbered;
-    handled = i.handled;
-    waits = λ p d m. i.waits p d (subst (λ (ds : List Datagram). Member d ds) (same p) m);
-    apart = λ p. subst AreApart (sym (same p)) (i.apart p);
-    arrives = λ d h k. subst (λ (ds : List Datagram). Member d ds) (sym (same d.dst.0)) (i.arrives d h k);
-  }
+  numbered = i.numbered;
+  handled = i.handled;
+  waits = λ p d m. i.waits p d (subst (λ (ds : List Datagram). Member d ds) (same p) m);
+  apart = λ p. subst AreApart (sym (same p)) (i.apart p);
+  arrives = λ d h k. subst (λ (ds : List Datagram). Member d ds) (sym (same d.dst.0)) (i.arrives d h k);
+}
 
 -- the datagram's source has pushed none of its number
 abbrev pub IsNew : (ℕ → List Entry) → Datagram → Type 0
@@ -118,7 +118,7 @@ one_more_has : (waiting : ℕ → List Datagram) (d q : Datagram) → d ≡ q �
 one_more_has waiting d q is =
     let P : Datagram → Type 0 = λ x. Member x (one_more waiting d x.dst.0) in
     let has : Member d (one_more waiting d d.dst.0) =
-        subst (λ (ds : List Datagram). Member d ds) (sym (put_at_here d.dst.0 (waiting d.dst.0 ++ d ∷ []) waiting)) (member-append_right d (waiting d.dst.0) (d ∷ []) (inl refl)) in
+    subst (λ (ds : List Datagram). Member d ds) (sym (put_at_here d.dst.0 (waiting d.dst.0 ++ d ∷ []) waiting)) (member-append_right d (waiting d.dst.0) (d ∷ []) (inl refl)) in
     subst P is has
 
 -- an entry that pushes a datagram with the next number
@@ -129,8 +129,8 @@ push_delivers logs waiting port e d is src number i =
     let new : IsNew logs d = next_is_new logs d i.numbered num in
     let other : (q : Datagram) → IsOther q e.act = λ q. (let P : Act → Type 0 = λ act. IsOther q act in subst P (sym is) tt) in
     let now : PushedIn d (more_logs logs port e d.src.0) =
-        subst (λ (x : ℕ). PushedIn d (more_logs logs port e x)) (sym src)
-        (subst (λ (log : List Entry). PushedIn d log) (sym (put_at_here port (e ∷ logs port) logs)) (inl is)) in
+    subst (λ (x : ℕ). PushedIn d (more_logs logs port e x)) (sym src)
+    (subst (λ (log : List Entry). PushedIn d log) (sym (put_at_here port (e ∷ logs port) logs)) (inl is)) in
     record {
       numbered = more_numbered logs port e i.numbered (let P : Act → Type 0 = λ act. IsNumbered port (logs port) act in subst P (sym is) (src, number));
       handled = more_handled logs port e i.handled (let P : Act → Type 0 = λ act. HadWaited logs port (logs port) act in subst P (sym is) tt);
@@ -138,10 +138,10 @@ push_delivers logs waiting port e d is src number i =
         | inl a ↦
             let P : Datagram → Type 0 = λ x. Waits (more_logs logs port e) p x in
             let mine : Waits (more_logs logs port e) p d = record {
-                for_it = sym a.0;
-                pushed = now;
-                fresh = unhandled_still logs port e d p (λ here. other d) (new_unhandled logs p d (logs p) new (i.handled p));
-              } in
+              for_it = sym a.0;
+              pushed = now;
+              fresh = unhandled_still logs port e d p (λ here. other d) (new_unhandled logs p d (logs p) new (i.handled p));
+            } in
             subst P a.1 mine
         | inr k ↦
             let w = i.waits p q k in
@@ -152,7 +152,7 @@ push_delivers logs waiting port e d is src number i =
             }
       ];
       apart = λ p. put_at_case AreApart d.dst.0 (waiting d.dst.0 ++ d ∷ []) waiting p
-        (λ here. apart_push (waiting d.dst.0) d (i.apart d.dst.0) (λ q m. new q (i.waits d.dst.0 q m).pushed)) (λ no. i.apart p);
+          (λ here. apart_push (waiting d.dst.0) d (i.apart d.dst.0) (λ q m. new q (i.waits d.dst.0 q m).pushed)) (λ no. i.apart p);
       arrives = λ q h k. elim (pushed_before logs port e q q.src.0 h) [
         | inl a ↦ (let f : Push d ≡ Push q = sym is ∙ a.1 in one_more_has waiting d q cc)
         | inr was ↦ one_more_was waiting d q q.dst.0 (i.arrives q was (unhandled_before logs port e q q.dst.0 k).0)
@@ -193,24 +193,24 @@ handle_delivers logs waiting port e d answer front back is was i =
     record {
       numbered = more_numbered logs port e i.numbered (let P : Act → Type 0 = λ act. IsNumbered port (logs port) act in subst P (sym is) tt);
       handled = more_handled logs port e i.handled
-        (let P : Act → Type 0 = λ act. HadWaited logs port (logs port) act in subst P (sym is) (w.for_it, w.pushed, w.fresh));
+          (let P : Act → Type 0 = λ act. HadWaited logs port (logs port) act in subst P (sym is) (w.for_it, w.pushed, w.fresh));
       waits = λ p q m.
-        let k = one_less_was waiting port front d back q p was m in
-        let v = i.waits p q k.0 in
-        record {
-          for_it = v.for_it;
-          pushed = pushed_still logs port e q q.src.0 v.pushed;
-          fresh = unhandled_still logs port e q p
-            (λ here. (let P : Act → Type 0 = λ act. IsOther q act in subst P (sym is) (λ s n. split.1 q (k.1 here) (sym s) (sym n)))) v.fresh;
-        };
+          let k = one_less_was waiting port front d back q p was m in
+          let v = i.waits p q k.0 in
+          record {
+            for_it = v.for_it;
+            pushed = pushed_still logs port e q q.src.0 v.pushed;
+            fresh = unhandled_still logs port e q p
+                (λ here. (let P : Act → Type 0 = λ act. IsOther q act in subst P (sym is) (λ s n. split.1 q (k.1 here) (sym s) (sym n)))) v.fresh;
+          };
       apart = λ p. put_at_case AreApart port (front ++ back) waiting p (λ here. split.0) (λ no. i.apart p);
       arrives = λ q h k.
-        let u = unhandled_before logs port e q q.dst.0 k in
-        elim (pushed_before logs port e q q.src.0 h) [
-          | inl a ↦ absurd (no_push q a.1)
-          | inr before ↦ one_less_keeps waiting port front d back q q.dst.0 was (i.arrives q before u.0)
-              (λ here same. (let P : Act → Type 0 = λ act. IsOther q act in
+          let u = unhandled_before logs port e q q.dst.0 k in
+          elim (pushed_before logs port e q q.src.0 h) [
+            | inl a ↦ absurd (no_push q a.1)
+            | inr before ↦ one_less_keeps waiting port front d back q q.dst.0 was (i.arrives q before u.0)
+                (λ here same. (let P : Act → Type 0 = λ act. IsOther q act in
                 let o : IsOther q (Handle d answer) = subst P is (u.1 here) in
                 o (ap (λ (x : Datagram). x.src) same) (ap (λ (x : Datagram). x.number) same)))
-        ];
+          ];
     }

@@ -1,16 +1,14 @@
 -- Inboxes that keep what was pushed: what waits for a port is what was pushed to it and not handled, each datagram once.
-use Rattle.std.proofs.Common.{◌≡◌, ℕ, ◌+◌, ◌<◌, List, [], ◌∷◌, ◌++◌, refl, arith, ◌⊎◌, inl, inr, sym, ◌∙◌, ap, subst}
+use Rattle.std.proofs.Common.{◌≡◌, ℕ, ◌+◌, ◌<◌, List, [], ◌∷◌, arith, ◌⊎◌, inl, inr, sym, ◌∙◌, ap, subst}
 use Rattle.rdm_num.specs.Lists.{Member}
 use Rattle.rdm_wire.specs.declared.Datagram.{Datagram}
-use Rattle.rdm_model.specs.declared.answer.Handled.{Handled}
 use Rattle.rdm_model.specs.declared.entry.Entry.{Entry}
 use Rattle.rdm_model.specs.declared.entry.Act.{Act}
 use Rattle.rdm_model.specs.declared.entry.Act.TheVariants.{Next, Push, Handle, Poll}
 use Rattle.rdm_model.specs.Steps.{count, is_push}
 use Rattle.rdm_model.specs.Wire.{PushedIn, IsOther, IsUnhandled}
 use Rattle.rdm_model.specs.Worlds.{put_at}
-use Rattle.rdm_model.proofs.Members.{member-append_left, member-append_right, member-append_cases}
-use Rattle.rdm_law.proofs.Apart.{put_at_case, put_at_here, put_at_there, Differ, DiffersFrom, AreApart, apart_push, apart_without, member_around, member_without, member_seam}
+use Rattle.rdm_law.proofs.Apart.{put_at_case, AreApart}
 
 -- a push of the port has the next number
 abbrev pub IsNumbered : ℕ → List Entry → Act → Type 0
@@ -125,7 +123,7 @@ pub more_handled : (logs : ℕ → List Entry) (port : ℕ) (e : Entry) → ((p 
 more_handled logs port e n new p =
     put_at_case (λ (log : List Entry). AllHadWaited (more_logs logs port e) p log) port (e ∷ logs port) logs p
     (λ is. subst (λ (x : ℕ). AllHadWaited (more_logs logs port e) x (e ∷ logs port)) (sym is)
-      (all_had_waited_still logs port e port (logs port) (n port), had_waited_still logs port e port (logs port) e.act new))
+    (all_had_waited_still logs port e port (logs port) (n port), had_waited_still logs port e port (logs port) e.act new))
     (λ other. all_had_waited_still logs port e p (logs p) (n p))
 
 -- a datagram that the new entry doesn't handle stays unhandled

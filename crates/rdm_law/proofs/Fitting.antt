@@ -1,9 +1,9 @@
 -- What fits the wire: packets with numbers in their ranges, and bytes that are bytes.
-use Rattle.std.proofs.Common.{◌≡◌, ℕ, true, nat_lt, List, [], ◌∷◌, Option, Some, None, refl, sym, ap}
+use Rattle.std.proofs.Common.{◌≡◌, ℕ, true, nat_lt, List, [], ◌∷◌, Option, Some, None, refl}
 use Rattle.std.specs.List.{list_all}
 use Rattle.rdm_pkt.specs.declared.Packet.{Packet}
 use Rattle.rdm_pkt.specs.Reading.{packet_in}
-use Rattle.rdm_pkt.specs.Grammar.{fits, spelling, Spells}
+use Rattle.rdm_pkt.specs.Grammar.{fits}
 use Rattle.rdm_pkt.proofs.ReadRtm.{read_is_spelled}
 use Rattle.rdm_wire.specs.declared.Body.{Body}
 use Rattle.rdm_wire.specs.declared.Body.TheVariants.{Note, Between}

@@ -1,5 +1,5 @@
 -- Over inboxes that deliver, the joint history of the logs is delivered.
-use Rattle.std.proofs.Common.{◌≡◌, ℕ, Bool, true, false, cond, eqb-true, eq-eqb, List, [], ◌∷◌, refl, ◌⊎◌, inl, inr, sym, ◌∙◌, ap, subst}
+use Rattle.std.proofs.Common.{◌≡◌, ℕ, true, false, cond, eqb-true, List, [], ◌∷◌, refl, sym, ◌∙◌, ap, subst}
 use Rattle.std.proofs.lemmas.Bool.{eqb-false}
 use Rattle.std.specs.Prelude.{◌==◌}
 use Rattle.rdm_num.specs.declared.numbers.PortNo.{PortNo}
@@ -43,10 +43,10 @@ other_entry : (logs : ℕ → List Entry) (d : Datagram) (e : Entry) (before : L
     → HadWaited logs e.port.0 (log_of e.port.0 before) act → (e.port.0 ≡ d.dst.0 → IsOther d act) → IsOther d act
 other_entry logs d e before (Handle q answer) n pushed waited mine =
     λ s k.
-      let src : q.src.0 ≡ d.src.0 = ap (λ (x : PortNo). x.0) s in
-      let same : PushedIn q (logs d.src.0) = subst (λ (x : ℕ). PushedIn q (logs x)) src waited.1 in
-      let one : q ≡ d = pushed_once d.src.0 (logs d.src.0) q d (n d.src.0) same pushed k in
-      mine (sym waited.0 ∙ ap (λ (x : Datagram). x.dst.0) one) s k
+    let src : q.src.0 ≡ d.src.0 = ap (λ (x : PortNo). x.0) s in
+    let same : PushedIn q (logs d.src.0) = subst (λ (x : ℕ). PushedIn q (logs x)) src waited.1 in
+    let one : q ≡ d = pushed_once d.src.0 (logs d.src.0) q d (n d.src.0) same pushed k in
+    mine (sym waited.0 ∙ ap (λ (x : Datagram). x.dst.0) one) s k
 other_entry logs d e before (Next index op answer) n pushed waited mine = tt
 other_entry logs d e before (Push q) n pushed waited mine = tt
 other_entry logs d e before (Poll c) n pushed waited mine = tt
@@ -61,8 +61,7 @@ unhandled_by_all : (logs : ℕ → List Entry) (d : Datagram) (history : List En
     → ((p : ℕ) → AllHadWaited logs p (log_of p history)) → IsUnhandled d (log_of d.dst.0 history) → IsUnhandled d history
 unhandled_by_all logs d [] n pushed waited h = tt
 unhandled_by_all logs d (e ∷ before) n pushed waited h =
-    let k = unhandled_newest d e before h in
-    (
+    let k = unhandled_newest d e before h in (
       unhandled_by_all logs d before n pushed (λ p. waited_before logs e before p (waited p)) k.0,
       other_entry logs d e before e.act n pushed (waited_newest logs e before waited) k.1,
     )

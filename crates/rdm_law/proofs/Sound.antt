@@ -1,24 +1,19 @@
 -- A world whose logs are right by themselves, and whose inboxes deliver: each choice keeps it so.
-use Rattle.std.proofs.Common.{◌≡◌, ℕ, ◌+◌, ◌≤◌, ◌<◌, ◌%◌, min, max, Bool, true, false, cond, not, ◌&&◌, ◌||◌, leb-false, nat_le, List, [], ◌∷◌, ◌++◌, length, take, drop, remove, slice_get, Option, Some, None, IsTrue, refl, arith, ◌⊎◌, inl, inr, sym, ◌∙◌, ap, subst, append_assoc, take-append-drop}
-use Rattle.std.proofs.lemmas.Bool.{and_parts, not-true, eqb-true, eqb-false}
-use Rattle.std.specs.Prelude.{◌==◌}
+use Rattle.std.proofs.Common.{◌≡◌, ℕ, ◌+◌, ◌≤◌, ◌<◌, Bool, true, false, cond, ◌||◌, leb-false, List, ◌∷◌, ◌++◌, Some, refl, arith, sym, subst}
 use Rattle.rdm_num.specs.Lists.{Member}
 use Rattle.rdm_num.specs.declared.numbers.Life.{Life}
-use Rattle.rdm_num.specs.declared.completion.Completion.{Completion}
 use Rattle.rdm_wire.specs.declared.Datagram.{Datagram}
 use Rattle.rdm_model.specs.declared.job.Job.{Job}
-use Rattle.rdm_model.specs.declared.job.Instr.{Instr}
 use Rattle.rdm_model.specs.declared.entry.Entry.{Entry}
 use Rattle.rdm_model.specs.declared.entry.Act.{Act}
-use Rattle.rdm_model.specs.declared.entry.Act.TheVariants.{Next, Push, Handle, Poll}
 use Rattle.rdm_model.specs.Deeds.{Item}
-use Rattle.rdm_model.specs.Scenes.{Scene, deeds_at}
+use Rattle.rdm_model.specs.Scenes.{deeds_at}
 use Rattle.rdm_model.specs.Classes.{class_of}
-use Rattle.rdm_model.specs.Going.{Going, Goes, going}
+use Rattle.rdm_model.specs.Going.{Goes, going}
 use Rattle.rdm_model.specs.Steps.{clock, stamp_after, last_stamp, Does}
-use Rattle.rdm_model.specs.Settled.{is_worn, is_worn_by}
+use Rattle.rdm_model.specs.Settled.{is_worn}
 use Rattle.rdm_model.specs.Local.{Local, own_scene}
-use Rattle.rdm_model.specs.Worlds.{World, put_at, with_entry}
+use Rattle.rdm_model.specs.Worlds.{World, put_at}
 use Rattle.rdm_law.proofs.Apart.{put_at_case}
 use Rattle.rdm_law.proofs.Delivers.{Delivers}
 use Rattle.rdm_law.proofs.Fitting.{BodyFits, HandledFits, AllHandledFit, CanGo}

@@ -1,48 +1,40 @@
 -- Each choice keeps a world sound.
-use Rattle.std.proofs.Common.{◌≡◌, ℕ, ◌+◌, ◌≤◌, ◌<◌, ◌%◌, min, max, Bool, true, false, cond, not, ◌&&◌, ◌||◌, leb-false, nat_le, List, [], ◌∷◌, ◌++◌, length, take, drop, remove, slice_get, Option, Some, None, IsTrue, refl, arith, ◌⊎◌, inl, inr, sym, ◌∙◌, ap, subst, append_assoc, take-append-drop}
-use Rattle.std.proofs.lemmas.Bool.{and_parts, not-true, eqb-true, eqb-false}
+use Rattle.std.proofs.Common.{◌≡◌, ℕ, ◌+◌, ◌≤◌, true, false, cond, not, ◌&&◌, ◌||◌, nat_le, List, [], ◌∷◌, ◌++◌, length, Option, Some, None, refl, inl, inr, sym, ◌∙◌, ap, subst, append_assoc}
+use Rattle.std.proofs.lemmas.Bool.{and_parts, not-true, eqb-true}
 use Rattle.std.specs.Prelude.{◌==◌}
 use Rattle.rdm_num.specs.Lists.{Member}
-use Rattle.rdm_num.specs.declared.numbers.Life.{Life}
 use Rattle.rdm_num.specs.declared.completion.Completion.{Completion}
 use Rattle.rdm_wire.specs.declared.Datagram.{Datagram}
 use Rattle.rdm_model.specs.declared.job.Job.{Job}
 use Rattle.rdm_model.specs.declared.job.Instr.{Instr}
-use Rattle.rdm_model.specs.declared.job.Choice.{Choice}
-use Rattle.rdm_model.specs.declared.entry.Entry.{Entry}
 use Rattle.rdm_model.specs.declared.entry.Act.{Act}
 use Rattle.rdm_model.specs.declared.entry.Act.TheVariants.{Next, Push, Handle, Poll}
-use Rattle.rdm_model.specs.Deeds.{Item}
-use Rattle.rdm_model.specs.Scenes.{Scene, deeds_at}
+use Rattle.rdm_model.specs.Scenes.{deeds_at}
 use Rattle.rdm_model.specs.Answers.{op_of, answer_of, is_entry}
 use Rattle.rdm_model.specs.Classes.{class_of}
-use Rattle.rdm_model.specs.Going.{Going, GoesNote, Goes, going, IsNext}
-use Rattle.rdm_model.specs.Takes.{handled_answer, is_again_early}
-use Rattle.rdm_model.specs.Completions.{completions, poll_count}
-use Rattle.rdm_model.specs.Steps.{clock, stamp_after, last_stamp, count, is_push, is_next, Does, DoesPush}
-use Rattle.rdm_model.specs.Settled.{is_worn, is_worn_by, instruction_left}
-use Rattle.rdm_model.specs.Local.{Local, own_scene}
-use Rattle.rdm_model.specs.Worlds.{World, new_world, put_at, scene_in, with_entry, next_act, step_next, datagram_to, datagram_of, load_of, with_push, step_push, after_fetch, with_handle, after_handle_at, after_pick, step_handle, with_poll, next_completion, after_choice, after_choices}
-use Rattle.rdm_law.proofs.Apart.{put_at_case, Removed, removed}
-use Rattle.rdm_law.proofs.Delivers.{Delivers}
-use Rattle.rdm_law.proofs.DeliverSteps.{IsQuiet, quiet_delivers, same_delivers, one_more, one_more_cases, push_delivers, one_less, one_less_was, handle_delivers}
-use Rattle.rdm_law.proofs.Fitting.{BodyFits, HandledFits, AllHandledFit, CanGo, load_fits, load_bears}
+use Rattle.rdm_model.specs.Going.{Going, GoesNote, Goes, going}
+use Rattle.rdm_model.specs.Steps.{clock, stamp_after, last_stamp, count, is_next, Does, DoesPush}
+use Rattle.rdm_model.specs.Settled.{is_worn, instruction_left}
+use Rattle.rdm_model.specs.Local.{own_scene}
+use Rattle.rdm_model.specs.Worlds.{World, new_world, put_at, scene_in, with_entry, next_act, step_next, datagram_of, load_of, with_push, step_push, with_poll, next_completion}
+use Rattle.rdm_law.proofs.DeliverSteps.{IsQuiet, quiet_delivers, same_delivers, one_more, one_more_cases, push_delivers}
+use Rattle.rdm_law.proofs.Fitting.{BodyFits, HandledFits, CanGo, load_fits, load_bears}
 use Rattle.rdm_law.proofs.Sound.{Sound, GoesWell, waiting_in, not_worn, entry_of, local_more, handled_more, chosen, or_false}
 
 -- before any step
 pub new_sound : (job : Job) → Sound job new_world
 new_sound job = record {
-    local = λ port. tt;
+  local = λ port. tt;
+  handled = λ port. tt;
+  waiting = λ port d m. elim m [ ];
+  delivers = record {
+    numbered = λ port. tt;
     handled = λ port. tt;
-    waiting = λ port d m. elim m [ ];
-    delivers = record {
-      numbered = λ port. tt;
-      handled = λ port. tt;
-      waits = λ port d m. elim m [ ];
-      apart = λ port. tt;
-      arrives = λ d h k. elim h [ ];
-    };
-  }
+    waits = λ port d m. elim m [ ];
+    apart = λ port. tt;
+    arrives = λ d h k. elim h [ ];
+  };
+}
 
 quiet_handled : (act : Act) → IsQuiet act → HandledFits act
 quiet_handled (Next index op answer) q = tt
@@ -78,8 +70,8 @@ next_sound job w port (Some instr) is s =
     let answer = answer_of (own_scene job port (deeds_at job port (w.logs port))) instr in
     chosen (Sound job) (is_entry answer && not (is_worn job (w.logs port))) _ w
     (λ yes.
-      let both = and_parts (is_entry answer) (not (is_worn job (w.logs port))) yes in
-      quiet_sound job w port (Next (count is_next (w.logs port)) (op_of instr) answer) tt (not-true _ both.1) (refl, (instr, is, refl, refl), both.0) s)
+    let both = and_parts (is_entry answer) (not (is_worn job (w.logs port))) yes in
+    quiet_sound job w port (Next (count is_next (w.logs port)) (op_of instr) answer) tt (not-true _ both.1) (refl, (instr, is, refl, refl), both.0) s)
     (λ no. s)
 
 pub poll_sound : (job : Job) (w : World) (port : ℕ) (o : Option Completion) → next_completion (own_scene job port (deeds_at job port (w.logs port))) ≡ o → Sound job w
@@ -94,7 +86,7 @@ queue_more : (w : World) (d : Datagram) (p : ℕ) → w.stashes p ++ put_at d.ds
 unfolding put_at
 queue_more w d p =
     (elim (p == d.dst.0) as (λ b. (p == d.dst.0) ≡ b →
-      w.stashes p ++ cond b (w.queues d.dst.0 ++ d ∷ []) (w.queues p) ≡ cond b ((w.stashes d.dst.0 ++ w.queues d.dst.0) ++ d ∷ []) (w.stashes p ++ w.queues p)) [
+    w.stashes p ++ cond b (w.queues d.dst.0 ++ d ∷ []) (w.queues p) ≡ cond b ((w.stashes d.dst.0 ++ w.queues d.dst.0) ++ d ∷ []) (w.stashes p ++ w.queues p)) [
       | true ↦ λ is.
           let same : p ≡ d.dst.0 = eqb-true p d.dst.0 is in
           ap (λ (x : ℕ). w.stashes x ++ (w.queues d.dst.0 ++ d ∷ [])) same ∙ sym (append_assoc (w.stashes d.dst.0) (w.queues d.dst.0) (d ∷ []))
@@ -112,22 +104,22 @@ more_fit w d was new port q m =
 -- a push
 push_sound : (job : Job) (w : World) (port : ℕ) (d : Datagram) → BodyFits d.body
     → ((stamp_after (clock job (w.logs port)) (Push d) ≡ clock job (w.logs port) + 1)
-      → DoesPush (own_scene job port (deeds_at job port (w.logs port))) (w.logs port) (entry_of job port (w.logs port) (Push d)) d)
+    → DoesPush (own_scene job port (deeds_at job port (w.logs port))) (w.logs port) (entry_of job port (w.logs port) (Push d)) d)
     → Sound job w → Sound job (with_push job w port d)
 unfolding with_push with_entry stamp_after
 push_sound job w port d fit does s =
     chosen (Sound job) (is_worn job (w.logs port) || nat_le job.inbox (length (w.queues d.dst.0))) w _ (λ yes. s)
     (λ no.
-      let last = not_worn job (w.logs port) (or_false _ _ no).0 in
-      let push = does refl in
-      record {
-        local = local_more job w.logs port (Push d) s.local last push;
-        handled = handled_more w.logs port (entry_of job port (w.logs port) (Push d)) s.handled tt;
-        waiting = λ p q m. more_fit w d s.waiting fit p q (subst (λ (ds : List Datagram). Member q ds) (queue_more w d p) m);
-        delivers =
+    let last = not_worn job (w.logs port) (or_false _ _ no).0 in
+    let push = does refl in
+    record {
+      local = local_more job w.logs port (Push d) s.local last push;
+      handled = handled_more w.logs port (entry_of job port (w.logs port) (Push d)) s.handled tt;
+      waiting = λ p q m. more_fit w d s.waiting fit p q (subst (λ (ds : List Datagram). Member q ds) (queue_more w d p) m);
+      delivers =
           same_delivers _ (one_more (waiting_in w) d) _ (queue_more w d)
           (push_delivers w.logs (waiting_in w) port (entry_of job port (w.logs port) (Push d)) d refl (ap (λ x. x.0) push.0) push.1 s.delivers);
-      })
+    })
 
 pub goes_sound : (job : Job) (w : World) (port : ℕ) (o : Option Going) → GoesWell job → going (own_scene job port (deeds_at job port (w.logs port))) ≡ o → Sound job w
     → Sound job (step_push job w port o)
