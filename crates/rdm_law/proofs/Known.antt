@@ -27,12 +27,11 @@ use Rattle.rdm_model.specs.Local.{heard_by}
 use Rattle.rdm_model.specs.Lawful.{life_deeds}
 use Rattle.rdm_model.proofs.Members.{or_else_cases, same_life-true}
 use Rattle.rdm_model.proofs.Numbers.{placed}
-use Rattle.rdm_model.proofs.Served.{PushedAt, push_member}
-use Rattle.rdm_model.proofs.Sending.{rtm_push}
 use Rattle.rdm_law.proofs.Owed.{OwedIn}
 use Rattle.rdm_law.proofs.Wired.{Played, TakenTurn, taken_pushed}
-use Rattle.rdm_law.proofs.Turned.{turned_pushed}
-use Rattle.rdm_law.proofs.Went.{SentIt, RepliedIt, by_turn}
+use Rattle.rdm_law.proofs.Turned.{turn_member, turn_rtm}
+use Rattle.rdm_law.proofs.Lives.{TurnedAt}
+use Rattle.rdm_law.proofs.Went.{SentIt, RepliedIt, went}
 
 -- what each life knows of the messages to it
 abbrev pub account : Job → List Entry → Life → Messages
@@ -120,54 +119,44 @@ known_one job history life' source n a b =
     let y = at life' n b.sent b.to_is b.number_is q in
     cc
 
--- what a life pushed to another, by all that it took in the end
-pub turned_to : (job : Job) (history : List Entry) (life' from : Life) (item : Item) (d : Datagram) (t : TakenTurn job history life' from item d)
-    → SentIt (own_of job from) (account job history from) (life_deeds job history from) life' item t.place
-    ⊎ RepliedIt (own_of job from) (account job history from) (life_deeds job history from) life' item t.place
-turned_to job history life' from item d t =
-    by_turn (own_of job from) (account job history from) (life_deeds job history from) life' item t.place t.turn'
-    (turned_pushed (own_of job from) t.turn' t.place (life_deeds job history from) t.turned) t.gives
-
 -- a packet that opens a message and was pushed is of a send, and tells its head
 pub record Opened (job : Job) (history : List Entry) (life' source : Life) (number : MsgNo) (tag : Option ℕ) (opt : Opt) (form : Form) (k : ℕ) : Type 0 where
   pub known : Known job history life' source number.0
   pub head_is : head_of tag opt form ≡ message_head job.limits known.sent.message known.sent.kind
   pub tag_is : tag ≡ known.sent.message.tag
   pub opt_is : opt ≡ known.sent.message.opt
-  pub pushed : PushedAt (own_of job source) (account job history source) (Sends known.sent (Rtm number tag opt form)) k (life_deeds job history source)
+  pub turned : TurnedAt (own_of job source) (Sends known.sent (Rtm number tag opt form)) k (life_deeds job history source)
 
 opened_by : (job : Job) (history : List Entry) (life' source : Life) (number : MsgNo) (tag : Option ℕ) (opt : Opt) (form : Form) (k : ℕ)
-    → SentIt (own_of job source) (account job history source) (life_deeds job history source) life' (Spelled (Rtm number tag opt form)) k
+    → SentIt (own_of job source) (life_deeds job history source) life' (Spelled (Rtm number tag opt form)) k
     → Opened job history life' source number tag opt form k
 unfolding own_of
 opened_by job history life' source number tag opt form k s =
     let own = own_of job source in
     let log = life_deeds job history source in
-    let ms = account job history source in
     let is = s.is in
     let e : s.packet ≡ Rtm number tag opt form = cc in
-    let pushed : PushedAt own ms (Sends s.sent (Rtm number tag opt form)) k log = subst (λ (x : Packet). PushedAt own ms (Sends s.sent x) k log) e s.pushed in
-    let r = rtm_push own ms s.sent number tag opt form k log pushed in
+    let turned : TurnedAt own (Sends s.sent (Rtm number tag opt form)) k log = subst (λ (x : Packet). TurnedAt own (Sends s.sent x) k log) e s.turned in
+    let r = turn_rtm own s.sent number tag opt form k log turned in
     record {
       known = record {
         sent = s.sent;
-        member = push_member own ms s.sent s.packet k log s.pushed;
+        member = turn_member own s.sent s.packet k log s.turned;
         to_is = s.to_is;
         number_is = ap (λ (x : MsgNo). x.0) (sym r.0);
       };
       head_is = r.3;
       tag_is = r.1;
       opt_is = r.2;
-      pushed = pushed;
+      turned = turned;
     }
 
 pub opened : (job : Job) (history : List Entry) (life' source : Life) (number : MsgNo) (tag : Option ℕ) (opt : Opt) (form : Form) (d : Datagram)
     (t : TakenTurn job history life' source (Spelled (Rtm number tag opt form)) d) → Opened job history life' source number tag opt form t.place
 opened job history life' source number tag opt form d t =
-    elim (turned_to job history life' source (Spelled (Rtm number tag opt form)) d t) [
+    elim (went job history life' source (Spelled (Rtm number tag opt form)) d t) [
       | inl s ↦ opened_by job history life' source number tag opt form t.place s
-      | inr r ↦
-          absurd (owed_rtm (own_of job source) (account job history source) (life_deeds job history source) r.reply number tag opt form r.owed' r.is)
+      | inr r ↦ absurd (owed_rtm (own_of job source) (account job history source) (life_deeds job history source) r.reply number tag opt form r.owed r.is)
     ]
 
 -- a message that was heard of was sent, and its head is that of the send
