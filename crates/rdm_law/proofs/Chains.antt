@@ -1,5 +1,5 @@
 -- Granted bytes and read bytes are of the message that their receive was matched to.
-use Rattle.std.proofs.Common.{◌≡◌, ℕ, ◌+◌, ◌≤◌, Bool, true, false, List, [], ◌∷◌, Option, Some, None, refl, arith, ◌⊎◌, inl, inr, sym, ◌∙◌, ap, subst}
+use Rattle.std.proofs.Common.{◌≡◌, ℕ, List, [], ◌∷◌, refl, inl, inr, sym, ◌∙◌, ap, subst}
 use Rattle.rdm_num.specs.Lists.{Member}
 use Rattle.rdm_num.specs.Lives.{op_id}
 use Rattle.rdm_num.specs.declared.numbers.Life.{Life}
@@ -9,7 +9,7 @@ use Rattle.rdm_num.specs.declared.head.Head.{Head}
 use Rattle.rdm_num.specs.declared.head.Shape.{Shape}
 use Rattle.rdm_num.specs.declared.head.Shape.TheVariants as S
 use Rattle.rdm_pkt.specs.declared.Packet.{Packet}
-use Rattle.rdm_pkt.specs.declared.Packet.TheVariants.{Rtm, Cts, CtsData, Eor, Handshake}
+use Rattle.rdm_pkt.specs.declared.Packet.TheVariants.{Cts, CtsData}
 use Rattle.rdm_pkt.specs.declared.Kind.TheVariants.{LongCts}
 use Rattle.rdm_pkt.specs.Openings.{shape_by, message_head}
 use Rattle.rdm_match.specs.Matcher.{Pair}
@@ -18,10 +18,9 @@ use Rattle.rdm_wire.specs.declared.ReadAsk.{ReadAsk}
 use Rattle.rdm_wire.specs.declared.ReadData.{ReadData}
 use Rattle.rdm_model.specs.declared.job.Job.{Job}
 use Rattle.rdm_model.specs.declared.entry.Entry.{Entry}
-use Rattle.rdm_model.specs.Deeds.{Deed, Took, Item, Spelled, Asks, Gives}
-use Rattle.rdm_model.specs.Owns.{Own, Messages, Heads, own_of}
-use Rattle.rdm_model.specs.Matches.{pairs}
-use Rattle.rdm_model.specs.Sends.{Sent, sends}
+use Rattle.rdm_model.specs.Deeds.{Deed, Took, Spelled, Asks, Gives}
+use Rattle.rdm_model.specs.Owns.{Own, Messages, own_of}
+use Rattle.rdm_model.specs.Sends.{Sent}
 use Rattle.rdm_model.specs.Grants.{Grant, grants}
 use Rattle.rdm_model.specs.Replies.{Reply, asks_for}
 use Rattle.rdm_model.specs.Turns.{Sends, Replies}
@@ -30,13 +29,13 @@ use Rattle.rdm_model.proofs.Sending.{DataPush, grant_taken}
 use Rattle.rdm_law.proofs.Numbered.{matching_numbered}
 use Rattle.rdm_law.proofs.Asks.{asks_for_recv}
 use Rattle.rdm_law.proofs.Owed.{OwedIn, shape_in, recv_in}
-use Rattle.rdm_law.proofs.Causes.{OfAsk, OfCts, OfGiven, owed_given}
+use Rattle.rdm_law.proofs.Causes.{OfGiven, owed_given}
 use Rattle.rdm_law.proofs.Lives.{TurnedAt}
 use Rattle.rdm_law.proofs.Turned.{turn_data, turn_member}
 use Rattle.rdm_law.proofs.Wired.{Played, TakenTurn}
-use Rattle.rdm_law.proofs.Went.{SentIt, RepliedIt, went}
+use Rattle.rdm_law.proofs.Went.{went}
 use Rattle.rdm_law.proofs.Known.{account, sends_of, Known}
-use Rattle.rdm_law.proofs.Named.{pairs_of, PairKnown, pair_known, grant_pair, ask_pair, head_shape, long_send, AskOf, ask_of, send_number, one_send, went_given}
+use Rattle.rdm_law.proofs.Named.{pairs_of, pair_known, grant_pair, ask_pair, head_shape, long_send, AskOf, ask_of, send_number, one_send, went_given}
 
 -- a receive is in one pair at most
 pub pair_one : (job : Job) (history : List Entry) (life' : Life) (p q : Pair) → Member p (pairs_of job history life') → Member q (pairs_of job history life')

@@ -1,5 +1,5 @@
 -- What a life heard of was sent to it.
-use Rattle.std.proofs.Common.{◌≡◌, ℕ, ◌-◌, Bool, true, false, List, [], ◌∷◌, Option, Some, refl, ◌⊎◌, inl, inr, sym, ◌∙◌, ap, subst}
+use Rattle.std.proofs.Common.{◌≡◌, ℕ, ◌-◌, Bool, true, false, List, [], ◌∷◌, Option, Some, refl, inl, inr, sym, ◌∙◌, ap, subst}
 use Rattle.std.specs.Prelude.{◌&&◌, nat_eq, slice_get}
 use Rattle.std.specs.Bool.{then_some}
 use Rattle.std.proofs.lemmas.Bool.{and_parts, eqb-true}
@@ -17,7 +17,7 @@ use Rattle.rdm_pkt.specs.Openings.{message_head}
 use Rattle.rdm_wire.specs.declared.Datagram.{Datagram}
 use Rattle.rdm_model.specs.declared.job.Job.{Job}
 use Rattle.rdm_model.specs.declared.entry.Entry.{Entry}
-use Rattle.rdm_model.specs.Deeds.{Deed, Took, Item, Spelled}
+use Rattle.rdm_model.specs.Deeds.{Deed, Took, Spelled}
 use Rattle.rdm_model.specs.Owns.{Own, Messages, own_of}
 use Rattle.rdm_model.specs.Heard.{head_by, heard_head}
 use Rattle.rdm_model.specs.Replies.{Reply}
@@ -31,7 +31,7 @@ use Rattle.rdm_law.proofs.Owed.{OwedIn}
 use Rattle.rdm_law.proofs.Wired.{Played, TakenTurn, taken_pushed}
 use Rattle.rdm_law.proofs.Turned.{turn_member, turn_rtm}
 use Rattle.rdm_law.proofs.Lives.{TurnedAt}
-use Rattle.rdm_law.proofs.Went.{SentIt, RepliedIt, went}
+use Rattle.rdm_law.proofs.Went.{SentIt, went}
 
 -- what each life knows of the messages to it
 abbrev pub account : Job → List Entry → Life → Messages

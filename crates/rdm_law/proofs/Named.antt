@@ -1,5 +1,5 @@
 -- Which send a grant, an ask or granted bytes are for.
-use Rattle.std.proofs.Common.{◌≡◌, ℕ, ◌+◌, ◌≤◌, Bool, true, false, List, [], ◌∷◌, length, Option, Some, None, refl, arith, ◌⊎◌, inl, inr, sym, ◌∙◌, ap, subst}
+use Rattle.std.proofs.Common.{◌≡◌, ℕ, ◌+◌, ◌≤◌, true, List, length, Some, refl, arith, inl, inr, sym, ◌∙◌, ap, subst}
 use Rattle.rdm_num.specs.Lists.{Member}
 use Rattle.rdm_num.specs.Lives.{op_id}
 use Rattle.rdm_num.specs.declared.numbers.Life.{Life}
@@ -7,7 +7,6 @@ use Rattle.rdm_num.specs.declared.numbers.OpId.{OpId}
 use Rattle.rdm_num.specs.declared.numbers.Connid.{Connid}
 use Rattle.rdm_num.specs.declared.limits.EpLimits.{EpLimits}
 use Rattle.rdm_num.specs.declared.head.Head.{Head}
-use Rattle.rdm_num.specs.declared.head.Shape.{Shape}
 use Rattle.rdm_num.specs.declared.head.Shape.TheVariants as S
 use Rattle.rdm_pkt.specs.declared.Packet.{Packet}
 use Rattle.rdm_pkt.specs.declared.Packet.TheVariants.{Rtm, Cts, CtsData, Eor, Handshake}
@@ -20,29 +19,27 @@ use Rattle.rdm_wire.specs.declared.ReadAsk.{ReadAsk}
 use Rattle.rdm_wire.specs.declared.ReadData.{ReadData}
 use Rattle.rdm_model.specs.declared.job.Job.{Job}
 use Rattle.rdm_model.specs.declared.entry.Entry.{Entry}
-use Rattle.rdm_model.specs.Deeds.{Deed, Took, Item, Spelled, Asks, Gives}
-use Rattle.rdm_model.specs.Owns.{Own, Messages, Heads, own_of}
+use Rattle.rdm_model.specs.Deeds.{Deed, Took, Spelled, Asks, Gives}
+use Rattle.rdm_model.specs.Owns.{Own, own_of}
 use Rattle.rdm_model.specs.Heard.{heard_head}
 use Rattle.rdm_model.specs.Matches.{pairs}
-use Rattle.rdm_model.specs.Sends.{Sent, sends}
-use Rattle.rdm_model.specs.Replies.{Reply, asks_for}
-use Rattle.rdm_model.specs.Turns.{Sends, Replies, is_read}
+use Rattle.rdm_model.specs.Sends.{Sent}
+use Rattle.rdm_model.specs.Replies.{asks_for}
+use Rattle.rdm_model.specs.Turns.{Sends, is_read}
 use Rattle.rdm_model.specs.Named.{read_from}
-use Rattle.rdm_model.specs.Local.{heard_by, heads_by}
+use Rattle.rdm_model.specs.Local.{heard_by}
 use Rattle.rdm_model.specs.Lawful.{life_deeds}
 use Rattle.rdm_model.proofs.Matches.{pair_heard}
 use Rattle.rdm_model.proofs.Grows.{heads_by_heard}
 use Rattle.rdm_model.proofs.Numbers.{made, sent_is_of, sends_one}
 use Rattle.rdm_model.proofs.Opens.{opening_is}
-use Rattle.rdm_model.proofs.Sending.{DataPush}
-use Rattle.rdm_law.proofs.Asks.{IsAskIn, iov_bytes, asks_for_read, asks_from_parts}
-use Rattle.rdm_law.proofs.Owed.{OwedIn, shape_in, recv_in}
-use Rattle.rdm_law.proofs.Causes.{OfAsk, OfCts, OfEnd, OfGiven, owed_ask, owed_cts, owed_end, owed_given}
+use Rattle.rdm_law.proofs.Asks.{iov_bytes, asks_from_parts}
+use Rattle.rdm_law.proofs.Causes.{OfAsk, OfCts, owed_ask, owed_cts}
 use Rattle.rdm_law.proofs.Lives.{TurnedAt}
-use Rattle.rdm_law.proofs.Turned.{turn_is, turn_member}
-use Rattle.rdm_law.proofs.Wired.{Played, TakenTurn, Taken, taken_pushed}
-use Rattle.rdm_law.proofs.Went.{SentIt, RepliedIt, went}
-use Rattle.rdm_law.proofs.Known.{account, sends_of, Known, KnownHead, known_head}
+use Rattle.rdm_law.proofs.Turned.{turn_is}
+use Rattle.rdm_law.proofs.Wired.{Played, TakenTurn, taken_pushed}
+use Rattle.rdm_law.proofs.Went.{RepliedIt, went}
+use Rattle.rdm_law.proofs.Known.{account, sends_of, Known, known_head}
 
 -- the pairs of a life, by what it took itself
 abbrev pub pairs_of : Job → List Entry → Life → List Pair

@@ -1,5 +1,5 @@
 -- What went to a life: a packet of a send, or a reply.
-use Rattle.std.proofs.Common.{◌≡◌, ℕ, List, Some, refl, ◌⊎◌, inl, inr, sym, ◌∙◌, ap, subst}
+use Rattle.std.proofs.Common.{◌≡◌, ℕ, List, Some, ◌⊎◌, inl, inr}
 use Rattle.rdm_num.specs.declared.numbers.Life.{Life}
 use Rattle.rdm_pkt.specs.declared.Packet.{Packet}
 use Rattle.rdm_wire.specs.declared.Datagram.{Datagram}

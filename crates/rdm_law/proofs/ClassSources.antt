@@ -1,0 +1,97 @@
+-- What a life pushes names it, and its life is known to the one that it is for: neither Malformed nor Unknown.
+use Rattle.std.proofs.Common.{◌≡◌, ℕ, Bool, true, false, cond, ◌&&◌, List, [], ◌∷◌, Option, Some, None, refl, inl, inr, sym, ◌∙◌, ap}
+use Rattle.std.specs.Prelude.{slice_get, ◌==◌}
+use Rattle.std.proofs.lemmas.Bool.{and_from, eq-eqb, not_from_true}
+use Rattle.rdm_num.specs.Lists.{Member}
+use Rattle.rdm_num.specs.Lives.{same_life}
+use Rattle.rdm_num.specs.declared.numbers.Life.{Life}
+use Rattle.rdm_hdr.specs.declared.Opt.{Opt}
+use Rattle.rdm_pkt.specs.declared.Packet.{Packet}
+use Rattle.rdm_pkt.specs.declared.Packet.TheVariants.{Handshake}
+use Rattle.rdm_wire.specs.declared.Datagram.{Datagram}
+use Rattle.rdm_model.specs.declared.job.Job.{Job}
+use Rattle.rdm_model.specs.declared.entry.Entry.{Entry}
+use Rattle.rdm_model.specs.Deeds.{Deed, Took, Item, Spelled}
+use Rattle.rdm_model.specs.Owns.{Own, Messages, Heads, own_of}
+use Rattle.rdm_model.specs.Sources.{is_raw_of, is_connid_of, names_source, is_malformed}
+use Rattle.rdm_model.specs.Sends.{Sent, known_by, known_word, wants_raw, opt_for, sends}
+use Rattle.rdm_model.specs.Replies.{Reply}
+use Rattle.rdm_model.specs.Lawful.{life_deeds}
+use Rattle.rdm_model.specs.Local.{heard_by}
+use Rattle.rdm_model.specs.Turns.{Sends}
+use Rattle.rdm_model.proofs.Members.{same_life-true, or_else_cases}
+use Rattle.rdm_model.proofs.Numbers.{made, sent_is_of}
+use Rattle.rdm_model.proofs.Opens.{opening_is}
+use Rattle.rdm_law.proofs.Lives.{TurnedAt}
+use Rattle.rdm_law.proofs.Wired.{TakenTurn}
+use Rattle.rdm_law.proofs.Went.{went}
+use Rattle.rdm_law.proofs.Owed.{NewReply, OwedIn}
+use Rattle.rdm_law.proofs.Turned.{turn_member, turn_is}
+
+-- the headers of a send name its life
+opt_names : (l : Life) (raw : Bool) (cq_data tag : Option ℕ) (opt : Opt) → opt ≡ opt_for l raw cq_data → (is_raw_of l opt.raw && is_connid_of l opt.connid) ≡ true
+unfolding opt_for is_raw_of is_connid_of
+opt_names l true cq_data tag opt e =
+    ap (λ (o : Opt). is_raw_of l o.raw && is_connid_of l o.connid) e
+    ∙ and_from _ _ (and_from (l.port.0 == l.port.0) (l.connid.0 == l.connid.0) (eq-eqb l.port.0 l.port.0 refl) (eq-eqb l.connid.0 l.connid.0 refl)) refl
+opt_names l false cq_data tag opt e = ap (λ (o : Opt). is_raw_of l o.raw && is_connid_of l o.connid) e ∙ and_from _ _ refl (eq-eqb l.connid.0 l.connid.0 refl)
+
+-- a packet of a send names its life
+sent_names : (own : Own) (s : Sent) (p : Packet) (k : ℕ) (log : List Deed) → TurnedAt own (Sends s p) k log → names_source own.life p ≡ true
+unfolding names_source
+sent_names own s p k log h =
+    elim (turn_is own s p k log h) [
+      | inl a ↦ (
+          let o = opening_is own.limits s.message s.kind p a in
+          let m = turn_member own s p k log h in
+          let e = made own (heard_by own.limits.first log) log s m in
+          let of = sent_is_of own (heard_by own.limits.first log) log s e in
+          rw o.is (opt_names own.life (wants_raw (known_word e.before s.to)) s.req.cq_data s.message.tag s.message.opt of.2))
+      | inr a ↦ rw a.is (eq-eqb own.life.connid.0 own.life.connid.0 refl)
+    ]
+
+new_names : (own : Own) (heads : Heads) (sents : List Sent) (d : Deed) (before : List Deed) (r : Reply) → NewReply own heads sents d before r → is_malformed own.life r.item ≡ false
+unfolding is_malformed names_source
+new_names own heads sents d before r (inl n) = rw n.is (not_from_true (own.life.connid.0 == own.life.connid.0) (eq-eqb own.life.connid.0 own.life.connid.0 refl))
+new_names own heads sents d before r (inr (inl n)) = rw n.is refl
+new_names own heads sents d before r (inr (inr (inl n))) = rw n.is (not_from_true (own.life.connid.0 == own.life.connid.0) (eq-eqb own.life.connid.0 own.life.connid.0 refl))
+new_names own heads sents d before r (inr (inr (inr (inl n)))) = rw n.is (not_from_true (own.life.connid.0 == own.life.connid.0) (eq-eqb own.life.connid.0 own.life.connid.0 refl))
+new_names own heads sents d before r (inr (inr (inr (inr n)))) = rw n.is refl
+
+-- a reply names its life
+owed_names : (own : Own) (ms : Messages) (r : Reply) (log : List Deed) → OwedIn own ms r log → is_malformed own.life r.item ≡ false
+owed_names own ms r [] h = elim h [ ]
+owed_names own ms r (d ∷ before) (inl n) = new_names own ms.head (sends own ms before) d before r n
+owed_names own ms r (d ∷ before) (inr h) = owed_names own ms r before h
+
+malformed_sent : (l : Life) (p : Packet) (item : Item) → Spelled p ≡ item → names_source l p ≡ true → is_malformed l item ≡ false
+unfolding is_malformed
+malformed_sent l p item e h = rw (← e) (not_from_true (names_source l p) h)
+
+-- what was pushed is not malformed
+pub well_formed : (job : Job) (history : List Entry) (to from : Life) (item : Item) (d : Datagram) → TakenTurn job history to from item d → is_malformed from item ≡ false
+unfolding own_of
+well_formed job history to from item d t =
+    elim (went job history to from item d t) [
+      | inl s ↦ malformed_sent from s.packet item s.is (sent_names (own_of job from) s.sent s.packet t.place (life_deeds job history from) s.turned)
+      | inr r ↦ ap (λ (x : Item). is_malformed from x) (sym r.is) ∙ owed_names (own_of job from) (heard_by (own_of job from).limits.first (life_deeds job history from)) r.reply (life_deeds job history from) r.owed
+    ]
+
+known_now : (peer : Life) (d : Deed) (word : ℕ) → known_by peer d ≡ Some word → (item : Item) × (d ≡ Took peer item)
+unfolding known_by
+known_now peer (Took from (Spelled (Handshake words connid))) word h =
+    (elim (same_life from peer) as (λ b. same_life from peer ≡ b → cond b (slice_get words 0) None ≡ Some word → (item : Item) × (Took from (Spelled (Handshake words connid)) ≡ Took peer item)) [
+      | true ↦ λ t k. (Spelled (Handshake words connid), ap (λ (x : Life). Took x (Spelled (Handshake words connid))) (same_life-true from peer t))
+      | false ↦ λ t k. cc
+    ]) refl h
+known_now peer _ word h = cc
+
+-- a handshake was taken from a life of which something is known
+known_taken : (log : List Deed) (peer : Life) (word : ℕ) → known_word log peer ≡ Some word → (item : Item) × Member (Took peer item) log
+unfolding known_word
+known_taken [] peer word h = cc
+known_taken (d ∷ before) peer word h =
+    elim (or_else_cases (known_word before peer) (known_by peer d) word h) [
+      | inl a ↦ (let r = known_taken before peer word a in (r.0, inr r.1))
+      | inr a ↦ (let r = known_now peer d word a.1 in (r.0, inl r.1))
+    ]
