@@ -51,7 +51,7 @@ pub record HeadTaken (log : List Deed) (source : Life) (n : ℕ) (h : Head) : Ty
   pub number_is : number.0 ≡ n
   pub head_is : head_of tag opt form ≡ h
 
-then_parts : {A : Type 0} (b : Bool) (x y : A) → then_some b x ≡ Some y → (b ≡ true) × (x ≡ y)
+pub then_parts : {A : Type 0} (b : Bool) (x y : A) → then_some b x ≡ Some y → (b ≡ true) × (x ≡ y)
 then_parts true x y h = (refl, cc)
 then_parts false x y h = cc
 

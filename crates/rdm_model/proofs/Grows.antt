@@ -57,7 +57,7 @@ pub carried_more : (first : ℕ) (heads : Heads) (d : Deed) (before : List Deed)
 unfolding carried_pieces
 carried_more first heads d before source n place b h = byte_at_more (carried_pieces first heads before source n) _ place b h
 
-filled_heard : (first : ℕ) (heads : Heads) (log : List Deed) (p : Pair) → is_filled first heads log p ≡ true
+pub filled_heard : (first : ℕ) (heads : Heads) (log : List Deed) (p : Pair) → is_filled first heads log p ≡ true
     → (h : Head) × (heard_head log p.message.life p.message.no.0 ≡ Some h)
 unfolding is_filled
 filled_heard first heads log p is =
