@@ -47,7 +47,7 @@ pub record Numbered (bound : ℕ) (m : Matching) : Type 0 where
   pub gone : (p : Pair) (w : PostedRecv) → Member p m.pairs → Member w m.posted → p.recv.id.0 ≡ w.id.0 → ⊥
   pub once : (p q : Pair) → Member p m.pairs → Member q m.pairs → p.recv.id.0 ≡ q.recv.id.0 → p ≡ q
 
-lacks_member : (n : ℕ) (w : PostedRecv) (ws : List PostedRecv) → Lacks n ws → Member w ws → w.id.0 ≡ n → ⊥
+pub lacks_member : (n : ℕ) (w : PostedRecv) (ws : List PostedRecv) → Lacks n ws → Member w ws → w.id.0 ≡ n → ⊥
 lacks_member n w [] l h e = elim h [ ]
 lacks_member n w (v ∷ ws) l (inl a) e = l.0 (ap (λ (x : PostedRecv). x.id.0) a ∙ e)
 lacks_member n w (v ∷ ws) l (inr a) e = lacks_member n w ws l.1 a e
@@ -74,7 +74,7 @@ apart_filter t [] l = tt
 apart_filter t (w ∷ ws) l =
     elim (t w) as (λ b. Apart (cond b (w ∷ filter t ws) (filter t ws))) [ true ↦ (lacks_filter t w.id.0 ws l.0, apart_filter t ws l.1) | false ↦ apart_filter t ws l.1 ]
 
-first_lacks : (t : PostedRecv → Bool) (w : PostedRecv) (ws : List PostedRecv) → Apart ws → find t ws ≡ Some w → Lacks w.id.0 (without_first t ws)
+pub first_lacks : (t : PostedRecv → Bool) (w : PostedRecv) (ws : List PostedRecv) → Apart ws → find t ws ≡ Some w → Lacks w.id.0 (without_first t ws)
 unfolding without_first
 first_lacks t w [] l h = tt
 first_lacks t w (v ∷ ws) l h =

@@ -75,7 +75,8 @@ pub record IsAccepted (log : List Deed) (p : PostedRecv) : Type 0 where
   pub accepted : Member recv (receives log)
   pub posted_is : recv.posted ≡ p
 
-receives_more : (d : Deed) (before : List Deed) (r : Receive) → Member r (receives before) → Member r (receives (d ∷ before))
+-- accepted receives stay
+pub receives_more : (d : Deed) (before : List Deed) (r : Receive) → Member r (receives before) → Member r (receives (d ∷ before))
 unfolding receives with_received
 receives_more d before r h = member-append_left r (receives before) _ h
 
