@@ -205,7 +205,7 @@ handle_step ports own port_log log d (Between from to load) (TookAnswer entered)
 handle_step ports own port_log log d (Note note) (TookAnswer entered) b h = tt
 handle_step ports own port_log log d _ _ b h = tt
 
-life_step : (job : Job) (port : ℕ) (connid : Connid) (ports : ℕ) (port_log log : List Deed) (before : List Entry) (e : Entry) (act : Act) → e.port.0 ≡ port
+pub life_step : (job : Job) (port : ℕ) (connid : Connid) (ports : ℕ) (port_log log : List Deed) (before : List Entry) (e : Entry) (act : Act) → e.port.0 ≡ port
     → Does job class_of (life_scene ports (own_of job (life_of port connid)) port_log log) before e act
     → LifeStep (own_of job (life_of port connid)) log (deed_of (rank_of job port).ops act)
 unfolding deed_of

@@ -90,7 +90,7 @@ push_took (Note note) from item h = cc
 push_took (Between f to load) from item h = cc
 
 -- a deed that takes is the handling of a datagram
-act_took : (ops : List Instr) (act : Act) (from : Life) (item : Item) → deed_of ops act ≡ Took from item
+pub act_took : (ops : List Instr) (act : Act) (from : Life) (item : Item) → deed_of ops act ≡ Took from item
     → (d : Datagram) × (entered : Option Entered) × (to : Connid) × (act ≡ Handle d (TookAnswer entered)) × TakenAs from to item d
 unfolding deed_of
 act_took ops (Next index op answer) from item h = absurd (next_took (slice_get ops index) answer from item h)
@@ -111,7 +111,7 @@ act_took ops (Handle d answer) from item h =
 act_took ops (Poll c) from item h = cc
 
 -- what a life takes names it
-took_to : (s : Scene) (d : Datagram) (f to : Connid) (load : Load) (entered : Option Entered) → TookAnswer entered ≡ handled_answer class_of s d → d.body ≡ Between f to load
+pub took_to : (s : Scene) (d : Datagram) (f to : Connid) (load : Load) (entered : Option Entered) → TookAnswer entered ≡ handled_answer class_of s d → d.body ≡ Between f to load
     → is_connid s.now to ≡ true
 unfolding handled_answer class_of body_class
 took_to s d f to load entered h b =
@@ -129,7 +129,7 @@ unfolding own_of
 taken_named job port c to from item d t is =
     record { load = t.load; src_is = t.src_is; body_is = t.body_is ∙ ap (λ x. Between from.connid x t.load) (sym (own_connid c to is)); item_is = t.item_is }
 
-taken_to : (job : Job) (port : ℕ) (c to : Connid) (from : Life) (item : Item) (e : Entry) (before : List Entry) (d : Datagram) (entered : Option Entered)
+pub taken_to : (job : Job) (port : ℕ) (c to : Connid) (from : Life) (item : Item) (e : Entry) (before : List Entry) (d : Datagram) (entered : Option Entered)
     → open_life (deeds_at job port before) ≡ Some c → Does job class_of (own_scene job port (deeds_at job port before)) before e e.act
     → e.act ≡ Handle d (TookAnswer entered) → TakenAs from to item d → TakenAs from c item d
 taken_to job port c to from item e before d entered now h a t =
