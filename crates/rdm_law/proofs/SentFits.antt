@@ -152,7 +152,7 @@ pub record DeedsFit (ports first : ℕ) (log : List Deed) : Type 0 where
   pub numbers : AllNumbersFit first log
   pub count : did_count log < 4294967296
 
-deeds_fit_before : (ports first : ℕ) (d : Deed) (before : List Deed) → DeedsFit ports first (d ∷ before) → DeedsFit ports first before
+pub deeds_fit_before : (ports first : ℕ) (d : Deed) (before : List Deed) → DeedsFit ports first (d ∷ before) → DeedsFit ports first before
 unfolding deed_count
 deeds_fit_before ports first d before fit = record { did = fit.did.0; ranges = fit.ranges.0; numbers = fit.numbers.0; count = (let c = fit.count in omega arith) }
 

@@ -116,7 +116,7 @@ data_bytes recv offset connid bytes h =
     let e = (and_parts (field_fits (Number 4 connid.0)) _ d).1 in
     (and_parts (field_fits (Data bytes)) true e).0
 
-some_then : {A : Type 0} (b : Bool) (x y : A) → then_some b x ≡ Some y → x ≡ y
+pub some_then : {A : Type 0} (b : Bool) (x y : A) → then_some b x ≡ Some y → x ≡ y
 some_then true x y h = cc
 some_then false x y h = cc
 
