@@ -120,7 +120,7 @@ unfolding sends_to messages_to
 sends_to_lives [] to = refl
 sends_to_lives (s ∷ sents) to =
     (elim (same_life s.to to) as (λ b. length (cond b (s ∷ filter (λ (x : Sent). same_life x.to to) sents) (filter (λ (x : Sent). same_life x.to to) sents))
-      ≡ length (cond b (s.to ∷ filter (λ l. same_life l to) (map (λ (x : Sent). x.to) sents)) (filter (λ l. same_life l to) (map (λ (x : Sent). x.to) sents)))) [
+    ≡ length (cond b (s.to ∷ filter (λ l. same_life l to) (map (λ (x : Sent). x.to) sents)) (filter (λ l. same_life l to) (map (λ (x : Sent). x.to) sents)))) [
       | true ↦ ap suc (sends_to_lives sents to)
       | false ↦ sends_to_lives sents to
     ])

@@ -35,7 +35,7 @@ use Rattle.rdm_law.proofs.Pieces.{PieceOf, item_piece}
 use Rattle.rdm_law.proofs.Sent.{SendsAre, brought_piece, known_placed, agree_sent}
 
 -- bytes that the deed of an entry takes are a part of what was sent, and apart from those that came
-abbrev CarriesAt : Job → Life → Messages → List Deed → Deed → Type 0
+abbrev pub CarriesAt : Job → Life → Messages → List Deed → Deed → Type 0
 CarriesAt job life' ns log d =
     (source : Life) (n : ℕ) (x : Piece) → carried_by (pairs (own_of job life').limits.first ns.head log) source n d ≡ Some x
     → IsPartOf x (ns.bytes source n) × IsApart x (carried_pieces (own_of job life').limits.first ns.head log source n)
@@ -52,7 +52,7 @@ taken_turn job before e c source item played comes now does is =
     let came : Comes before e (Handle r.0 (TookAnswer r.1)) = subst C r.3 comes in
     (r.0, pushed_taken job before (life_of e.port.0 c) source item r.0 played t (ap (λ (p : PortNo). p.0) came.0) came.1)
 
-carries_open : (job : Job) (before : List Entry) (e : Entry) (c : Connid) → Played job before → SendsAre job before → Comes before e e.act
+pub carries_open : (job : Job) (before : List Entry) (e : Entry) (c : Connid) → Played job before → SendsAre job before → Comes before e e.act
     → open_life (deeds_at job e.port.0 (log_of e.port.0 before)) ≡ Some c
     → Does job class_of (own_scene job e.port.0 (deeds_at job e.port.0 (log_of e.port.0 before))) (log_of e.port.0 before) e e.act
     → LifeStep (own_of job (life_of e.port.0 c)) (life_deeds job before (life_of e.port.0 c)) (deed_of (rank_of job e.port.0).ops e.act)

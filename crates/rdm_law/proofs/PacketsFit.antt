@@ -68,8 +68,8 @@ unfolding packet_fits layout
 cts_fits send recv size connid a b c d e =
     fits_from (Cts send recv size connid) (le-leb 1 size (omega arith))
     (let fs : List Field = Number 4 send.0 ∷ Number 4 recv.0 ∷ Number 8 size ∷ Number 4 connid.0 ∷ [] in
-      all_append field_fits (head_fields 3 32768) fs (head_fits 3 32768 (omega arith) (omega arith))
-      (all_fields fs (word_field send.0 a, (word_field recv.0 b, (long_field size d, (word_field connid.0 e, tt))))))
+    all_append field_fits (head_fields 3 32768) fs (head_fits 3 32768 (omega arith) (omega arith))
+    (all_fields fs (word_field send.0 a, (word_field recv.0 b, (long_field size d, (word_field connid.0 e, tt))))))
 
 -- an end
 pub eor_fits : (send recv : OpId) (connid : Connid) → send.0 < 4294967296 → recv.0 < 4294967296 → connid.0 < 4294967296 → fits (Eor send recv connid) ≡ true
@@ -77,8 +77,8 @@ unfolding packet_fits layout
 eor_fits send recv connid a b c =
     fits_from (Eor send recv connid) refl
     (let fs : List Field = Number 4 send.0 ∷ Number 4 recv.0 ∷ Number 4 connid.0 ∷ [] in
-      all_append field_fits (head_fields 7 32768) fs (head_fits 7 32768 (omega arith) (omega arith))
-      (all_fields fs (word_field send.0 a, (word_field recv.0 b, (word_field connid.0 c, tt)))))
+    all_append field_fits (head_fields 7 32768) fs (head_fits 7 32768 (omega arith) (omega arith))
+    (all_fields fs (word_field send.0 a, (word_field recv.0 b, (word_field connid.0 c, tt)))))
 
 -- granted bytes
 pub data_fits : (recv : OpId) (offset : ℕ) (connid : Connid) (bytes : List ℕ) → recv.0 < 4294967296 → 0 < length bytes → offset + length bytes < 18446744073709551616
@@ -88,8 +88,8 @@ data_fits recv offset connid bytes a b c d e =
     fits_from (CtsData recv offset connid bytes)
     (and_from (nat_le 1 (length bytes)) _ (le-leb 1 (length bytes) (omega arith)) (lt-ltb (offset + length bytes) 18446744073709551616 c))
     (let fs : List Field = Number 4 recv.0 ∷ Number 8 (length bytes) ∷ Number 8 offset ∷ Number 4 connid.0 ∷ Data bytes ∷ [] in
-      all_append field_fits (head_fields 4 32768) fs (head_fits 4 32768 (omega arith) (omega arith))
-      (all_fields fs (word_field recv.0 a, (long_field (length bytes) (omega arith), (long_field offset (omega arith), (word_field connid.0 d, (data_field bytes e, tt)))))))
+    all_append field_fits (head_fields 4 32768) fs (head_fits 4 32768 (omega arith) (omega arith))
+    (all_fields fs (word_field recv.0 a, (long_field (length bytes) (omega arith), (long_field offset (omega arith), (word_field connid.0 d, (data_field bytes e, tt)))))))
 
 -- features
 pub handshake_fits : (features : ℕ) (connid : Connid) → features < 18446744073709551616 → connid.0 < 4294967296 → fits (Handshake (features ∷ []) connid) ≡ true
@@ -97,9 +97,9 @@ unfolding packet_fits layout
 handshake_fits features connid a b =
     fits_from (Handshake (features ∷ []) connid) refl
     (all_append field_fits (head_fields 9 32768 ++ Number 4 4 ∷ Number 8 features ∷ []) (Number 4 connid.0 ∷ [])
-      (all_append field_fits (head_fields 9 32768) (Number 4 4 ∷ Number 8 features ∷ []) (head_fits 9 32768 (omega arith) (omega arith))
-        (all_fields (Number 4 4 ∷ Number 8 features ∷ []) (word_field 4 (omega arith), (long_field features a, tt))))
-      (all_fields (Number 4 connid.0 ∷ []) (word_field connid.0 b, tt)))
+    (all_append field_fits (head_fields 9 32768) (Number 4 4 ∷ Number 8 features ∷ []) (head_fits 9 32768 (omega arith) (omega arith))
+    (all_fields (Number 4 4 ∷ Number 8 features ∷ []) (word_field 4 (omega arith), (long_field features a, tt))))
+    (all_fields (Number 4 connid.0 ∷ []) (word_field connid.0 b, tt)))
 
 kind_small : (form : Form) → type_of form ≤ 192
 unfolding type_of
@@ -141,16 +141,16 @@ pub headers_fit : (life : Life) (raw : Bool) (cq_data : Option ℕ) → life.por
     → HeadersFit (opt_for life raw cq_data)
 unfolding opt_for opt_fits opt_fields raw_fields connid_fields field_fits
 headers_fit life true cq_data a b h = record {
-    one = refl;
-    fields = all_append field_fits (raw_fields (Some (life.port.0, life.connid.0)) ++ cq_data_fields cq_data) []
+  one = refl;
+  fields = all_append field_fits (raw_fields (Some (life.port.0, life.connid.0)) ++ cq_data_fields cq_data) []
       (all_append field_fits (raw_fields (Some (life.port.0, life.connid.0))) (cq_data_fields cq_data)
-        (all_fields (raw_fields (Some (life.port.0, life.connid.0))) (refl, (word_field life.port.0 a, (refl, (refl, (refl, (word_field life.connid.0 b, (refl, tt))))))))
-        (cq_data_fits cq_data h)) refl;
-  }
+      (all_fields (raw_fields (Some (life.port.0, life.connid.0))) (refl, (word_field life.port.0 a, (refl, (refl, (refl, (word_field life.connid.0 b, (refl, tt))))))))
+      (cq_data_fits cq_data h)) refl;
+}
 headers_fit life false cq_data a b h = record {
-    one = refl;
-    fields = all_append field_fits (cq_data_fields cq_data) (Number 4 life.connid.0 ∷ []) (cq_data_fits cq_data h) (all_fields (Number 4 life.connid.0 ∷ []) (word_field life.connid.0 b, tt));
-  }
+  one = refl;
+  fields = all_append field_fits (cq_data_fields cq_data) (Number 4 life.connid.0 ∷ []) (cq_data_fits cq_data h) (all_fields (Number 4 life.connid.0 ∷ []) (word_field life.connid.0 b, tt));
+}
 
 -- a packet that opens a message
 pub rtm_from : (number : MsgNo) (tag : Option ℕ) (opt : Opt) (form : Form) → number.0 < 4294967296 → option_fits tag ≡ true → HeadersFit opt → form_fits form ≡ true
@@ -163,9 +163,9 @@ rtm_from number tag opt form a t o f h l =
     let small : kind < 256 = (let x = kind_small form in let y = cond_below (is_some tag) 1 0 1 (omega arith) (omega arith) in omega arith) in
     fits_from (Rtm number tag opt form) (and_from (opt_fits opt) (form_fits form) o.one f)
     (all_append field_fits (front ++ tag_fields tag ++ opt_fields opt) (last_fields form)
-      (all_append field_fits (front ++ tag_fields tag) (opt_fields opt)
-        (all_append field_fits front (tag_fields tag)
-          (all_append field_fits head (Number 4 number.0 ∷ form_fields form) (head_fits kind (rtm_flags tag opt) small (flags_small tag opt))
-            (and_from (field_fits (Number 4 number.0)) (list_all field_fits (form_fields form)) (word_field number.0 a) h))
-          (tag_fits tag t))
-        o.fields) l)
+    (all_append field_fits (front ++ tag_fields tag) (opt_fields opt)
+    (all_append field_fits front (tag_fields tag)
+    (all_append field_fits head (Number 4 number.0 ∷ form_fields form) (head_fits kind (rtm_flags tag opt) small (flags_small tag opt))
+    (and_from (field_fits (Number 4 number.0)) (list_all field_fits (form_fields form)) (word_field number.0 a) h))
+    (tag_fits tag t))
+    o.fields) l)

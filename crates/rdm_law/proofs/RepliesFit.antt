@@ -149,7 +149,7 @@ new_reply_fits ports own ms d before r o h k fit (inr (inr (inl new))) =
     let p = new.pair in
     let size = window own.limits ms.head (d ∷ before) p (granted_bytes own.limits ms.head before p) in
     let shape : ShapeFits (S.LongCts new.send new.credits) (ms.head p.message.life p.message.no.0).length =
-        subst (λ (x : Shape). ShapeFits x (ms.head p.message.life p.message.no.0).length) new.shape_is (k p.message.life p.message.no.0) in
+    subst (λ (x : Shape). ShapeFits x (ms.head p.message.life p.message.no.0).length) new.shape_is (k p.message.life p.message.no.0) in
     let bound = window_bound own.limits ms.head (d ∷ before) p (granted_bytes own.limits ms.head before p) in
     let short = shape.1 in
     subst CanGo (sym new.is) (cts_fits new.send (recv_in p) size own.life.connid shape.0 (pair_recv ports own ms.head (d ∷ before) p fit new.member) new.has_byte (omega arith) o.connid)

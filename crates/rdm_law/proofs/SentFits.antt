@@ -128,22 +128,22 @@ made_fits : (own : Own) (before : List Deed) (count messages : ℕ) (req : SendR
     → SentFits own (new_sent own before count messages req to bytes)
 unfolding new_sent
 made_fits own before count messages req to bytes below within fit bs size ends = record {
-    number = below;
-    no = within;
-    send_is = refl;
-    tag_is = refl;
-    tag = fit.tag;
-    cq_data = fit.cq_data;
-    raw = wants_raw (known_word before to);
-    known = known_word before to;
-    opt_is = refl;
-    kind_is = refl;
-    iov_is = refl;
-    bytes = bs;
-    size = size;
-    ends = ends;
-    key = fit.key;
-  }
+  number = below;
+  no = within;
+  send_is = refl;
+  tag_is = refl;
+  tag = fit.tag;
+  cq_data = fit.cq_data;
+  raw = wants_raw (known_word before to);
+  known = known_word before to;
+  opt_is = refl;
+  kind_is = refl;
+  iov_is = refl;
+  bytes = bs;
+  size = size;
+  ends = ends;
+  key = fit.key;
+}
 
 -- each deed of a life fits: what did, what was taken, the ranges and the numbers
 pub record DeedsFit (ports first : ℕ) (log : List Deed) : Type 0 where
@@ -164,15 +164,15 @@ new_fits ports own ms d before s h fit n =
     let now : P (Did (Send n.req)) = subst P n.by (fit.did.1, fit.ranges.1, fit.numbers.1) in
     let rs = regions own.limits.first ms before in
     let range : n.req.at + n.req.len ≤ length (get_or rs n.req.region.0 []) =
-        (let a = now.1 in let b = region_size own.limits.first ms before n.req.region.0 was.ranges in omega arith) in
+    (let a = now.1 in let b = region_size own.limits.first ms before n.req.region.0 was.ranges in omega arith) in
     let bytes = range_of rs n.req.region.0 n.req.at n.req.len in
     let within : own.limits.first + length (sends_to (sends own ms before) n.to) < 4294967296 =
-        (let a = now.2 n.to n.current in let b = sends_to_count own ms before n.to in omega arith) in
+    (let a = now.2 n.to n.current in let b = sends_to_count own ms before n.to in omega arith) in
     let below : length (sends own ms before) < 4294967296 = (let a = sends_count own ms before in let b = was.count in omega arith) in
     let ends : n.req.at + n.req.len ≤ len_max = (let a = now.1 in let b = size_bound ports before n.req.region.0 was.did in omega arith) in
     subst (SentFits own) (sym n.is)
     (made_fits own before (length (sends own ms before)) (length (sends_to (sends own ms before) n.to)) n.req n.to bytes below within (request_fits ports n.req now.0)
-      (range_bytes rs n.req.region.0 n.req.at n.req.len (regions_fit ports own.limits.first ms before h was.did)) (range_length rs n.req.region.0 n.req.at n.req.len range) ends)
+    (range_bytes rs n.req.region.0 n.req.at n.req.len (regions_fit ports own.limits.first ms before h was.did)) (range_length rs n.req.region.0 n.req.at n.req.len range) ends)
 
 -- each send fits, by any account of messages of bytes
 pub sent_fits : (ports : ℕ) (own : Own) (ms : Messages) (log : List Deed) → MessagesFit ms → DeedsFit ports own.limits.first log

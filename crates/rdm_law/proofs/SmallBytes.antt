@@ -204,4 +204,4 @@ bytes_by_fit first log source n fit =
     let places = below (heads_by log source n).length in
     list_all-map (λ b. nat_lt b 256) f places
     ∙ all_always (λ place. nat_lt (f place) 256) places
-      (λ place. byte_or_zero (byte_at ps place) (λ b h. byte_at_fits ps place b (carried_pieces_fit first (heads_by log) log source n fit) h))
+    (λ place. byte_or_zero (byte_at ps place) (λ b h. byte_at_fits ps place b (carried_pieces_fit first (heads_by log) log source n fit) h))
