@@ -1,5 +1,5 @@
 -- Which send a grant, an ask or granted bytes are for.
-use Rattle.std.proofs.Common.{◌≡◌, ℕ, ◌+◌, ◌≤◌, true, List, length, Some, refl, arith, inl, inr, sym, ◌∙◌, ap, subst}
+use Rattle.std.proofs.Common.{◌≡◌, ℕ, ◌+◌, ◌<◌, ◌≤◌, true, List, length, Some, refl, arith, inl, inr, sym, ◌∙◌, ap, subst}
 use Rattle.rdm_num.specs.Lists.{Member}
 use Rattle.rdm_num.specs.Lives.{op_id}
 use Rattle.rdm_num.specs.declared.numbers.Life.{Life}
@@ -26,7 +26,7 @@ use Rattle.rdm_model.specs.Matches.{pairs}
 use Rattle.rdm_model.specs.Sends.{Sent}
 use Rattle.rdm_model.specs.Replies.{asks_for}
 use Rattle.rdm_model.specs.Turns.{Sends, is_read}
-use Rattle.rdm_model.specs.Named.{read_from}
+use Rattle.rdm_model.specs.Named.{read_from, is_in_iov}
 use Rattle.rdm_model.specs.Local.{heard_by}
 use Rattle.rdm_model.specs.Lawful.{life_deeds}
 use Rattle.rdm_model.proofs.Matches.{pair_heard}
@@ -144,6 +144,8 @@ pub record AskOf (m : Message) (kind : Kind) (a : ReadAsk) : Type 0 where
   pub read : is_read kind ≡ true
   pub from : read_from kind ≤ a.at
   pub to : a.at + a.length ≤ iov_bytes m.iov
+  pub has_byte : 0 < a.length
+  pub listed : is_in_iov a 0 m.iov ≡ true
 
 pub ask_of : (limits : EpLimits) (m : Message) (kind : Kind) (recv : OpId) (a : ReadAsk) → Member a (asks_for (shape_by limits m kind) recv) → AskOf m kind a
 unfolding shape_by asks_for read_from is_read
@@ -151,15 +153,17 @@ ask_of limits m Eager recv a h = elim h [ ]
 ask_of limits m Medium recv a h = elim h [ ]
 ask_of limits m LongCts recv a h = elim h [ ]
 ask_of limits m LongRead recv a h =
-    let p = (asks_from_parts m.send recv m.iov 0 0 a h).0 in
+    let q = asks_from_parts m.send recv m.iov 0 0 a h in
+    let p = q.0 in
     let f = p.from in
     let t = p.to in
-    record { send_is = p.send_is; read = refl; from = omega arith; to = omega arith }
+    record { send_is = p.send_is; read = refl; from = omega arith; to = omega arith; has_byte = p.has_byte; listed = q.1 }
 ask_of limits m (Runt runt) recv a h =
-    let p = (asks_from_parts m.send recv m.iov 0 runt a h).0 in
+    let q = asks_from_parts m.send recv m.iov 0 runt a h in
+    let p = q.0 in
     let f = p.from in
     let t = p.to in
-    record { send_is = p.send_is; read = refl; from = omega arith; to = omega arith }
+    record { send_is = p.send_is; read = refl; from = omega arith; to = omega arith; has_byte = p.has_byte; listed = q.1 }
 
 -- the number of a send is the one that its packets carry
 pub send_number : (job : Job) (history : List Entry) (j : Life) (s : Sent) → Member s (sends_of job history j) → s.message.send ≡ op_id s.number
