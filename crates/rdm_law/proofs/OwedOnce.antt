@@ -38,12 +38,19 @@ unique_unless : {A : Type 0} (K : A → A → Type 0) (b : Bool) (xs : List A) �
 unique_unless K true xs u = unique_none K
 unique_unless K false xs u = u
 
-shakes_unique : (own : Own) (before : List Deed) (d : Deed) → Unique Clash (handshake_by own before d)
+-- a relation by which a deed makes no two replies owed: it tells their kinds, the receives of pairs, and the bytes of asks
+pub record Telling (K : Reply → Reply → Type 0) : Type 0 where
+  pub back : (r s : Reply) → K r s → K s r
+  pub kinds : (r s : Reply) → K r s → kind_of r.item ≡ kind_of s.item
+  pub recvs : (r s : Reply) → K r s → (kind_of r.item ≡ AsksBytes) ⊎ ((kind_of r.item ≡ Grants) ⊎ (kind_of r.item ≡ Ends)) → recv_of r.item ≡ recv_of s.item
+  pub asks : (to : Life) (a b : ReadAsk) → K (reply to (Asks a)) (reply to (Asks b)) → AsksShare a b
+
+shakes_unique : (K : Reply → Reply → Type 0) (own : Own) (before : List Deed) (d : Deed) → Unique K (handshake_by own before d)
 unfolding handshake_by
-shakes_unique own before (Took from item) =
-    unique_unless Clash (list_any (is_from from) before) (reply from (Spelled (Handshake (own.features ∷ []) own.life.connid)) ∷ [])
-    (unique_one Clash (reply from (Spelled (Handshake (own.features ∷ []) own.life.connid))))
-shakes_unique own before _ = unique_none Clash
+shakes_unique K own before (Took from item) =
+    unique_unless K (list_any (is_from from) before) (reply from (Spelled (Handshake (own.features ∷ []) own.life.connid)) ∷ [])
+    (unique_one K (reply from (Spelled (Handshake (own.features ∷ []) own.life.connid))))
+shakes_unique K own before _ = unique_none K
 
 grants_unique : (K : Item → Item → Type 0) (own : Own) (shape : Shape) (recv : OpId) (size : ℕ) → Unique K (grant_for own shape recv size)
 unfolding grant_for
@@ -62,36 +69,24 @@ ends_unique K own Eager recv = unique_none K
 ends_unique K own Medium recv = unique_none K
 ends_unique K own (LongCts send credits) recv = unique_none K
 
-given_of_unique : (from : Life) (ask : ReadAsk) (o : Option Sent) → Unique Clash (given_of from ask o)
+given_of_unique : (K : Reply → Reply → Type 0) (from : Life) (ask : ReadAsk) (o : Option Sent) → Unique K (given_of from ask o)
 unfolding given_of
-given_of_unique from ask None = unique_none Clash
-given_of_unique from ask (Some s) = unique_one Clash _
+given_of_unique K from ask None = unique_none K
+given_of_unique K from ask (Some s) = unique_one K _
 
-given_unique : (sents : List Sent) (d : Deed) → Unique Clash (given_by sents d)
+given_unique : (K : Reply → Reply → Type 0) (sents : List Sent) (d : Deed) → Unique K (given_by sents d)
 unfolding given_by
-given_unique sents (Took from (Asks ask)) = given_of_unique from ask (find (λ (s : Sent). same_life s.to from && s.number == ask.send_id.0) sents)
-given_unique sents _ = unique_none Clash
-
--- items to one life that clash
-abbrev ItemsClash : Life → Item → Item → Type 0
-ItemsClash to x y = Clash (reply to x) (reply to y)
-
-asks_share : (to : Life) (a b : ReadAsk) → ItemsClash to (Asks a) (Asks b) → AsksShare a b
-asks_share to a b (inl c) = (let e = c.is in cc)
-asks_share to a b (inr (inl c)) =
-    let e : c.ask ≡ a = (let f = c.is in cc) in
-    let g : c.ask' ≡ b = (let f = c.is' in cc) in
-    subst (λ (x : ReadAsk). AsksShare x b) e (subst (λ (x : ReadAsk). AsksShare c.ask x) g c.share)
-asks_share to a b (inr (inr (inl c))) = (let e = c.is in cc)
-asks_share to a b (inr (inr (inr c))) = (let e = c.is in cc)
+given_unique K sents (Took from (Asks ask)) = given_of_unique K from ask (find (λ (s : Sent). same_life s.to from && s.number == ask.send_id.0) sents)
+given_unique K sents _ = unique_none K
 
 asks_kind : (as' : List ReadAsk) (x : Item) → Member x (map Asks as') → kind_of x ≡ AsksBytes
 unfolding kind_of
 asks_kind as' x h = let m = member-map Asks x as' h in sym (ap kind_of m.2)
 
-items_unique : (own : Own) (heads : Heads) (d : Deed) (before : List Deed) (p : Pair) (to : Life) → Unique (ItemsClash to) (pair_items own heads d before p)
+items_unique : (L : Reply → Reply → Type 0) → Telling L → (own : Own) (heads : Heads) (d : Deed) (before : List Deed) (p : Pair) (to : Life)
+    → Unique (λ x y. L (reply to x) (reply to y)) (pair_items own heads d before p)
 unfolding pair_items kind_of
-items_unique own heads d before p to =
+items_unique L t own heads d before p to =
     let is_new : Bool = not (is_pair (pairs own.limits.first heads before) p.recv.id.0 p.message.life p.message.no.0) in
     let is_over : Bool = is_filled own.limits.first heads (d ∷ before) p && not (is_filled own.limits.first heads before p) in
     let size = window own.limits heads (d ∷ before) p (granted_bytes own.limits heads before p) in
@@ -99,25 +94,26 @@ items_unique own heads d before p to =
     let asks = cond is_new (map Asks as') [] in
     let grants = grant_for own (shape_in heads p) (recv_in p) size in
     let ends = end_for own (shape_in heads p) (recv_in p) in
-    let K : Item → Item → Type 0 = ItemsClash to in
+    let K : Item → Item → Type 0 = λ x y. L (reply to x) (reply to y) in
     let ask_kind : (x : Item) → Member x asks → kind_of x ≡ AsksBytes = λ x h. asks_kind as' x (cond_member is_new (map Asks as') x h).1 in
     let grant_kind : (x : Item) → Member x grants → kind_of x ≡ Grants = λ x h. ap kind_of (grant_from own (shape_in heads p) (recv_in p) size x h).4 in
     let end_kind : (x : Item) → Member x (cond is_over ends []) → kind_of x ≡ Ends = λ x h. ap kind_of (end_from own (shape_in heads p) (recv_in p) x (cond_member is_over ends x h).1).2 in
-    unique_append K (λ x y c. clash_back (reply to x) (reply to y) c) (asks ++ grants) (cond is_over ends [])
-    (unique_append K (λ x y c. clash_back (reply to x) (reply to y) c) asks grants
-    (unique_cond K is_new (map Asks as') (unique_map AsksShare K Asks as' (asks_for_unique (shape_in heads p) (recv_in p)) (asks_share to)))
+    unique_append K (λ x y c. t.back (reply to x) (reply to y) c) (asks ++ grants) (cond is_over ends [])
+    (unique_append K (λ x y c. t.back (reply to x) (reply to y) c) asks grants
+    (unique_cond K is_new (map Asks as') (unique_map AsksShare K Asks as' (asks_for_unique (shape_in heads p) (recv_in p)) (t.asks to)))
     (grants_unique K own (shape_in heads p) (recv_in p) size)
-    (λ x y h k c. let e = (clash_kind (reply to x) (reply to y) c).0 in let f = ask_kind x h in let g = grant_kind y k in cc))
+    (λ x y h k c. let e = t.kinds (reply to x) (reply to y) c in let f = ask_kind x h in let g = grant_kind y k in cc))
     (unique_cond K is_over ends (ends_unique K own (shape_in heads p) (recv_in p)))
     (λ x y h k c.
-    let e = (clash_kind (reply to x) (reply to y) c).0 in
+    let e = t.kinds (reply to x) (reply to y) c in
     let g = end_kind y k in
     elim (member-append_cases x asks grants h) [ inl m ↦ (let f = ask_kind x m in cc) | inr m ↦ (let f = grant_kind x m in cc) ])
 
-pair_unique : (own : Own) (heads : Heads) (d : Deed) (before : List Deed) (p : Pair) → Unique Clash (pair_replies own heads d before p)
+pair_unique : (K : Reply → Reply → Type 0) → Telling K → (own : Own) (heads : Heads) (d : Deed) (before : List Deed) (p : Pair) → Unique K (pair_replies own heads d before p)
 unfolding pair_replies
-pair_unique own heads d before p =
-    unique_map (ItemsClash p.message.life) Clash (reply p.message.life) (pair_items own heads d before p) (items_unique own heads d before p p.message.life) (λ x y c. c)
+pair_unique K t own heads d before p =
+    unique_map (λ x y. K (reply p.message.life x) (reply p.message.life y)) K (reply p.message.life) (pair_items own heads d before p)
+    (items_unique K t own heads d before p p.message.life) (λ x y c. c)
 
 -- a reply of a pair is an ask, a grant or an end, and names the pair's receive
 reply_of_pair : (own : Own) (heads : Heads) (d : Deed) (before : List Deed) (p : Pair) (r : Reply) → Member r (pair_replies own heads d before p)
@@ -128,20 +124,18 @@ reply_of_pair own heads d before p r h =
     let i = item_of_pair own heads d before p m.0 (items_from own heads d before p m.0 m.1) in
     subst (λ (x : Reply). ((kind_of x.item ≡ AsksBytes) ⊎ ((kind_of x.item ≡ Grants) ⊎ (kind_of x.item ≡ Ends))) × (recv_of x.item ≡ p.recv.id.0)) m.2 i
 
-pairs_cross : (own : Own) (heads : Heads) (d : Deed) (before : List Deed) (p q : Pair) (r s : Reply) → Member r (pair_replies own heads d before p)
-    → Member s (pair_replies own heads d before q) → Clash r s → p.recv.id.0 ≡ q.recv.id.0
-pairs_cross own heads d before p q r s h k c =
+pairs_cross : (K : Reply → Reply → Type 0) → Telling K → (own : Own) (heads : Heads) (d : Deed) (before : List Deed) (p q : Pair) (r s : Reply) → Member r (pair_replies own heads d before p)
+    → Member s (pair_replies own heads d before q) → K r s → p.recv.id.0 ≡ q.recv.id.0
+pairs_cross K t own heads d before p q r s h k c =
     let a = reply_of_pair own heads d before p r h in
     let b = reply_of_pair own heads d before q s k in
-    let not_grant = (clash_kind r s c).1 in
-    sym a.1
-    ∙ clash_recv r s c (elim a.0 [ inl x ↦ inl x | inr x ↦ elim x [ inl y ↦ absurd (not_grant y) | inr y ↦ inr y ] ])
+    sym a.1 ∙ t.recvs r s c a.0
     ∙ b.1
 
--- what a deed makes owed has no replies that clash
-new_unique : (own : Own) (ms : Messages) (sents : List Sent) (d : Deed) (before : List Deed) → Unique Clash (replies_by own ms.head sents d before)
+-- what a deed makes owed has no replies of such a relation
+pub new_unique : (K : Reply → Reply → Type 0) → Telling K → (own : Own) (ms : Messages) (sents : List Sent) (d : Deed) (before : List Deed) → Unique K (replies_by own ms.head sents d before)
 unfolding replies_by kind_of
-new_unique own ms sents d before =
+new_unique K t own ms sents d before =
     let shakes = handshake_by own before d in
     let of_pairs = flat_map (pair_replies own ms.head d before) (pairs own.limits.first ms.head (d ∷ before)) in
     let givens = given_by sents d in
@@ -149,24 +143,42 @@ new_unique own ms sents d before =
     let given_kind : (r : Reply) → Member r givens → kind_of r.item ≡ GivesBytes = λ r h. ap kind_of (given_from sents d r h).is in
     let pair_kind : (r : Reply) → Member r of_pairs → (kind_of r.item ≡ AsksBytes) ⊎ ((kind_of r.item ≡ Grants) ⊎ (kind_of r.item ≡ Ends)) =
     λ r h. let f = member-flat_map (pair_replies own ms.head d before) r (pairs own.limits.first ms.head (d ∷ before)) h in (reply_of_pair own ms.head d before f.0 r f.2).0 in
-    unique_append Clash clash_back (shakes ++ of_pairs) givens
-    (unique_append Clash clash_back shakes of_pairs (shakes_unique own before d)
-    (unique_pairs Clash clash_back (pair_replies own ms.head d before) (pairs own.limits.first ms.head (d ∷ before))
+    unique_append K t.back (shakes ++ of_pairs) givens
+    (unique_append K t.back shakes of_pairs (shakes_unique K own before d)
+    (unique_pairs K t.back (pair_replies own ms.head d before) (pairs own.limits.first ms.head (d ∷ before))
     (matching_numbered own.limits.first ms.head (d ∷ before)).pairs_apart
-    (λ p h. pair_unique own ms.head d before p)
-    (λ p q r s h k m n c. pairs_cross own ms.head d before p q r s m n c))
+    (λ p h. pair_unique K t own ms.head d before p)
+    (λ p q r s h k m n c. pairs_cross K t own ms.head d before p q r s m n c))
     (λ r s h k c.
-    let e = (clash_kind r s c).0 in
+    let e = t.kinds r s c in
     let f = shake_kind r h in
     elim (pair_kind s k) [ inl a ↦ cc | inr a ↦ elim a [ inl b ↦ cc | inr b ↦ cc ] ]))
-    (given_unique sents d)
+    (given_unique K sents d)
     (λ r s h k c.
-    let e = (clash_kind r s c).0 in
+    let e = t.kinds r s c in
     let g = given_kind s k in
     elim (member-append_cases r shakes of_pairs h) [
       | inl m ↦ (let f = shake_kind r m in cc)
       | inr m ↦ elim (pair_kind r m) [ inl a ↦ cc | inr a ↦ elim a [ inl b ↦ cc | inr b ↦ cc ] ]
     ])
+
+asks_share : (to : Life) (a b : ReadAsk) → Clash (reply to (Asks a)) (reply to (Asks b)) → AsksShare a b
+asks_share to a b (inl c) = (let e = c.is in cc)
+asks_share to a b (inr (inl c)) =
+    let e : c.ask ≡ a = (let f = c.is in cc) in
+    let g : c.ask' ≡ b = (let f = c.is' in cc) in
+    subst (λ (x : ReadAsk). AsksShare x b) e (subst (λ (x : ReadAsk). AsksShare c.ask x) g c.share)
+asks_share to a b (inr (inr (inl c))) = (let e = c.is in cc)
+asks_share to a b (inr (inr (inr c))) = (let e = c.is in cc)
+
+clash_tells : Telling Clash
+clash_tells =
+    record {
+      back = clash_back;
+      kinds = λ r s c. (clash_kind r s c).0;
+      recvs = λ r s c k. clash_recv r s c (elim k [ inl x ↦ inl x | inr x ↦ elim x [ inl y ↦ absurd ((clash_kind r s c).1 y) | inr y ↦ inr y ] ]);
+      asks = asks_share;
+    }
 
 -- no two asks that were taken from a life for one send share a byte
 abbrev pub AsksApart : List Deed → Type 0
@@ -271,7 +283,7 @@ unfolding owed
 owed_unique own ms [] apart = unique_none Clash
 owed_unique own ms (d ∷ before) apart =
     unique_append Clash clash_back (owed own ms before) (replies_by own ms.head (sends own ms before) d before)
-    (owed_unique own ms before apart.0) (new_unique own ms (sends own ms before) d before)
+    (owed_unique own ms before apart.0) (new_unique Clash clash_tells own ms (sends own ms before) d before)
     (λ r s h k c.
     let o = owed_in own ms before r h in
     let n = new_from own ms.head (sends own ms before) d before s k in
