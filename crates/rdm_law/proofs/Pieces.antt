@@ -1,10 +1,8 @@
 -- The bytes that a life took of a message are a part of what was sent.
-use Rattle.std.proofs.Common.{◌≡◌, ℕ, ◌+◌, ◌≤◌, Bool, true, false, cond, List, [], ◌∷◌, ◌++◌, length, take, drop, Option, Some, None, refl, arith, ◌⊎◌, inl, inr, sym, ◌∙◌, ap, subst}
-use Rattle.std.specs.Prelude.{◌==◌, nat_eq, option_to_list}
-use Rattle.std.specs.Bool.{then_some}
+use Rattle.std.proofs.Common.{◌≡◌, ℕ, Bool, true, false, cond, List, take, drop, Option, Some, None, refl, ◌⊎◌, inl, inr, sym, ◌∙◌, ap, subst}
+use Rattle.std.specs.Prelude.{nat_eq}
 use Rattle.std.proofs.lemmas.Bool.{eqb-true}
 use Rattle.rdm_num.specs.Lists.{Member}
-use Rattle.rdm_num.specs.Lives.{same_life}
 use Rattle.rdm_num.specs.Pieces.{Piece}
 use Rattle.rdm_num.specs.declared.numbers.Life.{Life}
 use Rattle.rdm_num.specs.declared.numbers.MsgNo.{MsgNo}
@@ -12,31 +10,28 @@ use Rattle.rdm_num.specs.declared.numbers.OpId.{OpId}
 use Rattle.rdm_num.specs.declared.numbers.Connid.{Connid}
 use Rattle.rdm_hdr.specs.declared.Opt.{Opt}
 use Rattle.rdm_pkt.specs.declared.Packet.{Packet}
-use Rattle.rdm_pkt.specs.declared.Packet.TheVariants.{Rtm, Cts, CtsData, Eor, Handshake}
+use Rattle.rdm_pkt.specs.declared.Packet.TheVariants.{Rtm, CtsData}
 use Rattle.rdm_pkt.specs.declared.Form.{Form}
 use Rattle.rdm_pkt.specs.Heads.{piece_of}
 use Rattle.rdm_match.specs.Matcher.{Pair, is_pair}
 use Rattle.rdm_wire.specs.declared.Datagram.{Datagram}
-use Rattle.rdm_wire.specs.declared.ReadAsk.{ReadAsk}
 use Rattle.rdm_wire.specs.declared.ReadData.{ReadData}
 use Rattle.rdm_model.specs.declared.job.Job.{Job}
 use Rattle.rdm_model.specs.declared.entry.Entry.{Entry}
-use Rattle.rdm_model.specs.Deeds.{Deed, Took, Item, Spelled, Asks, Gives, Garbled}
-use Rattle.rdm_model.specs.Owns.{Own, Messages, Heads, own_of}
-use Rattle.rdm_model.specs.Matches.{pairs}
-use Rattle.rdm_model.specs.Parts.{piece_by, carried_by, carried_pieces}
+use Rattle.rdm_model.specs.Deeds.{Item, Spelled, Gives}
+use Rattle.rdm_model.specs.Owns.{own_of}
+use Rattle.rdm_model.specs.Parts.{piece_by}
 use Rattle.rdm_model.specs.Sends.{Sent}
-use Rattle.rdm_model.specs.Turns.{Sends, Replies, packet_piece}
+use Rattle.rdm_model.specs.Turns.{Sends, packet_piece}
 use Rattle.rdm_model.specs.Lawful.{life_deeds}
-use Rattle.rdm_model.proofs.Members.{member-append_cases, same_life-true}
-use Rattle.rdm_model.proofs.Matches.{is_pair_member, is_pair_still}
+use Rattle.rdm_model.proofs.Matches.{is_pair_member}
 use Rattle.rdm_model.proofs.Cuts.{Part, front_part}
 use Rattle.rdm_law.proofs.Lives.{TurnedAt}
 use Rattle.rdm_law.proofs.Turned.{turn_part}
 use Rattle.rdm_law.proofs.Wired.{Played, TakenTurn}
-use Rattle.rdm_law.proofs.Known.{account, sends_of, Known, then_parts, opened}
+use Rattle.rdm_law.proofs.Known.{Known, then_parts, opened}
 use Rattle.rdm_law.proofs.Named.{pairs_of}
-use Rattle.rdm_law.proofs.Chains.{pair_one, DataWent, data_went, GrantKnown, data_known, GivenWent, given_went, AskKnown, given_known}
+use Rattle.rdm_law.proofs.Chains.{pair_one, data_went, data_known, GivenWent, given_went, given_known}
 
 -- bytes of a message that went in a packet of its send
 abbrev pub SentPiece : (job : Job) (history : List Entry) (from : Life) → Sent → Piece → ℕ → Type 0

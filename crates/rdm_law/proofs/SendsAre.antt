@@ -1,5 +1,5 @@
 -- What each life sent is the same by what it took itself as by what was sent to it.
-use Rattle.std.proofs.Common.{◌≡◌, ℕ, Bool, true, false, cond, List, [], ◌∷◌, ◌++◌, Option, Some, None, refl, ◌⊎◌, inl, inr, sym, ◌∙◌, ap, subst}
+use Rattle.std.proofs.Common.{◌≡◌, false, List, [], ◌∷◌, Some, refl, inl, inr, sym, ◌∙◌, ap, subst}
 use Rattle.std.specs.Prelude.{◌&&◌, ◌==◌, nat_eq}
 use Rattle.std.proofs.lemmas.Bool.{cases_eq, eq-eqb, ne_eqb, and_left, and_right, and_from}
 use Rattle.std.proofs.lemmas.List.{append-nil}
@@ -11,13 +11,12 @@ use Rattle.rdm_model.specs.Owns.{Own, Messages, own_of, rank_of}
 use Rattle.rdm_model.specs.Scenes.{deeds_at}
 use Rattle.rdm_model.specs.Sends.{Sent, sends, sent_by, with_sent}
 use Rattle.rdm_model.specs.Local.{heard_by}
-use Rattle.rdm_model.specs.Lawful.{port_deeds, life_deeds, deed_for, messages_of, sends_in, sent_to}
+use Rattle.rdm_model.specs.Lawful.{port_deeds, life_deeds, deed_for, sends_in, sent_to}
 use Rattle.rdm_model.proofs.SameRegions.{Agree, sends_same, sent_by_same}
 use Rattle.rdm_model.proofs.Grows.{agree_grows}
 use Rattle.rdm_law.proofs.Logs.{log_of-same, log_of-other}
 use Rattle.rdm_law.proofs.Lives.{at_of_life, is_connid-from}
 use Rattle.rdm_law.proofs.Wired.{Played, played_before}
-use Rattle.rdm_law.proofs.Known.{account, sends_of}
 use Rattle.rdm_law.proofs.Sent.{SendsAre, agree_sent}
 
 deed_mine : (job : Job) (e : Entry) (before : List Entry) (life' : Life) → e.port.0 ≡ life'.port.0 → open_life (port_deeds job life'.port.0 before) ≡ Some life'.connid

@@ -1,25 +1,20 @@
 -- What a life knows of the messages to it agrees with what was sent to it.
-use Rattle.std.proofs.Common.{◌≡◌, ℕ, ◌-◌, ◌<◌, ◌≤◌, Bool, true, false, List, [], ◌∷◌, ◌++◌, length, map, Option, Some, None, refl, arith, ◌⊎◌, inl, inr, sym, ◌∙◌, ap, subst}
-use Rattle.std.specs.Prelude.{◌==◌, nat_eq, is_some, unwrap_or, slice_get}
-use Rattle.std.specs.Bool.{then_some}
+use Rattle.std.proofs.Common.{◌≡◌, ℕ, ◌-◌, ◌≤◌, true, List, length, Option, Some, refl, inl, inr, sym, ◌∙◌, ap, subst}
+use Rattle.std.specs.Prelude.{nat_eq, unwrap_or, slice_get}
 use Rattle.std.proofs.lemmas.Bool.{eq-eqb}
-use Rattle.rdm_num.specs.Lists.{Member, below}
+use Rattle.rdm_num.specs.Lists.{Member}
 use Rattle.rdm_num.specs.Pieces.{Piece, byte_at}
 use Rattle.rdm_num.specs.declared.numbers.Life.{Life}
 use Rattle.rdm_num.specs.declared.head.Head.{Head}
-use Rattle.rdm_pkt.specs.Heads.{piece_of}
-use Rattle.rdm_pkt.specs.declared.Packet.TheVariants.{Rtm, CtsData}
 use Rattle.rdm_pkt.specs.Openings.{message_head}
-use Rattle.rdm_match.specs.Matcher.{Pair, is_pair}
+use Rattle.rdm_match.specs.Matcher.{Pair}
 use Rattle.rdm_model.specs.declared.job.Job.{Job}
 use Rattle.rdm_model.specs.declared.entry.Entry.{Entry}
-use Rattle.rdm_model.specs.Deeds.{Deed, Took, Item, Spelled, Gives}
-use Rattle.rdm_model.specs.Owns.{Own, Messages, Heads, own_of}
-use Rattle.rdm_model.specs.Heard.{heard_head}
-use Rattle.rdm_model.specs.Matches.{pairs}
+use Rattle.rdm_model.specs.Deeds.{Deed, Item}
+use Rattle.rdm_model.specs.Owns.{Heads, own_of}
 use Rattle.rdm_model.specs.Parts.{piece_by, carried_pieces}
 use Rattle.rdm_model.specs.Receives.{is_filled}
-use Rattle.rdm_model.specs.Sends.{Sent, sends, sends_to}
+use Rattle.rdm_model.specs.Sends.{Sent, sends_to}
 use Rattle.rdm_model.specs.Local.{heard_by, heads_by, bytes_by}
 use Rattle.rdm_model.specs.Lawful.{life_deeds, sends_in, sent_to}
 use Rattle.rdm_model.proofs.SameRegions.{Agree}
@@ -28,9 +23,9 @@ use Rattle.rdm_model.proofs.Grows.{landed_byte, filled_heard, heads_by_heard}
 use Rattle.rdm_model.proofs.Numbers.{placed}
 use Rattle.rdm_model.proofs.SentTo.{sent_placed}
 use Rattle.rdm_model.proofs.Cuts.{Part}
-use Rattle.rdm_law.proofs.Carried.{FromRtm, FromData, FromGiven, Brought, CarriedBy, carried_from}
-use Rattle.rdm_law.proofs.Wired.{Played, Taken, taken_pushed}
-use Rattle.rdm_law.proofs.Known.{account, sends_of, Known, known_one, KnownHead, known_head}
+use Rattle.rdm_law.proofs.Carried.{Brought, carried_from}
+use Rattle.rdm_law.proofs.Wired.{Played, taken_pushed}
+use Rattle.rdm_law.proofs.Known.{account, sends_of, Known, known_one, known_head}
 use Rattle.rdm_law.proofs.Named.{pairs_of, head_length}
 use Rattle.rdm_law.proofs.Pieces.{PieceOf, item_piece}
 use Rattle.rdm_law.proofs.Whole.{put_together, parts_byte}

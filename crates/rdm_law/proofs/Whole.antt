@@ -1,10 +1,10 @@
 -- A message put together from parts that have all of its places is the message.
-use Rattle.std.proofs.Common.{◌≡◌, ℕ, zero, suc, ◌+◌, ◌-◌, ◌<◌, ◌≤◌, Bool, true, false, cond, List, [], ◌∷◌, ◌++◌, length, map, take, drop, get_or, Option, Some, None, refl, arith, ◌⊎◌, inl, inr, sym, ◌∙◌, ap, subst, add-one}
+use Rattle.std.proofs.Common.{◌≡◌, ℕ, zero, suc, ◌+◌, ◌-◌, ◌<◌, true, false, cond, List, [], ◌∷◌, length, map, take, drop, get_or, Some, None, refl, arith, inl, inr, sym, ◌∙◌, ap, subst, add-one}
 use Rattle.std.specs.Prelude.{slice_get, nat_lt}
 use Rattle.std.proofs.lemmas.Bool.{ltb-false}
 use Rattle.std.proofs.lemmas.List.{get_or_append_left, get_or_push, get_or-map, length-map, same_lists, length_push}
 use Rattle.std.proofs.lemmas.Option.{get_or_from_slice_get}
-use Rattle.rdm_num.specs.Lists.{Member, or_else, below}
+use Rattle.rdm_num.specs.Lists.{Member, below}
 use Rattle.rdm_num.specs.Pieces.{Piece, byte_in, byte_at}
 use Rattle.rdm_model.proofs.Members.{or_else_cases, last_or_less}
 use Rattle.rdm_model.proofs.Cuts.{Part}
