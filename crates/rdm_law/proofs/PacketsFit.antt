@@ -27,7 +27,7 @@ abbrev pub EachFits : List Field → Type 0
 EachFits [] = Unit {0}
 EachFits (f ∷ fs) = (field_fits f ≡ true) × EachFits fs
 
-all_fields : (fs : List Field) → EachFits fs → list_all field_fits fs ≡ true
+pub all_fields : (fs : List Field) → EachFits fs → list_all field_fits fs ≡ true
 all_fields [] h = refl
 all_fields (f ∷ fs) h = and_from (field_fits f) (list_all field_fits fs) h.0 (all_fields fs h.1)
 
@@ -39,15 +39,15 @@ half_field : (n : ℕ) → n < 65536 → field_fits (Number 2 n) ≡ true
 unfolding field_fits
 half_field n h = lt-ltb n 65536 h
 
-word_field : (n : ℕ) → n < 4294967296 → field_fits (Number 4 n) ≡ true
+pub word_field : (n : ℕ) → n < 4294967296 → field_fits (Number 4 n) ≡ true
 unfolding field_fits
 word_field n h = lt-ltb n 4294967296 h
 
-long_field : (n : ℕ) → n < 18446744073709551616 → field_fits (Number 8 n) ≡ true
+pub long_field : (n : ℕ) → n < 18446744073709551616 → field_fits (Number 8 n) ≡ true
 unfolding field_fits
 long_field n h = lt-ltb n 18446744073709551616 h
 
-data_field : (bytes : List ℕ) → AreBytes bytes → field_fits (Data bytes) ≡ true
+pub data_field : (bytes : List ℕ) → AreBytes bytes → field_fits (Data bytes) ≡ true
 unfolding field_fits
 data_field bytes h = h
 
