@@ -67,7 +67,7 @@ send_below : (own : Own) (s : Sent) → SentFits own s → s.message.send.0 < 42
 send_below own s f = subst (λ (x : OpId). x.0 < 4294967296) (sym f.send_is) f.number
 
 -- the length of a message of a send
-size_below : (own : Own) (s : Sent) → SentFits own s → length s.message.bytes ≤ len_max
+pub size_below : (own : Own) (s : Sent) → SentFits own s → length s.message.bytes ≤ len_max
 size_below own s f = let a = f.size in let b = f.ends in omega arith
 
 -- the list of one range has the whole message
@@ -99,7 +99,7 @@ headers_of own s form f =
     subst (λ (o : Opt). P o s.message.tag) (sym f.opt_is) b
 
 -- what is left for a message's bytes in a packet with headers of that length beside the common ones
-room_is : (own : Own) (s : Sent) (form : Form) (f : SentFits own s) (more : ℕ) → LimitsFit own.limits → fields_length (form_fields form) + fields_length (last_fields form) ≡ more
+pub room_is : (own : Own) (s : Sent) (form : Form) (f : SentFits own s) (more : ℕ) → LimitsFit own.limits → fields_length (form_fields form) + fields_length (last_fields form) ≡ more
     → more ≤ 190
     → (0 < room_in own.limits (rtm s.message form))
     × (room_in own.limits (rtm s.message form) + more ≡ own.limits.mtu - common_length (is_some s.req.tag) (is_some s.req.cq_data) f.raw)
@@ -111,7 +111,7 @@ room_is own s form f more l is top =
     (omega arith, omega arith)
 
 -- a message that has no room in one packet is longer than that room
-longer : (own : Own) (s : Sent) (f : SentFits own s) → LimitsFit own.limits → nat_le (length s.message.bytes) (eager_room (is_some s.req.tag) (is_some s.req.cq_data) f.raw own.limits) ≡ false
+pub longer : (own : Own) (s : Sent) (f : SentFits own s) → LimitsFit own.limits → nat_le (length s.message.bytes) (eager_room (is_some s.req.tag) (is_some s.req.cq_data) f.raw own.limits) ≡ false
     → own.limits.mtu - common_length (is_some s.req.tag) (is_some s.req.cq_data) f.raw < length s.message.bytes
 longer own s f l h =
     let a = leb-false _ _ h in
@@ -129,11 +129,11 @@ chosen_kind own s f kind is =
     subst (Chosen own s f) (sym f.kind_is ∙ is)
     (choice_is (length s.message.bytes) (is_some s.req.tag) (is_some s.req.cq_data) f.raw own.features f.known own.limits)
 
-eager_fits : (own : Own) (s : Sent) → OwnFits own → SentFits own s → fits (rtm s.message (F.Eager s.message.bytes)) ≡ true
+pub eager_fits : (own : Own) (s : Sent) → OwnFits own → SentFits own s → fits (rtm s.message (F.Eager s.message.bytes)) ≡ true
 unfolding form_fits form_fields last_fields
 eager_fits own s o f = opens_fit own s (F.Eager s.message.bytes) o f refl refl (all_fields (Data s.message.bytes ∷ []) (data_field s.message.bytes f.bytes, tt))
 
-segment_fits : (own : Own) (s : Sent) (x : Piece) → OwnFits own → SentFits own s → PieceFits (length s.message.bytes) x → fits (rtm s.message (medium_form s.message x)) ≡ true
+pub segment_fits : (own : Own) (s : Sent) (x : Piece) → OwnFits own → SentFits own s → PieceFits (length s.message.bytes) x → fits (rtm s.message (medium_form s.message x)) ≡ true
 unfolding form_fits form_fields last_fields
 segment_fits own s x o f p =
     let top = size_below own s f in
@@ -144,7 +144,7 @@ segment_fits own s x o f p =
     (all_fields (Number 8 (length s.message.bytes) ∷ Number 8 x.offset ∷ []) (long_field (length s.message.bytes) (omega arith), (long_field x.offset (omega arith), tt)))
     (all_fields (Data x.bytes ∷ []) (data_field x.bytes p.bytes, tt))
 
-first_fits : (own : Own) (s : Sent) (bytes : List ℕ) → OwnFits own → LimitsFit own.limits → SentFits own s → 0 < length bytes → length bytes < length s.message.bytes → AreBytes bytes
+pub first_fits : (own : Own) (s : Sent) (bytes : List ℕ) → OwnFits own → LimitsFit own.limits → SentFits own s → 0 < length bytes → length bytes < length s.message.bytes → AreBytes bytes
     → fits (rtm s.message (long_cts_form own.limits s.message bytes)) ≡ true
 unfolding form_fits form_fields last_fields
 first_fits own s bytes o l f some less small =
@@ -155,7 +155,7 @@ first_fits own s bytes o l f some less small =
       (long_field (length s.message.bytes) (omega arith), (word_field s.message.send.0 (send_below own s f), (word_field own.limits.credits l.credits_top, tt))))
     (all_fields (Data bytes ∷ []) (data_field bytes small, tt))
 
-read_fits : (own : Own) (s : Sent) → OwnFits own → SentFits own s → 0 < length s.message.bytes
+pub read_fits : (own : Own) (s : Sent) → OwnFits own → SentFits own s → 0 < length s.message.bytes
     → fits (rtm s.message (F.LongRead (length s.message.bytes) s.message.send s.message.iov)) ≡ true
 unfolding form_fits form_fields last_fields
 read_fits own s o f some =
@@ -167,7 +167,7 @@ read_fits own s o f some =
       (long_field (length s.message.bytes) (omega arith), (word_field s.message.send.0 (send_below own s f), (word_field (length s.message.iov) (omega arith), tt))))
     iov.1
 
-runt_fits : (own : Own) (s : Sent) (runt : ℕ) (x : Piece) → OwnFits own → SentFits own s → 0 < runt → runt < length s.message.bytes → PieceFits runt x
+pub runt_fits : (own : Own) (s : Sent) (runt : ℕ) (x : Piece) → OwnFits own → SentFits own s → 0 < runt → runt < length s.message.bytes → PieceFits runt x
     → fits (rtm s.message (runt_form s.message runt x)) ≡ true
 unfolding form_fits form_fields last_fields
 runt_fits own s runt x o f first less p =
