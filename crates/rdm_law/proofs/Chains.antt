@@ -183,7 +183,7 @@ pub record AskKnown (job : Job) (history : List Entry) (life' from : Life) (s : 
   pub of : Member a (asks_for (shape_by job.limits s.message s.kind) (recv_in pair))
   pub head_is : (account job history life').head pair.message.life pair.message.no.0 ≡ message_head job.limits s.message s.kind
 
-ask_known_at : (job : Job) (history : List Entry) (life' from source : Life) (s : Sent) (a : ReadAsk) (p : Pair) → source ≡ from
+pub ask_known_at : (job : Job) (history : List Entry) (life' from source : Life) (s : Sent) (a : ReadAsk) (p : Pair) → source ≡ from
     → Member s (sends_of job history from) → s.number ≡ a.send_id.0 → Member p (pairs_of job history life') → p.message.life ≡ source
     → (k : Known job history life' source p.message.no.0) → (account job history life').head p.message.life p.message.no.0 ≡ message_head job.limits k.sent.message k.sent.kind
     → Member a (asks_for (shape_in (account job history life').head p) (recv_in p)) → AskKnown job history life' from s a
