@@ -102,7 +102,7 @@ ask_new job history j i s a b d h k m names took share =
     let y = went_ask job history j i b t.datagram t.taken in
     let l = ask_known job history i j s b h.played m names took in
     let clash : Clash x.reply y.reply =
-        inr (inl (record { ask = a; is = x.is; ask' = b; is' = y.is; recv_is = asks_recv job history j i s a b k l; share = share })) in
+    inr (inl (record { ask = a; is = x.is; ask' = b; is' = y.is; recv_is = asks_recv job history j i s a b k l; share = share })) in
     let e = reply_once (own_of job i) x.reply y.reply h.taken.place t.taken.place (life_deeds job history i) (own_life job history h.played i) x.turned y.turned clash in
     taken_before job history j i (Asks a) (Asks b) (arriving job history j i (Asks a) d h) t (sym e)
 

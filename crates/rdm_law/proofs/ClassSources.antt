@@ -159,7 +159,7 @@ pushed_knows job history to from item d t =
     let log = life_deeds job history from in
     elim (went job history to from item d t) [
       | inl s ↦ subst (λ (l : Life). is_some (current log l.port.0) ≡ true) s.to_is
-        (sent_current own (heard_by own.limits.first log) log s.sent (turn_member own s.sent s.packet t.place log s.turned))
+          (sent_current own (heard_by own.limits.first log) log s.sent (turn_member own s.sent s.packet t.place log s.turned))
       | inr r ↦ (
           let s = owed_seen own (heard_by own.limits.first log) r.reply log r.owed in
           subst (λ (l : Life). is_some (current log l.port.0) ≡ true) r.to_is (took_current log r.reply.to s.0 s.1))

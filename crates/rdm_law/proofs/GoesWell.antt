@@ -142,7 +142,7 @@ open_goes_well job port log to item c fair l h is goes =
     let mine = of_life c port_log in
     let rank = fair.ranks port in
     let of_life_goes : going (life_scene (port_count job) own port_log mine) ≡ Some (Goes to item) =
-        subst (λ (s : Scene). going s ≡ Some (Goes to item)) (opened_scene job port c port_log is) goes in
+    subst (λ (s : Scene). going s ≡ Some (Goes to item)) (opened_scene job port c port_log is) goes in
     let t = life_goes (port_count job) own port_log mine to item of_life_goes in
     let all = all_did_fit (port_count job) (rank_of job port).ops log rank.ops in
     let taken = life_taken c port_log (all_taken_fit (rank_of job port).ops log h) in
@@ -154,11 +154,11 @@ open_goes_well job port log to item c fair l h is goes =
     let ports = fair.ports in
     let rank_port = open_port job port log c is in
     let fits : DeedsFit (port_count job) own.limits.first mine = record {
-        did = life_did (port_count job) c port_log all;
-        ranges = ranges_fit own mine local;
-        numbers = numbers_fit own mine local;
-        count = omega arith;
-      } in
+      did = life_did (port_count job) c port_log all;
+      ranges = ranges_fit own mine local;
+      numbers = numbers_fit own mine local;
+      count = omega arith;
+    } in
     let begins : OwnFits own = record { port = omega arith; connid = open_fits (port_count job) port_log c all is; features = rank.features } in
     let ms = heard_by own.limits.first mine in
     let bytes : MessagesFit ms = λ source k. bytes_by_fit own.limits.first mine source k taken in

@@ -171,7 +171,7 @@ chosen_by false false runt false n = refl
 -- a message that doesn't go in one packet is longer than its room; a first part ahead of a read is some of it
 pub choice_is : (n : ℕ) (tagged cq_data raw : Bool) (features : ℕ) (known : Option ℕ) (limits : EpLimits)
     → ChosenBy (nat_le n (eager_room tagged cq_data raw limits)) (nat_lt 0 limits.runt && both_have 4 features known) (min limits.runt (n - 1))
-      (choose n tagged cq_data raw features known limits)
+    (choose n tagged cq_data raw features known limits)
 unfolding choose
 choice_is n tagged cq_data raw features known limits =
     chosen_by (nat_le n (eager_room tagged cq_data raw limits)) (both_have 0 features known && nat_le limits.read_limit n) (nat_lt 0 limits.runt && both_have 4 features known)
@@ -190,8 +190,8 @@ cut_fits zero size offset bytes top x s n t b (inl is) = subst (PieceFits top) i
 cut_fits zero size offset bytes top x s n t b (inr m) = elim m [ ]
 cut_fits (suc fuel) size offset bytes top x s n t b m =
     (elim (nat_le (length bytes) size) as (λ c. nat_le (length bytes) size ≡ c
-      → Member x (cond c (record { offset = offset; bytes = bytes } ∷ []) (record { offset = offset; bytes = take size bytes } ∷ cut fuel size (offset + size) (drop size bytes)))
-      → PieceFits top x) [
+    → Member x (cond c (record { offset = offset; bytes = bytes } ∷ []) (record { offset = offset; bytes = take size bytes } ∷ cut fuel size (offset + size) (drop size bytes)))
+    → PieceFits top x) [
       | true ↦ λ is k. elim k [ inl e ↦ subst (PieceFits top) e (record { some = n; within = t; bytes = b }) | inr l ↦ elim l [ ] ]
       | false ↦ λ is k.
           let more : size < length bytes = leb-false _ _ is in

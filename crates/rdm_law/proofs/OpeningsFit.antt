@@ -80,11 +80,11 @@ one_range own s f some =
     let ends = f.ends in
     let key = f.key in
     let test : iov_fits (e ∷ []) (length s.message.bytes) ≡ true =
-        and_from _ _ (and_from _ _ refl (and_from _ _ (and_from _ _ (le-leb 1 s.req.len (omega arith)) (lt-ltb (s.req.at + s.req.len) 18446744073709551616 (omega arith))) refl))
-        (eq-eqb (0 + s.req.len) (length s.message.bytes) (omega arith)) in
+    and_from _ _ (and_from _ _ refl (and_from _ _ (and_from _ _ (le-leb 1 s.req.len (omega arith)) (lt-ltb (s.req.at + s.req.len) 18446744073709551616 (omega arith))) refl))
+    (eq-eqb (0 + s.req.len) (length s.message.bytes) (omega arith)) in
     let fields : list_all field_fits (flat_map entry_fields (e ∷ [])) ≡ true =
-        all_fields (Number 8 s.req.at ∷ Number 8 s.req.len ∷ Number 8 s.req.region.0 ∷ [])
-        (long_field s.req.at (omega arith), (long_field s.req.len (omega arith), (long_field s.req.region.0 (omega arith), tt))) in
+    all_fields (Number 8 s.req.at ∷ Number 8 s.req.len ∷ Number 8 s.req.region.0 ∷ [])
+    (long_field s.req.at (omega arith), (long_field s.req.len (omega arith), (long_field s.req.region.0 (omega arith), tt))) in
     let P : List IovEntry → Type 0 = λ iov. (iov_fits iov (length s.message.bytes) ≡ true) × (list_all field_fits (flat_map entry_fields iov) ≡ true) × (length iov ≡ 1) in
     subst P (sym f.iov_is) (test, fields, refl)
 
@@ -93,7 +93,7 @@ headers_of : (own : Own) (s : Sent) (form : Form) (f : SentFits own s)
     → length (spelling (rtm s.message form)) ≡ common_length (is_some s.req.tag) (is_some s.req.cq_data) f.raw + fields_length (form_fields form) + fields_length (last_fields form)
 headers_of own s form f =
     let P : Opt → Option ℕ → Type 0 = λ opt tag. length (spelling (Rtm s.message.no tag opt form))
-        ≡ common_length (is_some s.req.tag) (is_some s.req.cq_data) f.raw + fields_length (form_fields form) + fields_length (last_fields form) in
+    ≡ common_length (is_some s.req.tag) (is_some s.req.cq_data) f.raw + fields_length (form_fields form) + fields_length (last_fields form) in
     let a : P (opt_for own.life f.raw s.req.cq_data) s.req.tag = sent_length_is s.message.no s.req.tag own.life f.raw s.req.cq_data form in
     let b : P (opt_for own.life f.raw s.req.cq_data) s.message.tag = subst (λ (t : Option ℕ). P (opt_for own.life f.raw s.req.cq_data) t) (sym f.tag_is) a in
     subst (λ (o : Opt). P o s.message.tag) (sym f.opt_is) b
@@ -152,7 +152,7 @@ first_fits own s bytes o l f some less small =
     opens_fit own s (long_cts_form own.limits s.message bytes) o f
     (and_from _ _ (and_from _ _ (le-leb 1 (length bytes) some) (lt-ltb (length bytes) (length s.message.bytes) less)) (le-leb 1 own.limits.credits l.credits))
     (all_fields (Number 8 (length s.message.bytes) ∷ Number 4 s.message.send.0 ∷ Number 4 own.limits.credits ∷ [])
-      (long_field (length s.message.bytes) (omega arith), (word_field s.message.send.0 (send_below own s f), (word_field own.limits.credits l.credits_top, tt))))
+    (long_field (length s.message.bytes) (omega arith), (word_field s.message.send.0 (send_below own s f), (word_field own.limits.credits l.credits_top, tt))))
     (all_fields (Data bytes ∷ []) (data_field bytes small, tt))
 
 pub read_fits : (own : Own) (s : Sent) → OwnFits own → SentFits own s → 0 < length s.message.bytes
@@ -164,7 +164,7 @@ read_fits own s o f some =
     let one = iov.2 in
     opens_fit own s (F.LongRead (length s.message.bytes) s.message.send s.message.iov) o f iov.0
     (all_fields (Number 8 (length s.message.bytes) ∷ Number 4 s.message.send.0 ∷ Number 4 (length s.message.iov) ∷ [])
-      (long_field (length s.message.bytes) (omega arith), (word_field s.message.send.0 (send_below own s f), (word_field (length s.message.iov) (omega arith), tt))))
+    (long_field (length s.message.bytes) (omega arith), (word_field s.message.send.0 (send_below own s f), (word_field (length s.message.iov) (omega arith), tt))))
     iov.1
 
 pub runt_fits : (own : Own) (s : Sent) (runt : ℕ) (x : Piece) → OwnFits own → SentFits own s → 0 < runt → runt < length s.message.bytes → PieceFits runt x
@@ -178,8 +178,15 @@ runt_fits own s runt x o f first less p =
     let within = p.within in
     opens_fit own s (runt_form s.message runt x) o f
     (and_from _ _ (and_from _ _ (and_from _ _ (and_from _ _ iov.0 (le-leb 1 (length x.bytes) some)) (le-leb (x.offset + length x.bytes) runt within)) (le-leb 1 runt first))
-      (lt-ltb runt (length s.message.bytes) less))
-    (all_fields (Number 8 (length s.message.bytes) ∷ Number 4 s.message.send.0 ∷ Number 4 (length s.message.iov) ∷ Number 8 runt ∷ Number 8 x.offset ∷ [])
-      (long_field (length s.message.bytes) (omega arith), (word_field s.message.send.0 (send_below own s f), (word_field (length s.message.iov) (omega arith),
-        (long_field runt (omega arith), (long_field x.offset (omega arith), tt))))))
+    (lt-ltb runt (length s.message.bytes) less))
+    (all_fields (Number 8 (length s.message.bytes) ∷ Number 4 s.message.send.0 ∷ Number 4 (length s.message.iov) ∷ Number 8 runt ∷ Number 8 x.offset ∷ []) (
+      long_field (length s.message.bytes) (omega arith),
+      (
+        word_field s.message.send.0 (send_below own s f),
+        (
+          word_field (length s.message.iov) (omega arith),
+          (long_field runt (omega arith), (long_field x.offset (omega arith), tt)),
+        ),
+      ),
+    ))
     (all_append field_fits (flat_map entry_fields s.message.iov) (Data x.bytes ∷ []) iov.1 (all_fields (Data x.bytes ∷ []) (data_field x.bytes p.bytes, tt)))

@@ -165,8 +165,8 @@ granted_fits own log s pushed p o l f taken live u some g =
     let top = size_below own s f in
     let first : Member g.grant (grants log s.to s.number) = subst (λ (gs : List Grant). Member g.grant gs) (sym g.grants_are) (inl refl) in
     let fit : fits (CtsData (op_id g.grant.recv) done own.life.connid bytes) ≡ true =
-        data_fits (op_id g.grant.recv) done own.life.connid bytes (grant_recv log s.to s.number g.grant taken first) (omega arith) (omega arith) o.connid
-        (bytes_front most (drop done s.message.bytes) (bytes_rest done s.message.bytes f.bytes)) in
+    data_fits (op_id g.grant.recv) done own.life.connid bytes (grant_recv log s.to s.number g.grant taken first) (omega arith) (omega arith) o.connid
+    (bytes_front most (drop done s.message.bytes) (bytes_rest done s.message.bytes f.bytes)) in
     subst (λ x. fits x ≡ true) (sym (g.is ∙ ap (λ (xs : List ℕ). CtsData (op_id g.grant.recv) done own.life.connid xs) g.bytes_are)) fit
 
 all_opened : (own : Own) (s : Sent) (pushed datas : List Packet) → pushed ≡ openings own.limits s.message s.kind ++ datas → 0 < length pushed
