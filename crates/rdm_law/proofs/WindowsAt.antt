@@ -37,7 +37,8 @@ pub record ClashGrant (r s : Reply) : Type 0 where
   pub is' : s.item ≡ Spelled (Cts send' recv' size' connid')
   pub recv_is : recv.0 ≡ recv'.0
 
-grant_tells : Telling ClashGrant
+-- a deed makes one grant of a receive owed at most
+pub grant_tells : Telling ClashGrant
 unfolding kind_of recv_of
 grant_tells =
     record {
