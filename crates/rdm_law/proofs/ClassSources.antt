@@ -30,7 +30,7 @@ use Rattle.rdm_model.proofs.Members.{same_life-true, or_else_cases, member-appen
 use Rattle.rdm_model.proofs.Numbers.{made, sent_is_of}
 use Rattle.rdm_model.proofs.Opens.{opening_is}
 use Rattle.rdm_law.proofs.Lives.{TurnedAt}
-use Rattle.rdm_law.proofs.Wired.{Played, TakenTurn, Taken, taken_pushed}
+use Rattle.rdm_law.proofs.Wired.{Played, TakenTurn, taken_pushed}
 use Rattle.rdm_law.proofs.Went.{went}
 use Rattle.rdm_law.proofs.Owed.{NewReply, OwedIn}
 use Rattle.rdm_law.proofs.Turned.{turn_member, turn_is}

@@ -1,14 +1,11 @@
 -- Packets fit whose numbers are in their ranges.
-use Rattle.std.proofs.Common.{◌≡◌, ℕ, ◌+◌, ◌^◌, ◌<◌, ◌≤◌, Bool, true, false, cond, nat_lt, nat_le, ltb-true, leb-true, lt-ltb, le-leb, eq-eqb, ◌&&◌, not, List, [], ◌∷◌, ◌++◌, map, length, is_some, sum_by, flat_map, Option, Some, None, refl, arith, sym, ◌∙◌, ap, subst}
-use Rattle.std.specs.Prelude.{◌==◌}
-use Rattle.std.specs.Bool.{then_some}
+use Rattle.std.proofs.Common.{◌≡◌, ℕ, ◌+◌, ◌<◌, ◌≤◌, Bool, true, false, cond, nat_le, ltb-true, lt-ltb, le-leb, List, [], ◌∷◌, ◌++◌, length, is_some, Option, Some, None, refl, arith}
 use Rattle.std.specs.List.{list_all}
-use Rattle.std.proofs.lemmas.Bool.{and_parts, and_from}
+use Rattle.std.proofs.lemmas.Bool.{and_from}
 use Rattle.rdm_num.specs.declared.numbers.MsgNo.{MsgNo}
 use Rattle.rdm_num.specs.declared.numbers.OpId.{OpId}
 use Rattle.rdm_num.specs.declared.numbers.Connid.{Connid}
 use Rattle.rdm_num.specs.declared.numbers.Life.{Life}
-use Rattle.rdm_num.specs.declared.lists.IovEntry.{IovEntry}
 use Rattle.rdm_hdr.specs.Fields.{Field, Number, Data, field_fits, fields_fit}
 use Rattle.rdm_hdr.specs.Headers.{base_fields, raw_fields, cq_data_fields, connid_fields, opt_fields, opt_flags}
 use Rattle.rdm_hdr.specs.declared.Opt.{Opt}
@@ -16,7 +13,7 @@ use Rattle.rdm_pkt.specs.declared.Packet.{Packet}
 use Rattle.rdm_pkt.specs.declared.Packet.TheVariants.{Rtm, Cts, CtsData, Eor, Handshake}
 use Rattle.rdm_pkt.specs.declared.Form.{Form}
 use Rattle.rdm_pkt.specs.declared.Form.TheVariants.{Eager, Medium, LongCts, LongRead, Runt}
-use Rattle.rdm_pkt.specs.Grammar.{head_fields, type_of, rtm_flags, form_fields, tag_fields, last_fields, entry_fields, layout, iov_fits, form_fits, opt_fits, packet_fits, fits}
+use Rattle.rdm_pkt.specs.Grammar.{head_fields, type_of, rtm_flags, form_fields, tag_fields, last_fields, layout, form_fits, opt_fits, packet_fits, fits}
 use Rattle.rdm_model.specs.Jobs.{option_fits}
 use Rattle.rdm_model.specs.Sends.{opt_for}
 use Rattle.rdm_law.proofs.Fitting.{AreBytes}

@@ -1,20 +1,18 @@
 -- Regions are of bytes, and keep their sizes.
-use Rattle.std.proofs.Common.{◌≡◌, ℕ, zero, suc, ◌+◌, ◌-◌, ◌<◌, ◌≤◌, Bool, true, false, nat_lt, ◌&&◌, nat_le, leb-true, List, [], ◌∷◌, ◌++◌, map, length, get_or, take, drop, replicate, find, Option, Some, None, refl, arith, ◌⊎◌, inl, inr, sym, ◌∙◌, ap, subst, length-append, length-take, length-drop}
+use Rattle.std.proofs.Common.{◌≡◌, ℕ, zero, suc, ◌+◌, ◌≤◌, true, nat_lt, nat_le, leb-true, List, [], ◌∷◌, ◌++◌, map, length, get_or, take, drop, Option, Some, None, refl, arith, inl, inr, subst}
 use Rattle.std.specs.List.{list_all}
 use Rattle.std.proofs.lemmas.Bool.{and_parts}
-use Rattle.std.proofs.lemmas.List.{map-append}
 use Rattle.rdm_num.specs.Lists.{Member}
 use Rattle.rdm_num.specs.declared.request.RecvReq.{RecvReq}
 use Rattle.rdm_num.specs.declared.numbers.Life.{Life}
-use Rattle.rdm_model.specs.declared.job.Instr.{Instr}
 use Rattle.rdm_model.specs.declared.job.Instr.TheVariants.{OpenLife, Insert, Reg, Send, Recv, Cancel, Note, Await, Wait, CloseLife}
 use Rattle.rdm_model.specs.Deeds.{Deed, Did, PushedNote, Pushed, TookNote, Took, Polled, Nothing}
 use Rattle.rdm_model.specs.Owns.{Messages}
 use Rattle.rdm_model.specs.Jobs.{instr_fits, len_max}
-use Rattle.rdm_model.specs.Matches.{Receive, receive, receives, received_by, with_received}
+use Rattle.rdm_model.specs.Matches.{Receive, receives, received_by, with_received}
 use Rattle.rdm_model.specs.Receives.{RecvEnd, Filled, Withdrawn, Gone, ended_recv, recv_ends, recv_ends_by, receive_numbered}
 use Rattle.rdm_model.specs.Regions.{put, change_at, kept_bytes, written_by, after_end, after_ends, region_by, regions}
-use Rattle.rdm_model.proofs.Members.{member-append_cases, find_member}
+use Rattle.rdm_model.proofs.Members.{member-append_cases}
 use Rattle.rdm_law.proofs.Fitting.{AreBytes}
 use Rattle.rdm_law.proofs.SmallBytes.{bytes_front, bytes_rest, bytes_append, zeros_bytes}
 

@@ -1,7 +1,6 @@
 -- What a life owes for what it took can go.
-use Rattle.std.proofs.Common.{◌≡◌, ℕ, ◌+◌, ◌-◌, ◌<◌, ◌≤◌, min, Bool, true, false, cond, ◌&&◌, ltb-true, List, [], ◌∷◌, ◌++◌, length, take, drop, unwrap_or, Option, Some, None, refl, arith, ◌⊎◌, inl, inr, sym, ◌∙◌, ap, subst}
-use Rattle.std.specs.Prelude.{◌==◌, slice_get}
-use Rattle.std.specs.Bool.{then_some}
+use Rattle.std.proofs.Common.{◌≡◌, ℕ, ◌+◌, ◌<◌, ◌≤◌, Bool, true, false, cond, ◌&&◌, ltb-true, List, [], ◌∷◌, drop, unwrap_or, Option, Some, None, refl, arith, inl, inr, sym, subst}
+use Rattle.std.specs.Prelude.{◌==◌}
 use Rattle.std.specs.List.{list_all}
 use Rattle.std.proofs.lemmas.Bool.{and_parts}
 use Rattle.rdm_num.specs.Lists.{Member}
@@ -9,37 +8,35 @@ use Rattle.rdm_num.specs.Pieces.{covers}
 use Rattle.rdm_num.specs.Lives.{same_life}
 use Rattle.rdm_num.specs.declared.numbers.Life.{Life}
 use Rattle.rdm_num.specs.declared.numbers.OpId.{OpId}
-use Rattle.rdm_num.specs.declared.numbers.MsgNo.{MsgNo}
 use Rattle.rdm_num.specs.declared.limits.EpLimits.{EpLimits}
 use Rattle.rdm_num.specs.declared.head.Head.{Head}
 use Rattle.rdm_num.specs.declared.head.Shape.{Shape}
 use Rattle.rdm_num.specs.declared.head.Shape.TheVariants as S
-use Rattle.rdm_hdr.specs.declared.Opt.{Opt}
 use Rattle.rdm_hdr.specs.Fields.{Number, field_fits}
-use Rattle.rdm_pkt.specs.declared.Packet.TheVariants.{Rtm, Cts, CtsData, Eor, Handshake}
+use Rattle.rdm_pkt.specs.declared.Packet.TheVariants.{Rtm, Eor}
 use Rattle.rdm_pkt.specs.declared.Form.{Form}
 use Rattle.rdm_pkt.specs.declared.Form.TheVariants.{Eager, Medium, LongCts, LongRead, Runt}
 use Rattle.rdm_pkt.specs.Heads.{shape_of, size_of, head_of}
-use Rattle.rdm_pkt.specs.Grammar.{form_fields, fits}
+use Rattle.rdm_pkt.specs.Grammar.{form_fields}
 use Rattle.rdm_match.specs.Matcher.{Pair, is_pair}
-use Rattle.rdm_model.specs.Deeds.{Deed, Did, Took, Item, Spelled, Asks, Gives, Garbled}
+use Rattle.rdm_model.specs.Deeds.{Deed, Took, Spelled}
 use Rattle.rdm_model.specs.Owns.{Own, Messages, Heads, no_head}
 use Rattle.rdm_model.specs.Heard.{head_by, heard_head}
-use Rattle.rdm_model.specs.Matches.{receives, pairs}
+use Rattle.rdm_model.specs.Matches.{pairs}
 use Rattle.rdm_model.specs.Parts.{carried_pieces}
-use Rattle.rdm_model.specs.Sends.{Sent, sends}
+use Rattle.rdm_model.specs.Sends.{sends}
 use Rattle.rdm_model.specs.Grants.{first_part, window_of, window, granted_bytes}
 use Rattle.rdm_model.specs.Replies.{Reply, end_for}
 use Rattle.rdm_model.specs.Turns.{progress}
 use Rattle.rdm_model.specs.Local.{heads_by}
 use Rattle.rdm_model.proofs.Members.{or_else_cases, slice_get-member}
 use Rattle.rdm_law.proofs.Numbered.{matching_numbered}
-use Rattle.rdm_law.proofs.Owed.{NewShake, NewAsk, NewCts, NewEnd, NewGiven, NewReply, OwedIn, owed_in, shape_in, recv_in}
+use Rattle.rdm_law.proofs.Owed.{NewReply, OwedIn, owed_in, shape_in, recv_in}
 use Rattle.rdm_law.proofs.Queue.{owed, waits_owed}
-use Rattle.rdm_law.proofs.Fitting.{AreBytes, ItemFits, CanGo}
-use Rattle.rdm_law.proofs.SmallBytes.{AllTakenFit, TakenFits, RtmFits, rtm_fits, some_then, bytes_front, bytes_rest}
+use Rattle.rdm_law.proofs.Fitting.{CanGo}
+use Rattle.rdm_law.proofs.SmallBytes.{AllTakenFit, TakenFits, rtm_fits, some_then, bytes_front, bytes_rest}
 use Rattle.rdm_law.proofs.RegionsFit.{MessagesFit}
-use Rattle.rdm_law.proofs.SentFits.{DeedsFit, deeds_fit_before, SentFits, sent_fits, did_count, receives_count}
+use Rattle.rdm_law.proofs.SentFits.{DeedsFit, deeds_fit_before, sent_fits, receives_count}
 use Rattle.rdm_law.proofs.PacketsFit.{cts_fits, eor_fits, handshake_fits}
 
 -- the numbers of a shape are in their ranges

@@ -1,5 +1,5 @@
 -- Each accepted send has its numbers in their ranges, and its bytes are bytes.
-use Rattle.std.proofs.Common.{◌≡◌, ℕ, zero, suc, ◌+◌, ◌-◌, ◌<◌, ◌≤◌, min, Bool, true, nat_lt, nat_le, leb-true, ltb-true, ◌&&◌, List, [], ◌∷◌, ◌++◌, map, length, get_or, take, drop, option_to_list, is_some, Option, Some, None, refl, arith, ◌⊎◌, inl, inr, sym, ◌∙◌, ap, subst, length-append, length-take, length-drop}
+use Rattle.std.proofs.Common.{◌≡◌, ℕ, zero, suc, ◌+◌, ◌<◌, ◌≤◌, Bool, true, ltb-true, List, [], ◌∷◌, map, length, get_or, drop, option_to_list, is_some, Option, Some, None, refl, arith, inl, inr, sym, ap, subst, length-append, length-take, length-drop}
 use Rattle.std.proofs.lemmas.Bool.{and_parts}
 use Rattle.std.proofs.lemmas.List.{length-map}
 use Rattle.rdm_num.specs.Lists.{Member}
@@ -7,21 +7,20 @@ use Rattle.rdm_num.specs.Lives.{op_id}
 use Rattle.rdm_num.specs.declared.numbers.Life.{Life}
 use Rattle.rdm_num.specs.declared.request.SendReq.{SendReq}
 use Rattle.rdm_pkt.specs.Choice.{choose}
-use Rattle.rdm_model.specs.declared.job.Instr.{Instr}
-use Rattle.rdm_model.specs.declared.job.Instr.TheVariants.{OpenLife, Insert, Reg, Send, Recv, Cancel, Note, Await, Wait, CloseLife}
-use Rattle.rdm_model.specs.Deeds.{Deed, Did, PushedNote, Pushed, TookNote, Took, Polled, Nothing, deed_count}
+use Rattle.rdm_model.specs.declared.job.Instr.TheVariants.{Send, Recv}
+use Rattle.rdm_model.specs.Deeds.{Deed, Did, deed_count}
 use Rattle.rdm_model.specs.Currents.{current}
 use Rattle.rdm_model.specs.Owns.{Own, Messages}
-use Rattle.rdm_model.specs.Jobs.{instr_fits, range_fits, option_fits, len_max, is_rank, is_u32, is_u64}
+use Rattle.rdm_model.specs.Jobs.{instr_fits, range_fits, option_fits, len_max}
 use Rattle.rdm_model.specs.Matches.{Receive, receives, received_by, with_received}
 use Rattle.rdm_model.specs.Regions.{regions}
 use Rattle.rdm_model.specs.Sends.{Sent, sends_to, new_sent, range_of, known_word, wants_raw, opt_for, sends}
 use Rattle.rdm_model.proofs.Numbers.{NewSent, sends_keep}
 use Rattle.rdm_law.proofs.Fitting.{AreBytes}
 use Rattle.rdm_law.proofs.SmallBytes.{bytes_front, bytes_rest}
-use Rattle.rdm_law.proofs.RegionsFit.{MessagesFit, AllAreBytes, DidFits, AllDidFit, regions_fit, sizes, RangeFits, AllRangesFit}
+use Rattle.rdm_law.proofs.RegionsFit.{MessagesFit, AllAreBytes, DidFits, AllDidFit, regions_fit, RangeFits, AllRangesFit}
 use Rattle.rdm_law.proofs.RegionSizes.{region_size, size_bound}
-use Rattle.rdm_law.proofs.AnswersFit.{sent_life, sent_lives, lives_of_sends, messages_to, sends_to_count, NumberFits, AllNumbersFit}
+use Rattle.rdm_law.proofs.AnswersFit.{sent_life, sent_lives, lives_of_sends, sends_to_count, NumberFits, AllNumbersFit}
 
 -- 1 for an instruction that did
 unfoldable pub is_did : Deed → ℕ

@@ -1,10 +1,10 @@
 -- Bytes that are bytes: in parts of lists, in the packets that life took, and so in the messages that came.
-use Rattle.std.proofs.Common.{◌≡◌, ℕ, zero, suc, ◌+◌, ◌-◌, ◌<◌, Bool, true, false, cond, ◌&&◌, nat_lt, ltb-true, List, [], ◌∷◌, ◌++◌, map, length, take, drop, replicate, slice_get, unwrap_or, is_some, option_to_list, Option, Some, None, refl, arith, ◌⊎◌, inl, inr, sym, ◌∙◌, ap, subst, take-append-drop, lt-ltb}
+use Rattle.std.proofs.Common.{◌≡◌, ℕ, zero, suc, ◌+◌, ◌-◌, ◌<◌, Bool, true, false, cond, nat_lt, ltb-true, List, [], ◌∷◌, ◌++◌, length, take, drop, replicate, slice_get, unwrap_or, is_some, option_to_list, Option, Some, None, refl, inl, inr, sym, ◌∙◌, ap, subst, take-append-drop, lt-ltb}
 use Rattle.std.specs.List.{list_all}
 use Rattle.std.specs.Bool.{then_some}
 use Rattle.std.proofs.lemmas.Bool.{and_parts, and_from}
 use Rattle.std.proofs.lemmas.List.Folds.{list_all-append, list_all-map}
-use Rattle.rdm_num.specs.Lists.{Member, or_else, below}
+use Rattle.rdm_num.specs.Lists.{Member, below}
 use Rattle.rdm_num.specs.Pieces.{Piece, byte_in, byte_at}
 use Rattle.rdm_num.specs.Lives.{same_life}
 use Rattle.rdm_num.specs.declared.numbers.Life.{Life}
@@ -21,7 +21,7 @@ use Rattle.rdm_pkt.specs.Heads.{piece_of}
 use Rattle.rdm_pkt.specs.Grammar.{head_fields, type_of, rtm_flags, form_fields, tag_fields, last_fields, entry_fields, layout, packet_fits, fits}
 use Rattle.rdm_hdr.specs.Headers.{opt_fields}
 use Rattle.rdm_match.specs.Matcher.{Pair}
-use Rattle.rdm_model.specs.Deeds.{Deed, Did, Took, Item, Spelled, Asks, Gives, Garbled}
+use Rattle.rdm_model.specs.Deeds.{Deed, Took, Item, Spelled, Asks, Gives, Garbled}
 use Rattle.rdm_model.specs.Owns.{Heads}
 use Rattle.rdm_model.specs.Matches.{pairs}
 use Rattle.rdm_model.specs.Parts.{piece_by, carried_by, carried_pieces}

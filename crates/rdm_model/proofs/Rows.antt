@@ -59,7 +59,7 @@ row_lacks bytes from (p ∷ ps) place r high =
     let o = r.0 in
     none_first (byte_in p place) (byte_at ps place) (byte_in_after p place (omega arith)) ∙ row_lacks bytes (from + length p.bytes) ps place r.2 (omega arith)
 
-each_below_from : (t : ℕ → Bool) (n : ℕ) → ((k : ℕ) → k < n → t k ≡ true) → each_below t n ≡ true
+pub each_below_from : (t : ℕ → Bool) (n : ℕ) → ((k : ℕ) → k < n → t k ≡ true) → each_below t n ≡ true
 unfolding each_below
 each_below_from t zero h = refl
 each_below_from t (suc n) h = and_from (each_below t n) (t n) (each_below_from t n (λ k l. h k (omega arith))) (h n (omega arith))
