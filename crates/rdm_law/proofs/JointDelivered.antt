@@ -57,7 +57,7 @@ unhandled_newest d e before =
     log_of_case (λ (log : List Entry). IsUnhandled d log → IsUnhandled d (log_of d.dst.0 before) × (e.port.0 ≡ d.dst.0 → IsOther d e.act)) d.dst.0 e before
     (λ is h. (h.0, λ here. h.1)) (λ other h. (h, λ here. absurd (other here)))
 
-unhandled_by_all : (logs : ℕ → List Entry) (d : Datagram) (history : List Entry) → ((p : ℕ) → AreNumbered p (logs p)) → PushedIn d (logs d.src.0)
+pub unhandled_by_all : (logs : ℕ → List Entry) (d : Datagram) (history : List Entry) → ((p : ℕ) → AreNumbered p (logs p)) → PushedIn d (logs d.src.0)
     → ((p : ℕ) → AllHadWaited logs p (log_of p history)) → IsUnhandled d (log_of d.dst.0 history) → IsUnhandled d history
 unhandled_by_all logs d [] n pushed waited h = tt
 unhandled_by_all logs d (e ∷ before) n pushed waited h =

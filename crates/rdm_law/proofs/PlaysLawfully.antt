@@ -1,0 +1,161 @@
+-- What is played in a fair job is lawful, by the law of joint histories.
+use Rattle.std.proofs.Common.{◌≡◌, ℕ, ◌+◌, ◌≤◌, ◌<◌, Bool, true, false, ◌||◌, List, [], ◌∷◌, ◌++◌, map, length, is_some, Option, Some, None, IsTrue, refl, arith, inl, inr, sym, ◌∙◌, ap, subst, length-append}
+use Rattle.std.specs.List.{list_any}
+use Rattle.rdm_num.specs.Lists.{below}
+use Rattle.rdm_num.specs.declared.numbers.Connid.{Connid}
+use Rattle.rdm_model.specs.declared.job.Job.{Job}
+use Rattle.rdm_model.specs.declared.job.Choice.{Choice}
+use Rattle.rdm_model.specs.declared.job.Instr.{Instr}
+use Rattle.rdm_model.specs.declared.answer.Next.{Next as Answer}
+use Rattle.rdm_model.specs.declared.entry.Entry.{Entry}
+use Rattle.rdm_model.specs.declared.report.End.{End}
+use Rattle.rdm_model.specs.declared.report.Report.{Report}
+use Rattle.rdm_model.specs.Deeds.{Deed, log_of, open_life, of_life, of_open_life}
+use Rattle.rdm_model.specs.Owns.{Own, Messages, own_of, life_at, port_count}
+use Rattle.rdm_model.specs.Heard.{heard_head}
+use Rattle.rdm_model.specs.Scenes.{Scene, scene, deeds_at}
+use Rattle.rdm_model.specs.Answers.{answer_of}
+use Rattle.rdm_model.specs.Jobs.{is_fair, law_ops}
+use Rattle.rdm_model.specs.Local.{heard_by, own_scene, Local}
+use Rattle.rdm_model.specs.Lawful.{Lawful, port_deeds, life_deeds, sent_to, sent_scene}
+use Rattle.rdm_model.specs.Joint.{IsJoint}
+use Rattle.rdm_model.specs.Matches.{matching}
+use Rattle.rdm_model.specs.Receives.{is_filled}
+use Rattle.rdm_match.specs.Matcher.{is_pair}
+use Rattle.rdm_model.specs.Settled.{instruction_left, left_answer, left_at, answer_or_worn, waiting_datagrams}
+use Rattle.rdm_model.specs.Reports.{end_of, end_in, is_stuck}
+use Rattle.rdm_model.specs.Worlds.{World, new_world, scene_in, after_choice, after_choices}
+use Rattle.rdm_model.specs.Played.{rounds, played_world, end_at, IsReportOf, IsPlayed}
+use Rattle.rdm_model.specs.Jobs.{choice_rank}
+use Rattle.rdm_model.proofs.SameRegions.{Agree}
+use Rattle.rdm_model.proofs.SameAnswers.{by_account, AgreesIn, answer_same}
+use Rattle.rdm_law.specs.Law.{JointLaw}
+use Rattle.rdm_law.specs.Right.{stashed_end, IsLawfulReport, PlaysLawfully}
+use Rattle.rdm_law.proofs.Lives.{life_of}
+use Rattle.rdm_law.proofs.Wired.{Played}
+use Rattle.rdm_law.proofs.Joint.{joint_parts}
+use Rattle.rdm_law.proofs.Sent.{SendsAre, agree_sent}
+use Rattle.rdm_law.proofs.SendsAre.{sends_are}
+use Rattle.rdm_law.proofs.Delivers.{Delivers}
+use Rattle.rdm_law.proofs.Sound.{Sound, waiting_in}
+use Rattle.rdm_law.proofs.SoundSteps.{new_sound}
+use Rattle.rdm_law.proofs.SoundHandles.{choice_sound}
+use Rattle.rdm_law.proofs.GoesWell.{goes_well}
+use Rattle.rdm_law.proofs.PlayedSteps.{Keeps, played_keeps}
+use Rattle.rdm_law.proofs.JointDelivered.{joint_delivered}
+use Rattle.rdm_law.proofs.Waiting.{waiting_bound}
+
+-- in a fair job each choice keeps a world sound
+pub sound_keeps : (job : Job) → IsTrue (is_fair law_ops job) → Keeps job (Sound job)
+sound_keeps job fair w c rank s = choice_sound job w c (goes_well job fair) s
+
+-- the world that a fair job ends in is sound
+pub played_sound : (job : Job) → IsTrue (is_fair law_ops job) → Sound job (played_world job)
+played_sound job fair = played_keeps job law_ops (Sound job) fair (sound_keeps job fair) (new_sound job)
+
+-- the joint history of a sound world is played
+pub joint_played : (job : Job) (w : World) (history : List Entry) → IsTrue (is_fair law_ops job) → Sound job w → IsJoint w.logs history → Played job history
+joint_played job w history fair s joint =
+    let parts = joint_parts job w.logs history joint (joint_delivered w.logs (waiting_in w) history s.delivers joint) s.local in
+    record { fair = fair; locals = parts.locals; wire = parts.wire }
+
+-- where no life is open, any accounts agree
+none_agree : (first : ℕ) (ms ns : Messages) → Agree first ms ns []
+unfolding heard_head is_filled matching is_pair
+none_agree first ms ns = record { heads = λ source n h is. absurd (cc); bytes = λ p is. absurd (cc) }
+
+life_agree : (job : Job) (port : ℕ) (history : List Entry) (c : Connid) → Played job history → SendsAre job history
+    → Agree (own_of job (life_of port c)).limits.first (heard_by job.limits.first (of_life c (port_deeds job port history))) (sent_to job history (life_of port c))
+    (of_life c (port_deeds job port history))
+unfolding life_deeds own_of
+life_agree job port history c played are = agree_sent job history (life_of port c) played are
+
+open_agree : (job : Job) (port : ℕ) (history : List Entry) (now : Option Connid) → Played job history → SendsAre job history
+    → Agree (own_of job (life_at port now)).limits.first (heard_by job.limits.first (of_open_life now (port_deeds job port history))) (sent_to job history (life_at port now))
+    (of_open_life now (port_deeds job port history))
+unfolding of_open_life life_at
+open_agree job port history None played are = none_agree _ _ _
+open_agree job port history (Some c) played are = life_agree job port history c played are
+
+-- the accounts of a port agree at the end
+port_agrees : (job : Job) (port : ℕ) (history : List Entry) → Played job history → SendsAre job history
+    → AgreesIn (own_scene job port (port_deeds job port history)) (sent_to job history (life_at port (open_life (port_deeds job port history))))
+unfolding own_scene scene
+port_agrees job port history played are = open_agree job port history (open_life (port_deeds job port history)) played are
+
+sent_is_account : (job : Job) (port : ℕ) (history : List Entry)
+    → sent_scene job port history ≡ by_account (own_scene job port (port_deeds job port history)) (sent_to job history (life_at port (open_life (port_deeds job port history))))
+unfolding sent_scene own_scene scene
+sent_is_account job port history = refl
+
+-- an instruction is answered alike by what a port took and by what was sent to it
+pub answers_agree : (job : Job) (port : ℕ) (history : List Entry) (instr : Instr) → Played job history
+    → answer_of (own_scene job port (port_deeds job port history)) instr ≡ answer_of (sent_scene job port history) instr
+answers_agree job port history instr played =
+    answer_same (own_scene job port (port_deeds job port history)) _ instr (port_agrees job port history played (sends_are job history played))
+    ∙ ap (λ (s : Scene). answer_of s instr) (sym (sent_is_account job port history))
+
+left_answers_agree : (job : Job) (port : ℕ) (history log : List Entry) (o : Option Instr) → Played job history
+    → left_answer job (own_scene job port (port_deeds job port history)) log o ≡ left_answer job (sent_scene job port history) log o
+unfolding left_answer
+left_answers_agree job port history log None played = refl
+left_answers_agree job port history log (Some instr) played = ap (λ (a : Answer). Some (answer_or_worn job log a)) (answers_agree job port history instr played)
+
+-- what the next instruction of a port answers is the same in the world and in the history
+pub left_agrees : (job : Job) (port : ℕ) (w : World) (history : List Entry) → Played job history → log_of port history ≡ w.logs port
+    → left_at job port (scene_in job w port) (w.logs port) ≡ left_at job port (sent_scene job port history) (log_of port history)
+unfolding left_at scene_in port_deeds
+left_agrees job port w history played is =
+    let P : List Entry → Type 0 = λ log. left_at job port (own_scene job port (deeds_at job port log)) log ≡ left_at job port (sent_scene job port history) (log_of port history) in
+    subst P is (left_answers_agree job port history (log_of port history) (instruction_left job port (log_of port history)) played)
+
+-- the end of a port in a world is that in the history, with what is in its stash
+end_agrees : (job : Job) (w : World) (history : List Entry) (port : ℕ) → Played job history → log_of port history ≡ w.logs port
+    → end_at job w port ≡ stashed_end job history (λ p. length (w.stashes p)) port
+unfolding end_at stashed_end end_in end_of
+end_agrees job w history port played is =
+    let Q : List Entry → Option Answer → End = λ log left. end_of job port log left (length (w.stashes port)) in
+    ap (λ (log : List Entry). Q log (left_at job port (scene_in job w port) (w.logs port))) (sym is)
+    ∙ ap (λ (left : Option Answer). Q (log_of port history) left) (left_agrees job port w history played is)
+
+map_alike : {A B : Type 0} (f g : A → B) (xs : List A) → ((x : A) → f x ≡ g x) → map f xs ≡ map g xs
+map_alike f g [] h = refl
+map_alike {A} {B} f g (x ∷ xs) h = ap (λ (y : B). y ∷ map f xs) (h x) ∙ ap (λ (ys : List B). g x ∷ ys) (map_alike f g xs h)
+
+any_alike : {A : Type 0} (f g : A → Bool) (xs : List A) → ((x : A) → f x ≡ g x) → list_any f xs ≡ list_any g xs
+any_alike f g [] h = refl
+any_alike f g (x ∷ xs) h = ap (λ (b : Bool). b || list_any f xs) (h x) ∙ ap (λ (b : Bool). g x || b) (any_alike f g xs h)
+
+-- some program has an instruction left in the world where one has in the history
+stuck_agrees : (job : Job) (w : World) (history : List Entry) → IsJoint w.logs history
+    → list_any (λ port. is_some (instruction_left job port (w.logs port))) (below (port_count job)) ≡ is_stuck job history
+unfolding is_stuck
+stuck_agrees job w history joint =
+    any_alike (λ port. is_some (instruction_left job port (w.logs port))) (λ port. is_some (instruction_left job port (log_of port history))) (below (port_count job))
+    (λ port. ap (λ (log : List Entry). is_some (instruction_left job port log)) (sym (joint.logs_are port)))
+
+-- no more datagrams are in a stash than wait in the history
+stash_bound : (job : Job) (w : World) (history : List Entry) (port : ℕ) → Sound job w → IsJoint w.logs history
+    → length (w.stashes port) ≤ length (waiting_datagrams port history)
+stash_bound job w history port s joint =
+    let a = waiting_bound w.logs (waiting_in w) history port s.delivers joint in
+    let b = length-append (w.stashes port) (w.queues port) in
+    omega arith
+
+-- the report of a sound world is lawful
+pub report_lawful : JointLaw → (job : Job) (w : World) (report : Report) → IsTrue (is_fair law_ops job) → Sound job w → IsReportOf job w report → IsLawfulReport job report
+report_lawful law job w report fair s is =
+    let history = report.history in
+    let played = joint_played job w history fair s is.history in
+    record {
+      lawful = law job w.logs history fair is.history (joint_delivered w.logs (waiting_in w) history s.delivers is.history) s.local;
+      stuck = is.stuck ∙ stuck_agrees job w history is.history;
+      stashed = λ port. length (w.stashes port);
+      stashed_wait = λ port. stash_bound job w history port s is.history;
+      ends = is.ends ∙ map_alike (end_at job w) (stashed_end job history (λ p. length (w.stashes p))) (below (port_count job))
+        (λ port. end_agrees job w history port played (is.history.logs_are port));
+    }
+
+-- what is played in a fair job is lawful
+pub plays_lawfully : PlaysLawfully
+plays_lawfully law job report fair played = report_lawful law job (played_world job) report fair (played_sound job fair) played
