@@ -41,7 +41,7 @@ use Rattle.rdm_law.proofs.Went.{RepliedIt}
 use Rattle.rdm_law.proofs.Known.{account, sends_of, Known}
 use Rattle.rdm_law.proofs.Named.{pairs_of, PairKnown, pair_known, went_ask, AskOf, ask_of, head_shape, send_number}
 use Rattle.rdm_law.proofs.Chains.{AskKnown, ask_known_at, ask_known}
-use Rattle.rdm_law.proofs.Arriving.{Arriving, taken_before}
+use Rattle.rdm_law.proofs.Fresh.{taken_before}
 use Rattle.rdm_law.proofs.Arrives.{Arrives}
 
 -- a message is in one pair at most
@@ -49,9 +49,6 @@ pub message_one : (job : Job) (history : List Entry) (life' : Life) (p q : Pair)
     → p.message.life ≡ q.message.life → p.message.no.0 ≡ q.message.no.0 → p ≡ q
 message_one job history life' p q m n e k =
     (matching_distinct (own_of job life').limits.first (account job history life').head (life_deeds job history life')).once p q m n e k
-
-abbrev pub arriving : (job : Job) (history : List Entry) (life' from : Life) (item : Item) (d : Datagram) → Arrives job history life' from item d → Arriving job history life' from item
-arriving job history life' from item d a = record { played = a.played; datagram = d; came = a.taken; unhandled = a.fresh }
 
 -- the send that an ask names
 pub record AskSend (job : Job) (history : List Entry) (j i : Life) (a : ReadAsk) : Type 0 where
@@ -104,7 +101,7 @@ ask_new job history j i s a b d h k m names took share =
     let clash : Clash x.reply y.reply =
     inr (inl (record { ask = a; is = x.is; ask' = b; is' = y.is; recv_is = asks_recv job history j i s a b k l; share = share })) in
     let e = reply_once (own_of job i) x.reply y.reply h.taken.place t.taken.place (life_deeds job history i) (own_life job history h.played i) x.turned y.turned clash in
-    taken_before job history j i (Asks a) (Asks b) (arriving job history j i (Asks a) d h) t (sym e)
+    taken_before job history j i (Asks a) (Asks b) d h t (sym e)
 
 -- an ask of a send was taken
 asked_by_took : (peer : Life) (send : ℕ) (d : Deed) (b : ReadAsk) → Member b (asked_by peer send d) → (d ≡ Took peer (Asks b)) × (b.send_id.0 ≡ send)

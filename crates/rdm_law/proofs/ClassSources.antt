@@ -11,6 +11,7 @@ use Rattle.std.proofs.lemmas.Bool.{and_from, eq-eqb, not_from_true, and_right, a
 use Rattle.rdm_num.specs.Lists.{Member}
 use Rattle.rdm_num.specs.Lives.{same_life, op_id}
 use Rattle.rdm_num.specs.declared.numbers.Life.{Life}
+use Rattle.rdm_num.specs.declared.numbers.Connid.{Connid}
 use Rattle.rdm_hdr.specs.declared.Opt.{Opt}
 use Rattle.rdm_pkt.specs.declared.Packet.{Packet}
 use Rattle.rdm_pkt.specs.declared.Packet.TheVariants.{Handshake, Rtm, Cts}
@@ -84,24 +85,28 @@ well_formed job history to from item d t =
       | inr r ↦ ap (λ (x : Item). is_malformed from x) (sym r.is) ∙ owed_names (own_of job from) (heard_by (own_of job from).limits.first (life_deeds job history from)) r.reply (life_deeds job history from) r.owed
     ]
 
-known_now : (peer : Life) (d : Deed) (word : ℕ) → known_by peer d ≡ Some word → (item : Item) × (d ≡ Took peer item)
+known_now : (peer : Life) (d : Deed) (word : ℕ) → known_by peer d ≡ Some word → (words : List ℕ) × (connid : Connid) × (d ≡ Took peer (Spelled (Handshake words connid)))
 unfolding known_by
 known_now peer (Took from (Spelled (Handshake words connid))) word h =
-    (elim (same_life from peer) as (λ b. same_life from peer ≡ b → cond b (slice_get words 0) None ≡ Some word → (item : Item) × (Took from (Spelled (Handshake words connid)) ≡ Took peer item)) [
-      | true ↦ λ t k. (Spelled (Handshake words connid), ap (λ (x : Life). Took x (Spelled (Handshake words connid))) (same_life-true from peer t))
+    (elim (same_life from peer) as (λ b. same_life from peer ≡ b → cond b (slice_get words 0) None ≡ Some word
+    → (ws : List ℕ) × (c : Connid) × (Took from (Spelled (Handshake words connid)) ≡ Took peer (Spelled (Handshake ws c)))) [
+      | true ↦ λ t k. (words, connid, ap (λ (x : Life). Took x (Spelled (Handshake words connid))) (same_life-true from peer t))
       | false ↦ λ t k. cc
     ]) refl h
 known_now peer _ word h = cc
 
 -- a handshake was taken from a life of which something is known
-known_taken : (log : List Deed) (peer : Life) (word : ℕ) → known_word log peer ≡ Some word → (item : Item) × Member (Took peer item) log
+pub known_shake : (log : List Deed) (peer : Life) (word : ℕ) → known_word log peer ≡ Some word → (words : List ℕ) × (connid : Connid) × Member (Took peer (Spelled (Handshake words connid))) log
 unfolding known_word
-known_taken [] peer word h = cc
-known_taken (d ∷ before) peer word h =
+known_shake [] peer word h = cc
+known_shake (d ∷ before) peer word h =
     elim (or_else_cases (known_word before peer) (known_by peer d) word h) [
-      | inl a ↦ (let r = known_taken before peer word a in (r.0, inr r.1))
-      | inr a ↦ (let r = known_now peer d word a.1 in (r.0, inl r.1))
+      | inl a ↦ (let r = known_shake before peer word a in (r.0, r.1, inr r.2))
+      | inr a ↦ (let r = known_now peer d word a.1 in (r.0, r.1, inl r.2))
     ]
+
+known_taken : (log : List Deed) (peer : Life) (word : ℕ) → known_word log peer ≡ Some word → (item : Item) × Member (Took peer item) log
+known_taken log peer word h = let r = known_shake log peer word h in (Spelled (Handshake r.0 r.1), r.2)
 
 -- no raw address is left out for a life of which nothing is known
 raw_known : (own : Own) (before : List Deed) (s : Sent) (opt : Opt) (o : Option ℕ) → known_word before s.to ≡ o → opt ≡ opt_for own.life (wants_raw (known_word before s.to)) s.req.cq_data
