@@ -121,11 +121,19 @@ given_asked job history i j s x place k g from to =
       to = omega arith;
     }
 
--- a byte that came of what is to be read of a message was asked for
-pub carried_asked : (job : Job) (history : List Entry) (i j : Life) (n : ℕ) (s : Sent) (x : Piece) (place : ℕ) → Played job history → (k : Known job history i j n) → k.sent ≡ s
+-- bytes of that message, with that place, that were given
+pub record GivenAt (job : Job) (history : List Entry) (i j : Life) (s : Sent) (place : ℕ) : Type 0 where
+  pub piece : Piece
+  pub turn' : ℕ
+  pub given : GivenPiece job history i j s piece turn'
+  pub from : piece.offset ≤ place
+  pub to : place < piece.offset + length piece.bytes
+
+-- a byte that came of what is to be read of a message was given
+pub carried_given : (job : Job) (history : List Entry) (i j : Life) (n : ℕ) (s : Sent) (x : Piece) (place : ℕ) → Played job history → (k : Known job history i j n) → k.sent ≡ s
     → is_read s.kind ≡ true → Member x (carried_pieces (own_of job i).limits.first (account job history i).head (life_deeds job history i) j n)
-    → read_from s.kind ≤ place → x.offset ≤ place → place < x.offset + length x.bytes → AskedAt job history i j s place
-carried_asked job history i j n s x place played k is read m from low high =
+    → read_from s.kind ≤ place → x.offset ≤ place → place < x.offset + length x.bytes → GivenAt job history i j s place
+carried_given job history i j n s x place played k is read m from low high =
     let c = carried_part job history i j n x played m in
     let same : c.1.known.sent ≡ s = known_one job history i j n c.1.known k ∙ is in
     elim c.1.how [
@@ -133,15 +141,15 @@ carried_asked job history i j n s x place played k is read m from low high =
           let p = subst (λ (y : Sent). SentPiece job history j y x c.0) same a in
           let e = sent_before_read job history j s x c.0 read p in
           absurd (omega arith)
-      | inr a ↦ given_asked job history i j s x place c.0 (subst (λ (y : Sent). GivenPiece job history i j y x c.0) same a) low high
+      | inr a ↦ record { piece = x; turn' = c.0; given = subst (λ (y : Sent). GivenPiece job history i j y x c.0) same a; from = low; to = high }
     ]
 
--- where a receive is filled by a message, each byte that is to be read of it was asked for
-pub filled_asked : (job : Job) (history : List Entry) (i j : Life) (p : Pair) (s : Sent) (place : ℕ) → Played job history → p.message.life ≡ j
+-- where a receive is filled by a message, each byte that is to be read of it was given
+pub filled_given : (job : Job) (history : List Entry) (i j : Life) (p : Pair) (s : Sent) (place : ℕ) → Played job history → p.message.life ≡ j
     → (k : Known job history i j p.message.no.0) → k.sent ≡ s → (account job history i).head p.message.life p.message.no.0 ≡ message_head job.limits s.message s.kind
     → is_read s.kind ≡ true → is_filled (own_of job i).limits.first (account job history i).head (life_deeds job history i) p ≡ true
-    → read_from s.kind ≤ place → place < length s.message.bytes → AskedAt job history i j s place
-filled_asked job history i j p s place played l k is head read filled from to =
+    → read_from s.kind ≤ place → place < length s.message.bytes → GivenAt job history i j s place
+filled_given job history i j p s place played l k is head read filled from to =
     let first = (own_of job i).limits.first in
     let heads = (account job history i).head in
     let log = life_deeds job history i in
@@ -150,4 +158,13 @@ filled_asked job history i j p s place played l k is head read filled from to =
     let q = byte_of_piece (carried_pieces first heads log p.message.life p.message.no.0) place b.0 b.1 in
     let r = byte_range q.0 place b.0 q.2 in
     let m = subst (λ (y : Life). Member q.0 (carried_pieces first heads log y p.message.no.0)) l q.1 in
-    carried_asked job history i j p.message.no.0 s q.0 place played k is read m from r.0 r.1
+    carried_given job history i j p.message.no.0 s q.0 place played k is read m from r.0 r.1
+
+-- and was asked for
+pub filled_asked : (job : Job) (history : List Entry) (i j : Life) (p : Pair) (s : Sent) (place : ℕ) → Played job history → p.message.life ≡ j
+    → (k : Known job history i j p.message.no.0) → k.sent ≡ s → (account job history i).head p.message.life p.message.no.0 ≡ message_head job.limits s.message s.kind
+    → is_read s.kind ≡ true → is_filled (own_of job i).limits.first (account job history i).head (life_deeds job history i) p ≡ true
+    → read_from s.kind ≤ place → place < length s.message.bytes → AskedAt job history i j s place
+filled_asked job history i j p s place played l k is head read filled from to =
+    let g = filled_given job history i j p s place played l k is head read filled from to in
+    given_asked job history i j s g.piece place g.turn' g.given g.from g.to

@@ -50,7 +50,7 @@ ask_unended : (job : Job) (history : List Entry) (j i : Life) (a : ReadAsk) (d :
     → list_any (ends_send i s.sent.number) (life_deeds job history j) ≡ false
 ask_unended job history j i a d h s =
     false_from_ne_true (list_any (ends_send i s.sent.number) (life_deeds job history j)) (λ t.
-    let e = end_taken job history j i s.sent.number h.played t in
+    let e = (end_taken job history j i s.sent.number h.played t).of in
     let same : e.known.sent ≡ s.sent = sent_one job history j e.known.sent s.sent e.sent_member s.member e.number_is in
     let ask = s.known.ask_of in
     let size = sent_size job history j s.sent h.played s.member in

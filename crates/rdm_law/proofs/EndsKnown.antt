@@ -44,9 +44,10 @@ end_shape own limits m LongRead recv send recv' connid h = (cc, refl)
 end_shape own limits m (Runt runt) recv send recv' connid h = (cc, refl)
 
 -- the pair of an end, and the send that it ends
-pub record EndSend (job : Job) (history : List Entry) (i j : Life) (send : ℕ) : Type 0 where
+pub record EndSend (job : Job) (history : List Entry) (i j : Life) (send recv : ℕ) : Type 0 where
   pub pair : Pair
   pub member : Member pair (pairs_of job history i)
+  pub recv_is : pair.recv.id.0 ≡ recv
   pub life_is : pair.message.life ≡ j
   pub known : Known job history i j pair.message.no.0
   pub sent_member : Member known.sent (sends_of job history j)
@@ -59,8 +60,8 @@ end_send_at : (job : Job) (history : List Entry) (i j source : Life) (send recv 
     → p.message.life ≡ source → (k : Known job history i source p.message.no.0)
     → (account job history i).head p.message.life p.message.no.0 ≡ message_head job.limits k.sent.message k.sent.kind
     → is_filled (own_of job i).limits.first (account job history i).head (life_deeds job history i) p ≡ true
-    → end_for (own_of job i) (shape_in (account job history i).head p) (recv_in p) ≡ Spelled (Eor send recv connid) ∷ [] → EndSend job history i j send.0
-end_send_at job history i j source send recv connid p e m l k head filled shape =
+    → end_for (own_of job i) (shape_in (account job history i).head p) (recv_in p) ≡ Spelled (Eor send recv connid) ∷ [] → recv.0 ≡ p.recv.id.0 → EndSend job history i j send.0 recv.0
+end_send_at job history i j source send recv connid p e m l k head filled shape r =
     let member : Member k.sent (sends_of job history j) = subst (λ (x : Life). Member k.sent (sends_of job history x)) e k.member in
     let s : shape_in (account job history i).head p ≡ shape_by job.limits k.sent.message k.sent.kind =
     ap (λ (x : Head). x.shape) head ∙ head_shape job.limits k.sent.message k.sent.kind in
@@ -69,6 +70,7 @@ end_send_at job history i j source send recv connid p e m l k head filled shape 
     record {
       pair = p;
       member = m;
+      recv_is = sym r;
       life_is = l ∙ e;
       known = record { sent = k.sent; member = member; to_is = k.to_is; number_is = k.number_is };
       sent_member = member;
@@ -80,12 +82,13 @@ end_send_at job history i j source send recv connid p e m l k head filled shape 
 
 -- an end that a life pushed is of a filled pair
 pub end_went : (job : Job) (history : List Entry) (j i : Life) (send recv : OpId) (connid : Connid) (d : Datagram) → Played job history
-    → TakenTurn job history j i (Spelled (Eor send recv connid)) d → EndSend job history i j send.0
+    → TakenTurn job history j i (Spelled (Eor send recv connid)) d → EndSend job history i j send.0 recv.0
 end_went job history j i send recv connid d played t =
     let r = went_reply job history j i (Eor send recv connid) d t (λ x. x) in
     let o = owed_end (own_of job i) (account job history i) (life_deeds job history i) r.reply send recv connid r.owed r.is in
     let k = pair_known job history i o.pair played o.member in
     end_send_at job history i j o.pair.message.life send recv connid o.pair (o.to_is ∙ r.to_is) o.member refl k.known k.head_is o.filled o.shape_is
+    (ap (λ (x : OpId). x.0) o.recv_is)
 
 -- the deed that took the end of a send
 pub ends_send_took : (peer : Life) (send : ℕ) (d : Deed) → ends_send peer send d ≡ true
@@ -99,11 +102,17 @@ ends_send_took peer send (Took from (Spelled (Eor s recv connid))) h =
 ends_send_took peer send _ h = cc
 
 -- an end of a send that was taken is of a filled pair
+pub record EndTaken (job : Job) (history : List Entry) (j i : Life) (send : ℕ) : Type 0 where
+  pub recv : OpId
+  pub connid : Connid
+  pub taken : Taken job history j i (Spelled (Eor (op_id send) recv connid))
+  pub of : EndSend job history i j send recv.0
+
 pub end_taken : (job : Job) (history : List Entry) (j i : Life) (send : ℕ) → Played job history → list_any (ends_send i send) (life_deeds job history j) ≡ true
-    → EndSend job history i j send
+    → EndTaken job history j i send
 end_taken job history j i send played h =
     let r = list_any_member (ends_send i send) (life_deeds job history j) h in
     let e = ends_send_took i send r.0 r.2 in
     let took : Member (Took i (Spelled (Eor (op_id send) e.0 e.1))) (life_deeds job history j) = subst (λ (x : Deed). Member x (life_deeds job history j)) e.2 r.1 in
     let t = taken_pushed job history j i (Spelled (Eor (op_id send) e.0 e.1)) played took in
-    end_went job history j i (op_id send) e.0 e.1 t.datagram played t.taken
+    record { recv = e.0; connid = e.1; taken = t; of = end_went job history j i (op_id send) e.0 e.1 t.datagram played t.taken }
