@@ -104,7 +104,7 @@ ask_new job history j i s a b d h k m names took share =
     taken_before job history j i (Asks a) (Asks b) d h t (sym e)
 
 -- an ask of a send was taken
-asked_by_took : (peer : Life) (send : ℕ) (d : Deed) (b : ReadAsk) → Member b (asked_by peer send d) → (d ≡ Took peer (Asks b)) × (b.send_id.0 ≡ send)
+pub asked_by_took : (peer : Life) (send : ℕ) (d : Deed) (b : ReadAsk) → Member b (asked_by peer send d) → (d ≡ Took peer (Asks b)) × (b.send_id.0 ≡ send)
 unfolding asked_by
 asked_by_took peer send (Took from (Asks ask)) b m =
     (elim (same_life from peer && ask.send_id.0 == send) as (λ t. (same_life from peer && ask.send_id.0 == send) ≡ t → Member b (cond t (ask ∷ []) [])

@@ -63,7 +63,7 @@ ask_unended job history j i a d h s =
     let high = b.to in
     ask_new job history j i s.sent a b.ask d h s.known s.member b.names b.took (a.at, omega arith, omega arith, low, high))
 
-read_over : (log : List Deed) (pushed : List Packet) (s : Sent) → is_forgotten log s.to ≡ false → is_read s.kind ≡ true → list_any (ends_send s.to s.number) log ≡ false
+pub read_over : (log : List Deed) (pushed : List Packet) (s : Sent) → is_forgotten log s.to ≡ false → is_read s.kind ≡ true → list_any (ends_send s.to s.number) log ≡ false
     → is_over log pushed s ≡ false
 unfolding is_over
 read_over log pushed s f r e = rw (f, r, e) refl

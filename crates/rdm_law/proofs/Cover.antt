@@ -14,14 +14,13 @@ AllApart (a ∷ as') = AllApart as' × ((b : ReadAsk) → Member b as' → AsksS
 
 pub apart_push : (as' : List ReadAsk) (b : ReadAsk) → AllApart as' → ((a : ReadAsk) → Member a as' → AsksShare a b → ⊥) → AllApart (as' ++ b ∷ [])
 apart_push [] b a h = (tt, λ c m s. elim m [ ])
-apart_push (x ∷ xs) b a h =
-    (
-      apart_push xs b a.0 (λ y m s. h y (inr m) s),
-      λ c m s. elim (member-append_cases c xs (b ∷ []) m) [
-        | inl k ↦ a.1 c k s
-        | inr k ↦ elim k [ inl same ↦ h x (inl refl) (subst (λ (y : ReadAsk). AsksShare x y) (sym same) s) | inr never ↦ elim never [ ] ]
-      ],
-    )
+apart_push (x ∷ xs) b a h = (
+  apart_push xs b a.0 (λ y m s. h y (inr m) s),
+  λ c m s. elim (member-append_cases c xs (b ∷ []) m) [
+    | inl k ↦ a.1 c k s
+    | inr k ↦ elim k [ inl same ↦ h x (inl refl) (subst (λ (y : ReadAsk). AsksShare x y) (sym same) s) | inr never ↦ elim never [ ] ]
+  ],
+)
 
 -- how many places of the ask lie below a bound
 below_bound : ReadAsk → ℕ → ℕ

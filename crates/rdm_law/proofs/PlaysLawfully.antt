@@ -153,7 +153,7 @@ report_lawful law job w report fair s is =
       stashed = λ port. length (w.stashes port);
       stashed_wait = λ port. stash_bound job w history port s is.history;
       ends = is.ends ∙ map_alike (end_at job w) (stashed_end job history (λ p. length (w.stashes p))) (below (port_count job))
-        (λ port. end_agrees job w history port played (is.history.logs_are port));
+          (λ port. end_agrees job w history port played (is.history.logs_are port));
     }
 
 -- what is played in a fair job is lawful

@@ -35,10 +35,10 @@ apart_length [] ys a has = omega arith
 apart_length (x ∷ xs) ys a has =
     let s = member_split x ys (has x (inl refl)) in
     let rest : (d : Datagram) → Member d xs → Member d (s.front ++ s.back) =
-        λ d m. elim (member_without d x s.front s.back (subst (λ (l : List Datagram). Member d l) s.is (has d (inr m)))) [
-          | inl same ↦ absurd (a.0 d m (ap (λ (y : Datagram). y.src) (sym same)) (ap (λ (y : Datagram). y.number) (sym same)))
-          | inr k ↦ k
-        ] in
+    λ d m. elim (member_without d x s.front s.back (subst (λ (l : List Datagram). Member d l) s.is (has d (inr m)))) [
+      | inl same ↦ absurd (a.0 d m (ap (λ (y : Datagram). y.src) (sym same)) (ap (λ (y : Datagram). y.number) (sym same)))
+      | inr k ↦ k
+    ] in
     let shorter = apart_length xs (s.front ++ s.back) a.1 rest in
     let b = length-append s.front s.back in
     let c = length-append s.front (x ∷ s.back) in
@@ -101,7 +101,7 @@ waits_jointly logs waiting history port d i joint m =
     let fresh : IsUnhandled d (logs d.dst.0) = subst (λ (x : ℕ). IsUnhandled d (logs x)) (sym w.for_it) w.fresh in
     let mine : IsUnhandled d (log_of d.dst.0 history) = subst Q (sym (joint.logs_are d.dst.0)) fresh in
     let all = unhandled_by_all logs d history i.numbered w.pushed
-        (λ p. (let R : List Entry → Type 0 = λ log. AllHadWaited logs p log in subst R (sym (joint.logs_are p)) (i.handled p))) mine in
+    (λ p. (let R : List Entry → Type 0 = λ log. AllHadWaited logs p log in subst R (sym (joint.logs_are p)) (i.handled p))) mine in
     subst (λ (x : ℕ). Member d (waiting_datagrams x history)) w.for_it (waits_in_history history d pushed all)
 
 -- no more wait by the logs than in the history
