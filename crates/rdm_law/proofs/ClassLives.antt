@@ -143,8 +143,14 @@ body_lives job before port d (Between from to load) free played dst pushed fresh
     let open' = scene_now job port (port_deeds job port before) to now in
     between_free job before port d from to load free played dst pushed fresh is (own_scene job port (port_deeds job port before)) (opened_here job before port to open') other)
 
--- the class of a datagram that comes over the wire is that by lives
+-- the class of a datagram that was pushed to a port and not handled is that by lives
+pub class_waits : (job : Job) (history : List Entry) (port : ℕ) (d : Datagram) → AllFree job → Played job history → d.dst.0 ≡ port
+    → PushedIn d (log_of d.src.0 history) → IsUnhandled d history
+    → class_of (own_scene job port (port_deeds job port history)) d ≡ lives_class (own_scene job port (port_deeds job port history)) d
+unfolding class_of lives_class
+class_waits job history port d free played dst pushed fresh = body_lives job history port d d.body free played dst pushed fresh refl
+
+-- so is the class of one that comes over the wire
 pub class_lives : (job : Job) (before : List Entry) (e : Entry) (d : Datagram) (answer : Handled) → AllFree job → Played job before → Comes before e (Handle d answer)
     → class_of (own_scene job e.port.0 (port_deeds job e.port.0 before)) d ≡ lives_class (own_scene job e.port.0 (port_deeds job e.port.0 before)) d
-unfolding class_of lives_class
-class_lives job before e d answer free played c = body_lives job before e.port.0 d d.body free played (ap (λ (p : PortNo). p.0) c.0) c.1 c.2 refl
+class_lives job before e d answer free played c = class_waits job before e.port.0 d free played (ap (λ (p : PortNo). p.0) c.0) c.1 c.2

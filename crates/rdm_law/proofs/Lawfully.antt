@@ -42,7 +42,7 @@ use Rattle.rdm_law.proofs.Carries.{CarriesAt, carries_open}
 use Rattle.rdm_law.proofs.ClassLives.{AllFree, class_lives}
 
 -- the scene of a port by what was sent is its own by another account
-sent_account : (job : Job) (port : ℕ) (before : List Entry)
+pub sent_account : (job : Job) (port : ℕ) (before : List Entry)
     → sent_scene job port before ≡ by_account (own_scene job port (port_deeds job port before)) (sent_to job before (life_at port (open_life (port_deeds job port before))))
 unfolding sent_scene own_scene scene
 sent_account job port before = refl
@@ -65,7 +65,7 @@ unfolding of_open_life life_at
 agree_at job port before None played are = agree_none _ _ _
 agree_at job port before (Some c) played are = agree_life job port before c played are
 
-agree_now : (job : Job) (port : ℕ) (before : List Entry) → Played job before → SendsAre job before
+pub agree_now : (job : Job) (port : ℕ) (before : List Entry) → Played job before → SendsAre job before
     → AgreesIn (own_scene job port (port_deeds job port before)) (sent_to job before (life_at port (open_life (port_deeds job port before))))
 unfolding own_scene scene
 agree_now job port before played are = agree_at job port before (open_life (port_deeds job port before)) played are
