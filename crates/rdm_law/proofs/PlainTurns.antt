@@ -120,7 +120,7 @@ plain_reply own peer heads sents d before r eager k (inr (inr (inr (inr new)))) 
     let took : IsWithPeer own peer (Took r.to (Asks new.ask)) = subst (IsWithPeer own peer) new.took k in
     elim took.1 [ ]
 
-plain_owed : (own : Own) (peer : Life) (ms : Messages) (log : List Deed) (r : Reply) → ((source : Life) (n : ℕ) → (ms.head source n).shape ≡ S.Eager) → AreWithPeer own peer log
+pub plain_owed : (own : Own) (peer : Life) (ms : Messages) (log : List Deed) (r : Reply) → ((source : Life) (n : ℕ) → (ms.head source n).shape ≡ S.Eager) → AreWithPeer own peer log
     → OwedIn own ms r log → IsPlainGoing own peer r.to r.item
 plain_owed own peer ms [] r eager k i = elim i [ ]
 plain_owed own peer ms (d ∷ before) r eager k (inl new) = plain_reply own peer ms.head (sends own ms before) d before r eager k.1 new

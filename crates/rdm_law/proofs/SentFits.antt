@@ -31,7 +31,7 @@ is_did _ = 0
 abbrev pub did_count : List Deed → ℕ
 did_count log = deed_count is_did log
 
-option_length : {A : Type 0} (o : Option A) → length (option_to_list o) ≤ 1
+pub option_length : {A : Type 0} (o : Option A) → length (option_to_list o) ≤ 1
 option_length None = omega arith
 option_length (Some x) = omega arith
 

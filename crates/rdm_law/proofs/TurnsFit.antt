@@ -112,7 +112,7 @@ cts_recv send recv size connid h =
     let b = (and_parts (field_fits (Number 4 send.0)) _ a.1).1 in
     ltb-true recv.0 4294967296 (and_parts (field_fits (Number 4 recv.0)) _ b).0
 
-reply_no_send : (r : Reply) (s : Sent) (p : Packet) → Replies r ≡ Sends s p → ⊥
+pub reply_no_send : (r : Reply) (s : Sent) (p : Packet) → Replies r ≡ Sends s p → ⊥
 reply_no_send r s p h = cc
 
 grant_recv : (log : List Deed) (peer : Life) (send : ℕ) (g : Grant) → AllTakenFit log → Member g (grants log peer send) → g.recv < 4294967296
