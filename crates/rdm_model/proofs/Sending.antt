@@ -1,7 +1,7 @@
 -- What was pushed of a send: openings, of which only segments are more than one, and bytes that were granted.
 use Rattle.std.proofs.Common.{◌≡◌, ℕ, zero, suc, ◌+◌, ◌-◌, ◌<◌, ◌≤◌, min, true, false, cond, ◌&&◌, List, [], ◌∷◌, ◌++◌, length, drop, Option, Some, refl, arith, ◌⊎◌, inl, inr, sym, ◌∙◌, ap, subst}
 use Rattle.std.specs.Prelude.{slice_get, ◌==◌}
-use Rattle.std.proofs.lemmas.List.{length-append, length-take}
+use Rattle.std.proofs.lemmas.List.{length-append, length-take, length-drop}
 use Rattle.std.proofs.lemmas.Bool.{cases_lt, and_parts, eqb-true}
 use Rattle.std.proofs.lemmas.Option.{slice_get_within}
 use Rattle.std.proofs.lemmas.List.Sums.{sum_by-append}
@@ -75,6 +75,9 @@ pub record DataPush (own : Own) (log : List Deed) (s : Sent) (p : Packet) : Type
   pub bytes : List ℕ
   pub is : p ≡ CtsData (op_id grant.recv) offset own.life.connid bytes
   pub within : offset + length bytes ≤ piece_bytes (pieces_in (openings own.limits s.message s.kind)) + grant_bytes (grants log s.to s.number)
+  -- where packets have room and no more is granted than there is, there is a byte
+  pub has_byte : 0 < data_room own.limits → piece_bytes (pieces_in (openings own.limits s.message s.kind)) + grant_bytes (grants log s.to s.number) ≤ length s.message.bytes
+      → 0 < length bytes
 
 data_now : (own : Own) (log : List Deed) (s : Sent) (pushed : List Packet) (p : Packet) → GrantedNext own (grants log s.to s.number) s pushed p → DataPush own log s p
 data_now own log s pushed p g =
@@ -91,6 +94,7 @@ data_now own log s pushed p g =
       bytes = g.bytes;
       is = g.is;
       within = omega arith;
+      has_byte = λ room fit. let e = length-drop (piece_bytes (pieces_in pushed)) s.message.bytes in omega arith;
     }
 
 data_later : (own : Own) (d : Deed) (before : List Deed) (s : Sent) (p : Packet) → DataPush own before s p → DataPush own (d ∷ before) s p
@@ -108,6 +112,7 @@ data_later own d before s p r =
       bytes = r.bytes;
       is = r.is;
       within = omega arith;
+      has_byte = λ room fit. r.has_byte room (omega arith);
     }
 
 member_seam : {A : Type 0} (xs : List A) (y : A) (ys : List A) → Member y (xs ++ y ∷ ys)
