@@ -1,24 +1,22 @@
 -- A sender is never granted more than its message has.
-use Rattle.std.proofs.Common.{◌≡◌, ℕ, zero, suc, ◌+◌, ◌-◌, ◌<◌, ◌≤◌, Bool, true, false, cond, not, ◌&&◌, List, [], ◌∷◌, ◌++◌, length, Option, Some, None, refl, arith, ◌⊎◌, inl, inr, sym, ◌∙◌, ap, subst}
-use Rattle.std.specs.Prelude.{nat_lt, ◌==◌, sum_by}
-use Rattle.std.proofs.lemmas.Bool.{and_parts, or_parts, ltb-false, eqb-true, cases_Bool, not-false}
+use Rattle.std.proofs.Common.{◌≡◌, ℕ, ◌+◌, ◌-◌, ◌≤◌, true, false, cond, not, ◌&&◌, List, [], ◌∷◌, ◌++◌, length, Option, Some, None, refl, arith, ◌⊎◌, inl, inr, sym, ◌∙◌, ap, subst}
+use Rattle.std.specs.Prelude.{◌==◌, sum_by}
+use Rattle.std.proofs.lemmas.Bool.{and_parts, or_parts, ltb-false, eqb-true}
 use Rattle.std.proofs.lemmas.List.{append-nil}
 use Rattle.std.proofs.lemmas.List.Sums.{sum_by-append}
 use Rattle.rdm_num.specs.Lists.{Member}
-use Rattle.rdm_num.specs.Lives.{same_life, op_id}
+use Rattle.rdm_num.specs.Lives.{same_life}
 use Rattle.rdm_num.specs.Pieces.{piece_bytes}
 use Rattle.rdm_num.specs.declared.numbers.Life.{Life}
 use Rattle.rdm_num.specs.declared.numbers.OpId.{OpId}
 use Rattle.rdm_num.specs.declared.numbers.Connid.{Connid}
-use Rattle.rdm_pkt.specs.declared.Packet.TheVariants.{Rtm, Cts, CtsData, Eor, Handshake}
-use Rattle.rdm_pkt.specs.declared.Kind.{Kind}
-use Rattle.rdm_pkt.specs.declared.Kind.TheVariants.{Eager, Medium, LongCts, LongRead, Runt}
+use Rattle.rdm_pkt.specs.declared.Packet.TheVariants.{Cts}
 use Rattle.rdm_pkt.specs.Openings.{openings}
-use Rattle.rdm_model.specs.Deeds.{Deed, Did, PushedNote, Pushed, TookNote, Took, Polled, Nothing, Item, Spelled, Asks, Gives, Garbled}
+use Rattle.rdm_model.specs.Deeds.{Deed, Took, Spelled}
 use Rattle.rdm_model.specs.Owns.{Own, Messages}
 use Rattle.rdm_model.specs.Sends.{Sent, sends}
 use Rattle.rdm_model.specs.Grants.{Grant, grants_by, grants, grant_bytes}
-use Rattle.rdm_model.specs.Named.{live_send, is_long, is_long_send, is_no_op}
+use Rattle.rdm_model.specs.Named.{live_send, is_long_send, is_no_op}
 use Rattle.rdm_model.specs.Classes.{allowed_bytes, is_wrong_grant, is_mismatch}
 use Rattle.rdm_model.specs.Scenes.{Scene}
 use Rattle.rdm_model.specs.Turns.{pieces_in, live_sends}
@@ -179,7 +177,7 @@ grants_fit own (d ∷ before) to n local =
     elim (by_cases to n d) [
       | inl a ↦ fits_same own d before to n a was
       | inr a ↦ subst (λ (x : Deed). Fits own (x ∷ before) to n) (sym a.4)
-        (fits_taken own before to n a.0 a.1 a.2 a.3 (subst (λ (x : Deed). LifeStep own before x) a.4 local.1) a.5 was)
+          (fits_taken own before to n a.0 a.1 a.2 a.3 (subst (λ (x : Deed). LifeStep own before x) a.4 local.1) a.5 was)
     ]
 
 -- no more is granted of a send than its message has

@@ -1,45 +1,37 @@
 -- An ask that arrives is for bytes of a live send that are to be read and were not asked for: it is not BadKey.
-use Rattle.std.proofs.Common.{◌≡◌, ℕ, ◌+◌, ◌<◌, ◌≤◌, max, Bool, true, false, cond, List, [], ◌∷◌, length, take, drop, Option, Some, None, refl, arith, ◌⊎◌, inl, inr, sym, ◌∙◌, ap, subst, length-take}
-use Rattle.std.specs.Prelude.{not, ◌&&◌, ◌||◌, ◌==◌, nat_eq, nat_lt, nat_le, is_some}
+use Rattle.std.proofs.Common.{◌≡◌, ℕ, max, Bool, true, false, cond, List, [], ◌∷◌, refl, arith, inl, inr, sym, ◌∙◌, ap, subst}
+use Rattle.std.specs.Prelude.{◌&&◌, ◌==◌, nat_eq}
 use Rattle.std.specs.List.{list_any}
-use Rattle.std.proofs.lemmas.Bool.{and_parts, and_from, eqb-true, cases_Bool, lt-ltb, le-ltb, false_from_ne_true}
+use Rattle.std.proofs.lemmas.Bool.{and_parts, eqb-true, false_from_ne_true}
 use Rattle.rdm_num.specs.Lists.{Member}
-use Rattle.rdm_num.specs.Lives.{same_life, op_id}
-use Rattle.rdm_num.specs.Pieces.{Piece, byte_at, byte_in, overlaps, piece_bytes}
+use Rattle.rdm_num.specs.Lives.{same_life}
+use Rattle.rdm_num.specs.Pieces.{overlaps}
 use Rattle.rdm_num.specs.declared.numbers.Life.{Life}
 use Rattle.rdm_num.specs.declared.numbers.OpId.{OpId}
-use Rattle.rdm_num.specs.declared.numbers.Connid.{Connid}
-use Rattle.rdm_num.specs.declared.numbers.MsgNo.{MsgNo}
 use Rattle.rdm_num.specs.declared.head.Head.{Head}
-use Rattle.rdm_pkt.specs.declared.Packet.{Packet}
-use Rattle.rdm_pkt.specs.declared.Packet.TheVariants.{Rtm, Cts, CtsData, Eor, Handshake}
-use Rattle.rdm_pkt.specs.declared.Kind.{Kind}
 use Rattle.rdm_pkt.specs.Openings.{message_head}
 use Rattle.rdm_match.specs.Matcher.{Pair}
 use Rattle.rdm_wire.specs.declared.Datagram.{Datagram}
 use Rattle.rdm_wire.specs.declared.ReadAsk.{ReadAsk}
-use Rattle.rdm_wire.specs.declared.ReadData.{ReadData}
 use Rattle.rdm_model.specs.declared.job.Job.{Job}
 use Rattle.rdm_model.specs.declared.entry.Entry.{Entry}
-use Rattle.rdm_model.specs.Deeds.{Deed, Took, Item, Spelled, Asks, Gives}
-use Rattle.rdm_model.specs.Owns.{Own, Messages, own_of}
+use Rattle.rdm_model.specs.Deeds.{Deed, Took, Asks}
+use Rattle.rdm_model.specs.Owns.{own_of}
 use Rattle.rdm_model.specs.Reads.{asks_of, asked_by}
 use Rattle.rdm_model.specs.Sends.{Sent}
-use Rattle.rdm_model.specs.Replies.{Reply, asks_for}
-use Rattle.rdm_model.specs.Turns.{Replies}
+use Rattle.rdm_model.specs.Replies.{asks_for}
 use Rattle.rdm_model.specs.Lawful.{life_deeds}
 use Rattle.rdm_model.proofs.Members.{member-append_cases, list_any_member, same_life-true}
 use Rattle.rdm_model.proofs.Rows.{overlap_parts}
 use Rattle.rdm_law.proofs.Distinct.{matching_distinct}
 use Rattle.rdm_law.proofs.Asks.{AsksShare}
 use Rattle.rdm_law.proofs.Owed.{shape_in, recv_in}
-use Rattle.rdm_law.proofs.Causes.{OfAsk, owed_ask}
-use Rattle.rdm_law.proofs.Clashes.{Clash, ClashAsk}
+use Rattle.rdm_law.proofs.Causes.{owed_ask}
+use Rattle.rdm_law.proofs.Clashes.{Clash}
 use Rattle.rdm_law.proofs.ReplyTurns.{reply_once}
-use Rattle.rdm_law.proofs.Wired.{Played, TakenTurn, Taken, taken_pushed, own_life}
-use Rattle.rdm_law.proofs.Went.{RepliedIt}
+use Rattle.rdm_law.proofs.Wired.{Played, TakenTurn, taken_pushed, own_life}
 use Rattle.rdm_law.proofs.Known.{account, sends_of, Known}
-use Rattle.rdm_law.proofs.Named.{pairs_of, PairKnown, pair_known, went_ask, AskOf, ask_of, head_shape, send_number}
+use Rattle.rdm_law.proofs.Named.{pairs_of, pair_known, went_ask, ask_of, head_shape, send_number}
 use Rattle.rdm_law.proofs.Chains.{AskKnown, ask_known_at, ask_known}
 use Rattle.rdm_law.proofs.Fresh.{taken_before}
 use Rattle.rdm_law.proofs.Arrives.{Arrives}

@@ -1,8 +1,8 @@
 -- An end that arrives is of a live read send, all of whose bytes were asked for and given: neither NoOp nor Mismatch.
 use Rattle.std.proofs.Common.{◌≡◌, ℕ, ◌+◌, ◌-◌, ◌<◌, ◌≤◌, min, Bool, true, false, cond, List, [], ◌∷◌, ◌++◌, length, take, drop, Option, Some, None, refl, arith, ◌⊎◌, inl, inr, sym, ◌∙◌, ap, subst, length-take, length-drop}
-use Rattle.std.specs.Prelude.{not, ◌&&◌, ◌||◌, ◌==◌, nat_eq, nat_lt, nat_le, if◌then◌else◌}
+use Rattle.std.specs.Prelude.{not, ◌&&◌, ◌==◌, nat_lt, nat_le, if◌then◌else◌}
 use Rattle.std.specs.List.{list_any}
-use Rattle.std.proofs.lemmas.Bool.{and_parts, and_from, eqb-true, eq-eqb, false_from_ne_true}
+use Rattle.std.proofs.lemmas.Bool.{and_parts, eqb-true, eq-eqb, false_from_ne_true}
 use Rattle.std.proofs.lemmas.List.{append-nil}
 use Rattle.rdm_num.specs.Lists.{Member}
 use Rattle.rdm_num.specs.Lives.{same_life, op_id}
@@ -21,7 +21,7 @@ use Rattle.rdm_wire.specs.declared.ReadAsk.{ReadAsk}
 use Rattle.rdm_wire.specs.declared.ReadData.{ReadData}
 use Rattle.rdm_model.specs.declared.job.Job.{Job}
 use Rattle.rdm_model.specs.declared.entry.Entry.{Entry}
-use Rattle.rdm_model.specs.Deeds.{Deed, Took, Item, Spelled, Asks, Gives}
+use Rattle.rdm_model.specs.Deeds.{Deed, Took, Spelled, Asks, Gives}
 use Rattle.rdm_model.specs.Owns.{Own, Messages, own_of}
 use Rattle.rdm_model.specs.Currents.{is_forgotten}
 use Rattle.rdm_model.specs.Reads.{asks_of, asked_by, asked_bytes}
@@ -32,23 +32,22 @@ use Rattle.rdm_model.specs.Turns.{progress, is_read, ends_send}
 use Rattle.rdm_model.specs.Named.{live_send, read_from, is_read_send, is_no_op}
 use Rattle.rdm_model.specs.Classes.{is_number, is_early_end, is_mismatch}
 use Rattle.rdm_model.specs.Lawful.{life_deeds}
-use Rattle.rdm_model.proofs.Members.{member-append_cases, list_any_member, same_life-true, slice_get-member}
+use Rattle.rdm_model.proofs.Members.{list_any_member, same_life-true, slice_get-member}
 use Rattle.rdm_model.proofs.Numbers.{made, sent_is_of}
-use Rattle.rdm_law.proofs.Asks.{AsksShare}
 use Rattle.rdm_law.proofs.Queue.{owed, waits_owed}
 use Rattle.rdm_law.proofs.Owed.{OwedIn, owed_in}
-use Rattle.rdm_law.proofs.Causes.{OfGiven, owed_given}
-use Rattle.rdm_law.proofs.Clashes.{Clash, ClashEnd, ClashGiven}
+use Rattle.rdm_law.proofs.Causes.{owed_given}
+use Rattle.rdm_law.proofs.Clashes.{Clash}
 use Rattle.rdm_law.proofs.OwedOnce.{AsksApart}
 use Rattle.rdm_law.proofs.ReplyTurns.{reply_once, waits_once, asks_apart, took_asks}
 use Rattle.rdm_law.proofs.LiveSends.{live_send_is}
-use Rattle.rdm_law.proofs.Wired.{Played, Taken, own_life}
-use Rattle.rdm_law.proofs.Known.{account, sends_of, Known}
-use Rattle.rdm_law.proofs.Named.{AskOf, went_reply}
+use Rattle.rdm_law.proofs.Wired.{Played, own_life}
+use Rattle.rdm_law.proofs.Known.{account, sends_of}
+use Rattle.rdm_law.proofs.Named.{went_reply}
 use Rattle.rdm_law.proofs.Chains.{AskKnown, ask_known}
 use Rattle.rdm_law.proofs.Cover.{AllApart, apart_push, covered_bytes}
-use Rattle.rdm_law.proofs.Asked.{AskedAt, GivenAt, filled_asked, filled_given}
-use Rattle.rdm_law.proofs.EndsKnown.{EndSend, EndTaken, end_went, end_taken}
+use Rattle.rdm_law.proofs.Asked.{filled_asked, filled_given}
+use Rattle.rdm_law.proofs.EndsKnown.{EndSend, end_went, end_taken}
 use Rattle.rdm_law.proofs.Fresh.{taken_before}
 use Rattle.rdm_law.proofs.Arrives.{Arrives, arriving_scene}
 use Rattle.rdm_law.proofs.ClassAsks.{message_one, asks_took, asked_by_took}

@@ -1,8 +1,7 @@
 -- What opens a message tells the head that was heard, and a life greets another once: no Mismatch.
-use Rattle.std.proofs.Common.{◌≡◌, ℕ, zero, suc, Bool, true, false, cond, not, ◌&&◌, List, [], ◌∷◌, length, Option, Some, None, refl, ◌⊎◌, inl, inr, sym, ◌∙◌, ap, subst}
+use Rattle.std.proofs.Common.{◌≡◌, ℕ, true, false, not, List, [], ◌∷◌, Option, Some, None, refl, inl, sym, ◌∙◌, ap, subst}
 use Rattle.std.specs.Prelude.{is_some, ◌==◌}
 use Rattle.std.proofs.lemmas.Bool.{and_from, and_left, eq-eqb, not_from_true}
-use Rattle.rdm_num.specs.Lists.{Member}
 use Rattle.rdm_num.specs.declared.numbers.Life.{Life}
 use Rattle.rdm_num.specs.declared.numbers.MsgNo.{MsgNo}
 use Rattle.rdm_num.specs.declared.numbers.Connid.{Connid}
@@ -18,16 +17,15 @@ use Rattle.rdm_pkt.specs.Openings.{message_head}
 use Rattle.rdm_wire.specs.declared.Datagram.{Datagram}
 use Rattle.rdm_model.specs.declared.job.Job.{Job}
 use Rattle.rdm_model.specs.declared.entry.Entry.{Entry}
-use Rattle.rdm_model.specs.Deeds.{Deed, Took, Item, Spelled}
+use Rattle.rdm_model.specs.Deeds.{Deed, Spelled}
 use Rattle.rdm_model.specs.Owns.{own_of}
 use Rattle.rdm_model.specs.Heads.{same_option, same_iov, same_shape, same_head}
 use Rattle.rdm_model.specs.Heard.{heard_head}
 use Rattle.rdm_model.specs.Sends.{Sent, known_word}
 use Rattle.rdm_model.specs.Classes.{is_other_head, is_received, is_mismatch}
 use Rattle.rdm_model.specs.Lawful.{life_deeds}
-use Rattle.rdm_law.proofs.Wired.{Played, own_life, Taken, TakenTurn, taken_pushed}
-use Rattle.rdm_law.proofs.Went.{RepliedIt}
-use Rattle.rdm_law.proofs.Known.{Known, known_one, known_head, opened}
+use Rattle.rdm_law.proofs.Wired.{own_life, taken_pushed}
+use Rattle.rdm_law.proofs.Known.{known_one, known_head, opened}
 use Rattle.rdm_law.proofs.Named.{went_reply}
 use Rattle.rdm_law.proofs.Clashes.{Clash}
 use Rattle.rdm_law.proofs.ReplyTurns.{asks_apart}

@@ -1,8 +1,8 @@
 -- What arrives is not BadKey.
-use Rattle.std.proofs.Common.{◌≡◌, ℕ, ◌+◌, ◌<◌, ◌≤◌, Bool, true, false, cond, List, [], ◌∷◌, length, Option, Some, None, refl, arith, ◌⊎◌, inl, inr, sym, ◌∙◌, ap, subst}
-use Rattle.std.specs.Prelude.{not, ◌&&◌, ◌||◌, nat_lt, nat_le}
+use Rattle.std.proofs.Common.{◌≡◌, ℕ, Bool, true, false, List, length, Some, refl, arith, sym, ◌∙◌, ap, subst}
+use Rattle.std.specs.Prelude.{not, ◌&&◌, nat_lt, nat_le}
 use Rattle.std.specs.List.{list_any}
-use Rattle.std.proofs.lemmas.Bool.{and_from, lt-ltb, le-ltb, leb-true, le-leb, false_from_ne_true}
+use Rattle.std.proofs.lemmas.Bool.{and_from, lt-ltb, le-leb, false_from_ne_true}
 use Rattle.rdm_num.specs.Lists.{Member}
 use Rattle.rdm_num.specs.Pieces.{overlaps}
 use Rattle.rdm_num.specs.declared.numbers.Life.{Life}
@@ -12,26 +12,25 @@ use Rattle.rdm_wire.specs.declared.Datagram.{Datagram}
 use Rattle.rdm_wire.specs.declared.ReadAsk.{ReadAsk}
 use Rattle.rdm_model.specs.declared.job.Job.{Job}
 use Rattle.rdm_model.specs.declared.entry.Entry.{Entry}
-use Rattle.rdm_model.specs.Deeds.{Deed, Took, Item, Spelled, Asks, Gives, Garbled}
-use Rattle.rdm_model.specs.Owns.{Own, own_of}
+use Rattle.rdm_model.specs.Deeds.{Deed, Item, Asks}
+use Rattle.rdm_model.specs.Owns.{own_of}
 use Rattle.rdm_model.specs.Currents.{is_forgotten}
 use Rattle.rdm_model.specs.Reads.{asks_of}
 use Rattle.rdm_model.specs.Scenes.{Scene}
-use Rattle.rdm_model.specs.Sends.{Sent, sends}
-use Rattle.rdm_model.specs.Turns.{progress, is_read, ends_send, is_pushed, is_over}
+use Rattle.rdm_model.specs.Sends.{Sent}
+use Rattle.rdm_model.specs.Turns.{progress, is_read, ends_send, is_over}
 use Rattle.rdm_model.specs.Named.{live_send, read_from, is_in_iov, is_good_ask, is_bad_key}
 use Rattle.rdm_model.specs.Lawful.{life_deeds}
-use Rattle.rdm_law.proofs.Asks.{iov_bytes, AsksShare}
+use Rattle.rdm_law.proofs.Asks.{iov_bytes}
 use Rattle.rdm_law.proofs.AnswersFit.{ranges_fit}
 use Rattle.rdm_law.proofs.Replaced.{not_forgotten}
 use Rattle.rdm_law.proofs.SentSizes.{sent_sized}
 use Rattle.rdm_law.proofs.LiveSends.{live_send_is}
 use Rattle.rdm_law.proofs.Wired.{Played, own_life}
-use Rattle.rdm_law.proofs.Known.{account, sends_of, Known}
+use Rattle.rdm_law.proofs.Known.{account, sends_of}
 use Rattle.rdm_law.proofs.Named.{AskOf}
-use Rattle.rdm_law.proofs.Chains.{AskKnown}
-use Rattle.rdm_law.proofs.Asked.{AskedAt, filled_asked}
-use Rattle.rdm_law.proofs.EndsKnown.{EndSend, end_taken}
+use Rattle.rdm_law.proofs.Asked.{filled_asked}
+use Rattle.rdm_law.proofs.EndsKnown.{end_taken}
 use Rattle.rdm_model.proofs.Numbers.{sends_one}
 use Rattle.rdm_law.proofs.Arrives.{Arrives, arriving_scene}
 use Rattle.rdm_law.proofs.ClassAsks.{AskSend, ask_send, ask_new, asks_new}

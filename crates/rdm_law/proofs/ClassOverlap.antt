@@ -185,12 +185,12 @@ number_from job history to from n k =
     let e = k.number_is in
     le-ltb n job.limits.first (omega arith)
 
-data_brings : (ps : List Pair) (from : Life) (recv : OpId) (offset : ℕ) (connid : Connid) (bytes : List ℕ) (n : ℕ) → is_pair ps recv.0 from n ≡ true
+pub data_brings : (ps : List Pair) (from : Life) (recv : OpId) (offset : ℕ) (connid : Connid) (bytes : List ℕ) (n : ℕ) → is_pair ps recv.0 from n ≡ true
     → piece_by ps from n (Spelled (CtsData recv offset connid bytes)) ≡ Some (record { offset = offset; bytes = bytes })
 unfolding piece_by
 data_brings ps from recv offset connid bytes n h = rw h refl
 
-given_brings : (ps : List Pair) (from : Life) (g : ReadData) (n : ℕ) → is_pair ps g.recv_id.0 from n ≡ true → piece_by ps from n (Gives g) ≡ Some (record { offset = g.at; bytes = g.bytes })
+pub given_brings : (ps : List Pair) (from : Life) (g : ReadData) (n : ℕ) → is_pair ps g.recv_id.0 from n ≡ true → piece_by ps from n (Gives g) ≡ Some (record { offset = g.at; bytes = g.bytes })
 unfolding piece_by
 given_brings ps from g n h = rw h refl
 

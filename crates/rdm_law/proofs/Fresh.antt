@@ -175,7 +175,7 @@ piece_within job history to from n x k played a =
           omega arith)
     ]
 
-in_range : (q : Piece) (place b : ℕ) → byte_in q place ≡ Some b → Has q place
+pub in_range : (q : Piece) (place b : ℕ) → byte_in q place ≡ Some b → Has q place
 unfolding byte_in
 in_range q place b h =
     (elim (nat_lt place q.offset) as (λ t. nat_lt place q.offset ≡ t → cond t None (slice_get q.bytes (place - q.offset)) ≡ Some b → Has q place) [
