@@ -15,7 +15,7 @@ use Rattle.rdm_model.specs.Grants.{first_part, window, with_window, granted_byte
 use Rattle.rdm_model.specs.Sends.{sends}
 use Rattle.rdm_model.specs.Replies.{Reply, replies_by}
 use Rattle.rdm_model.proofs.Members.{slice_get-append, slice_get-member}
-use Rattle.rdm_model.proofs.Matches.{member_is_pair, is_pair_still}
+use Rattle.rdm_model.proofs.Matches.{member_is_pair, is_pair_still, pair_still}
 use Rattle.rdm_law.proofs.Received.{slice_get_split}
 use Rattle.rdm_law.proofs.Queue.{owed, slice_get_past}
 use Rattle.rdm_law.proofs.Owed.{shape_in, recv_in, NewReply, new_from}
@@ -141,6 +141,13 @@ owed_window own ms (d ∷ before) place r send recv size connid h is =
           new_window own ms d before place a.0 r send recv size connid a.1 a.2 is
           (new_from own ms.head (sends own ms before) d before r (slice_get-member (replies_by own ms.head (sends own ms before) d before) a.0 r a.2))
     ]
+
+-- a window is of a pair
+pub window_member : (own : Own) (ms : Messages) (log : List Deed) (p : Pair) (start size place : ℕ) → WindowAt own ms p start size place log
+    → Member p (pairs own.limits.first ms.head log)
+window_member own ms [] p start size place h = elim h [ ]
+window_member own ms (d ∷ before) p start size place (inl n) = n.member
+window_member own ms (d ∷ before) p start size place (inr h) = pair_still own.limits.first ms.head d before p (window_member own ms before p start size place h)
 
 -- what a window says of its message
 pub record WindowIn (own : Own) (ms : Messages) (log : List Deed) (p : Pair) (start size place : ℕ) : Type 0 where
