@@ -57,7 +57,8 @@ pub record TakenWindow (job : Job) (history : List Entry) (i j : Life) (p : Pair
   pub pushed : PlacedAt job i.port.0 i.connid datagram push (log_of i.port.0 history)
   pub handled : HandledBy j.port.0 datagram history
 
-window_longer : (job : Job) (e : Entry) (before : List Entry) (i : Life) (p : Pair) (start size place : ℕ)
+-- a window stays as the history grows
+pub window_longer : (job : Job) (e : Entry) (before : List Entry) (i : Life) (p : Pair) (start size place : ℕ)
     → WindowAt (own_of job i) (account job before i) p start size place (life_deeds job before i)
     → WindowAt (own_of job i) (account job (e ∷ before) i) p start size place (life_deeds job (e ∷ before) i)
 window_longer job e before i p start size place w =
@@ -65,14 +66,16 @@ window_longer job e before i p start size place w =
     at_life (λ log. WindowAt own (heard_by own.limits.first log) p start size place log) job i e before
     (λ s o. window_stays own (deed_of (rank_of job i.port.0).ops e.act) (life_deeds job before i) p start size place w) w
 
-answered_longer : (job : Job) (e : Entry) (before : List Entry) (i : Life) (x : Placed) (k : ℕ)
+-- a pushed reply stays
+pub answered_longer : (job : Job) (e : Entry) (before : List Entry) (i : Life) (x : Placed) (k : ℕ)
     → Answered (own_of job i) (account job before i) x k (life_deeds job before i) → Answered (own_of job i) (account job (e ∷ before) i) x k (life_deeds job (e ∷ before) i)
 answered_longer job e before i x k a =
     let own = own_of job i in
     at_life (λ log. Answered own (heard_by own.limits.first log) x k log) job i e before
     (λ s o. answered_stays own (deed_of (rank_of job i.port.0).ops e.act) (life_deeds job before i) x k a) a
 
-placed_longer : (job : Job) (e : Entry) (before : List Entry) (port : ℕ) (c : Connid) (d : Datagram) (k : ℕ) → PlacedAt job port c d k (log_of port before)
+-- the place of a push stays
+pub placed_longer : (job : Job) (e : Entry) (before : List Entry) (port : ℕ) (c : Connid) (d : Datagram) (k : ℕ) → PlacedAt job port c d k (log_of port before)
     → PlacedAt job port c d k (log_of port (e ∷ before))
 placed_longer job e before port c d k h = at_log_of (λ log. PlacedAt job port c d k log) port e before (λ s. inr h) (λ s. h)
 
@@ -94,13 +97,14 @@ taken_window_longer job e before i j p y w =
     }
 
 -- a deed takes a grant of that send, or none
-abbrev GrantOrNone : Life → ℕ → Deed → Type 0
+abbrev pub GrantOrNone : Life → ℕ → Deed → Type 0
 GrantOrNone to send d =
     ((send' : OpId) × (recv : OpId) × (size : ℕ) × (connid : Connid) × (d ≡ Took to (Spelled (Cts send' recv size connid))) × (send'.0 ≡ send)
     × (grants_by to send d ≡ record { recv = recv.0; size = size } ∷ []))
     ⊎ (grants_by to send d ≡ [])
 
-grant_or_none : (to : Life) (send : ℕ) (d : Deed) → GrantOrNone to send d
+-- a deed takes a grant of a send, or none
+pub grant_or_none : (to : Life) (send : ℕ) (d : Deed) → GrantOrNone to send d
 unfolding grants_by
 grant_or_none to send (Took from (Spelled (Cts s recv size connid))) =
     (elim (same_life from to && s.0 == send) as (λ b. (same_life from to && s.0 == send) ≡ b → GrantOrNone to send (Took from (Spelled (Cts s recv size connid)))) [
@@ -189,7 +193,7 @@ pairs_longer job e before l p h =
     (subst (λ (x : List Pair). Member p x) (pairs_same first (heard_by first log).head (heard_by first (d ∷ log)).head log (agree_grows first d log).heads) h)) h
 
 -- a grant of a send that was pushed before is of the pair of the send's message
-granting_earlier : (job : Job) (e : Entry) (before : List Entry) (i j : Life) (p : Pair) (s : Sent) (send recv : OpId) (size k : ℕ)
+pub granting_earlier : (job : Job) (e : Entry) (before : List Entry) (i j : Life) (p : Pair) (s : Sent) (send recv : OpId) (size k : ℕ)
     → Granting job (e ∷ before) i j p s → (w : CtsWent job before i j send recv size k) → send.0 ≡ s.number → (w.pair ≡ p) × Granting job before i j p s
 granting_earlier job e before i j p s send recv size k g w n =
     let first = (own_of job i).limits.first in

@@ -21,7 +21,7 @@ use Rattle.rdm_law.proofs.Queue.{owed, slice_get_past}
 use Rattle.rdm_law.proofs.Owed.{shape_in, recv_in, NewReply, new_from}
 use Rattle.rdm_law.proofs.Clashes.{kind_of, recv_of}
 use Rattle.rdm_law.proofs.OwedOnce.{Telling, new_unique}
-use Rattle.rdm_law.proofs.Windows.{Tells, tells_before, is_window, reach, reach_more}
+use Rattle.rdm_law.proofs.Windows.{Tells, tells_before, first_stays, is_window, reach, reach_more}
 
 -- two grants of one receive
 pub record ClashGrant (r s : Reply) : Type 0 where
@@ -205,6 +205,18 @@ window_in own ms (d ∷ before) p start size place tells (inr h) =
       is = w.is;
       to_is = w.to_is;
     }
+
+-- a window starts past the first part
+pub window_from : (own : Own) (ms : Messages) (log : List Deed) (p : Pair) (start size place : ℕ) → Tells ms.head log → WindowAt own ms p start size place log
+    → first_part log p.message.life p.message.no.0 ≤ start
+window_from own ms [] p start size place tells h = elim h [ ]
+window_from own ms (d ∷ before) p start size place tells (inl n) = let s = n.start_is in omega arith
+window_from own ms (d ∷ before) p start size place tells (inr h) =
+    let t = tells_before ms.head d before tells in
+    let w = window_in own ms before p start size place t h in
+    let e = first_stays own.limits.first ms.head d before p w.send w.credits t w.paired w.shape_is in
+    let l = window_from own ms before p start size place t h in
+    omega arith
 
 -- two windows of one message: they are one, or one ends before the other starts
 abbrev pub InOrder : (start size place start' size' place' : ℕ) → Type 0
