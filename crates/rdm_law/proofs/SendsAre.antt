@@ -68,7 +68,7 @@ sends_none : (own : Own) (ms : Messages) (log : List Deed) (sents : List Sent) �
 unfolding with_sent sent_by
 sends_none own ms log sents = append-nil sents
 
-sends_in_newest : (job : Job) (e : Entry) (before : List Entry) (life' : Life)
+pub sends_in_newest : (job : Job) (e : Entry) (before : List Entry) (life' : Life)
     → sends_in job (e ∷ before) life' ≡ with_sent (own_of job life') (sent_to job before life') (life_deeds job before life') (deed_for job e before life') (sends_in job before life')
 unfolding sends_in sent_to
 sends_in_newest job e before life' = refl
