@@ -91,24 +91,26 @@ row_end bytes from [] q r h = elim h [ ]
 row_end bytes from (p ∷ ps) q r (inl is) = let a = r.0 in let e = ap (λ (x : Piece). x.offset) is in let f = ap (λ (x : Piece). length x.bytes) is in omega arith
 row_end bytes from (p ∷ ps) q r (inr h) = let a = row_end bytes (from + length p.bytes) ps q r.2 h in omega arith
 
--- what was pushed of a send ends within what is allowed
-pub pushed_within : (own : Own) (log : List Deed) (s : Sent) (p : Packet) (x : Piece) (k : ℕ) → TurnedAt own (Sends s p) k log → packet_piece p ≡ Some x
-    → x.offset + length x.bytes ≤ allowed_of own log s
+-- the bytes of an opening of a send, or of a packet that was granted, end within what is allowed
+pub part_within_allowed : (own : Own) (log : List Deed) (s : Sent) (p : Packet) (x : Piece) → Member p (openings own.limits s.message s.kind) ⊎ DataPush own log s p
+    → packet_piece p ≡ Some x → x.offset + length x.bytes ≤ allowed_of own log s
 unfolding packet_piece
-pushed_within own log s p x k t h =
-    elim (turn_is own s p k log t) [
-      | inl a ↦
-          let r = openings_in_row own.limits s.message s.kind in
-          let l = row_end s.message.bytes 0 (pieces_in (openings own.limits s.message s.kind)) x r (pieces_member (openings own.limits s.message s.kind) p x a h) in
-          omega arith
-      | inr d ↦
-          let e : Some (record { offset = d.offset; bytes = d.bytes }) ≡ Some x = ap packet_piece (sym d.is) ∙ h in
-          let f : ◌≡◌ {A = Piece} (record { offset = d.offset; bytes = d.bytes }) x = cc in
-          let o = ap (λ (y : Piece). y.offset) f in
-          let l = ap (λ (y : Piece). length y.bytes) f in
-          let w = d.within in
-          omega arith
-    ]
+part_within_allowed own log s p x (inl a) h =
+    let r = openings_in_row own.limits s.message s.kind in
+    let l = row_end s.message.bytes 0 (pieces_in (openings own.limits s.message s.kind)) x r (pieces_member (openings own.limits s.message s.kind) p x a h) in
+    omega arith
+part_within_allowed own log s p x (inr d) h =
+    let e : Some (record { offset = d.offset; bytes = d.bytes }) ≡ Some x = ap packet_piece (sym d.is) ∙ h in
+    let f : ◌≡◌ {A = Piece} (record { offset = d.offset; bytes = d.bytes }) x = cc in
+    let o = ap (λ (y : Piece). y.offset) f in
+    let l = ap (λ (y : Piece). length y.bytes) f in
+    let w = d.within in
+    omega arith
+
+-- what was pushed of a send ends within what is allowed
+pushed_within : (own : Own) (log : List Deed) (s : Sent) (p : Packet) (x : Piece) (k : ℕ) → TurnedAt own (Sends s p) k log → packet_piece p ≡ Some x
+    → x.offset + length x.bytes ≤ allowed_of own log s
+pushed_within own log s p x k t h = part_within_allowed own log s p x (turn_is own s p k log t) h
 
 long_not_read : (kind : Kind) → kind ≡ LongCts → is_read kind ≡ true → ⊥
 unfolding is_read
@@ -135,7 +137,8 @@ carried_within job history i j p s x played g m =
         long_not_read s.kind g.long (subst (λ (y : Sent). is_read y.kind ≡ true) is a.ask_of.read))
     ]
 
-byte_ends : (q : Piece) (place b : ℕ) → byte_in q place ≡ Some b → place < q.offset + length q.bytes
+-- a byte of a piece stands before its end
+pub byte_ends : (q : Piece) (place b : ℕ) → byte_in q place ≡ Some b → place < q.offset + length q.bytes
 byte_ends q place b h =
     elim (cases_lt place (q.offset + length q.bytes)) [ inl a ↦ a | inr a ↦ absurd (let n = byte_in_after q place a in cc) ]
 
