@@ -132,9 +132,9 @@ carried_within job history i j p s x played g m =
       | inl t ↦ pushed_within (own_of job j) (life_deeds job history j) s t.0 x c.0
           (subst (λ (y : Sent). TurnedAt (own_of job j) (Sends y t.0) c.0 (life_deeds job history j)) same t.1) t.2
       | inr v ↦ absurd (
-        let a = given_known job history i j v.data' c.0 played v.went in
-        let is : v.went.of.sent ≡ s = v.sent_is ∙ same in
-        long_not_read s.kind g.long (subst (λ (y : Sent). is_read y.kind ≡ true) is a.ask_of.read))
+          let a = given_known job history i j v.data' c.0 played v.went in
+          let is : v.went.of.sent ≡ s = v.sent_is ∙ same in
+          long_not_read s.kind g.long (subst (λ (y : Sent). is_read y.kind ≡ true) is a.ask_of.read))
     ]
 
 -- a byte of a piece stands before its end
@@ -152,11 +152,11 @@ covered_within job history i j p s start played g h =
     let allowed = allowed_of (own_of job j) (life_deeds job history j) s in
     elim (cases_lt allowed start) [
       | inl less ↦ absurd (
-        let b = some_of (byte_at ps allowed) (each_below_at (λ place. is_some (byte_at ps place)) start allowed h less) in
-        let q = byte_of_piece ps allowed b.0 b.1 in
-        let e = byte_ends q.0 allowed b.0 q.2 in
-        let w = carried_within job history i j p s q.0 played g q.1 in
-        omega arith)
+          let b = some_of (byte_at ps allowed) (each_below_at (λ place. is_some (byte_at ps place)) start allowed h less) in
+          let q = byte_of_piece ps allowed b.0 b.1 in
+          let e = byte_ends q.0 allowed b.0 q.2 in
+          let w = carried_within job history i j p s q.0 played g q.1 in
+          omega arith)
       | inr more ↦ more
     ]
 

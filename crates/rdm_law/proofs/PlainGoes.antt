@@ -69,7 +69,7 @@ plain_send own peer ms log t k fit one r =
     elim (next_is own log s (pushed_of own ms log s.number) r.packet (underway own ms log s r.member) r.next) [
       | inl a ↦
           let m : Member r.packet (openings own.limits s.message s.kind) =
-              subst (λ (ps : List Packet). Member r.packet ps) (sym a.1) (member-append_right r.packet (pushed_of own ms log s.number) (r.packet ∷ a.0) (inl refl)) in
+          subst (λ (ps : List Packet). Member r.packet ps) (sym a.1) (member-append_right r.packet (pushed_of own ms log s.number) (r.packet ∷ a.0) (inl refl)) in
           (p.to, subst (IsPlainPacket own.limits.first) (only_opening own s r.packet kind m) (only_number own ms log s r.member one))
       | inr a ↦ (let long = a.3.long in absurd (eager_no_long (sym kind ∙ long)))
     ]
@@ -86,7 +86,7 @@ plain_turn own peer ms log (Replies r) to item k heads fit one is goes =
           let waits : Member r (progress own ms log).replies = subst (λ (x : Reply). Member x (progress own ms log).replies) same (slice_get-member (progress own ms log).replies 0 a.0 a.1) in
           let w = waits_owed own ms log r waits in
           let plain = plain_owed own peer ms log r (λ source n. ap (λ (hs : Heads). (hs source n).shape) heads ∙ all_eager own peer log k source n) k
-              (owed_in own ms log r (slice_get-member (owed own ms log) w.0.place r w.3)) in
+          (owed_in own ms log r (slice_get-member (owed own ms log) w.0.place r w.3)) in
           let to_is : r.to ≡ to = cc in
           let item_is : r.item ≡ item = cc in
           (sym to_is ∙ plain.0, subst (IsPlainLoad own.limits.first) item_is plain.1)

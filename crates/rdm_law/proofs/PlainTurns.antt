@@ -144,11 +144,11 @@ plain_sends own peer ms (d ∷ before) k s m =
     (λ x old. plain_sends own peer ms before k.0 x old)
     (λ x t old n was. was)
     (λ t n.
-      let did : IsWithPeer own peer (Did (Send n.req)) = subst (IsWithPeer own peer) n.by k.1 in
-      subst (PlainSent own peer) (sym n.is)
-      (new_plain own before (length (sends own ms before)) (length (sends_to (sends own ms before) n.to)) n.req n.to peer
-        (range_of (regions own.limits.first ms before) n.req.region.0 n.req.at n.req.len)
-        (current_peer own peer n.req.to.0 before n.to k.0 n.current) did.0))
+    let did : IsWithPeer own peer (Did (Send n.req)) = subst (IsWithPeer own peer) n.by k.1 in
+    subst (PlainSent own peer) (sym n.is)
+    (new_plain own before (length (sends own ms before)) (length (sends_to (sends own ms before) n.to)) n.req n.to peer
+    (range_of (regions own.limits.first ms before) n.req.region.0 n.req.at n.req.len)
+    (current_peer own peer n.req.to.0 before n.to k.0 n.current) did.0))
     s m
 
 eager_chosen : (n : ℕ) (tagged cq_data raw : Bool) (features : ℕ) (known : Option ℕ) (limits : EpLimits) → nat_le n (eager_room tagged cq_data raw limits) ≡ true

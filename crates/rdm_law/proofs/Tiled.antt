@@ -76,18 +76,18 @@ starts_at job history i j p s start size answer k d played g tile w a placed fre
     elim (cases_lt start (allowed_of (own_of job j) (life_deeds job history j) s)) [
       | inr more ↦ omega arith
       | inl less ↦ absurd (
-        let v = tile start (omega arith) less in
-        let l = v.low in
-        let h = v.high in
-        let b = (window_in own ms log p start size answer.place tells w).has_byte in
-        elim (windows_in_order own ms log p v.start v.size v.answer.place start size answer.place tells v.window' w) [
-          | inl same ↦
-              let push = answered_once own ms log v.answer answer v.push k v.answered a same.0 in
-              let there = subst (λ n. PlacedAt job i.port.0 i.connid v.datagram n (log_of i.port.0 history)) push v.pushed in
-              let one = placed_once job i.port.0 i.connid v.datagram d k (log_of i.port.0 history) there placed in
-              taken_other j.port.0 v.datagram d history fresh v.handled one
-          | inr apart ↦ elim apart [ inl before ↦ (let x = before.1 in omega arith) | inr after ↦ (let x = after.1 in omega arith) ]
-        ])
+          let v = tile start (omega arith) less in
+          let l = v.low in
+          let h = v.high in
+          let b = (window_in own ms log p start size answer.place tells w).has_byte in
+          elim (windows_in_order own ms log p v.start v.size v.answer.place start size answer.place tells v.window' w) [
+            | inl same ↦
+                let push = answered_once own ms log v.answer answer v.push k v.answered a same.0 in
+                let there = subst (λ n. PlacedAt job i.port.0 i.connid v.datagram n (log_of i.port.0 history)) push v.pushed in
+                let one = placed_once job i.port.0 i.connid v.datagram d k (log_of i.port.0 history) there placed in
+                taken_other j.port.0 v.datagram d history fresh v.handled one
+            | inr apart ↦ elim apart [ inl before ↦ (let x = before.1 in omega arith) | inr after ↦ (let x = after.1 in omega arith) ]
+          ])
     ]
 
 grants_some : (gs : List Grant) → 0 < grant_bytes gs → (g : Grant) × Member g gs

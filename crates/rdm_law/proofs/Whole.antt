@@ -9,7 +9,7 @@ use Rattle.rdm_num.specs.Pieces.{Piece, byte_in, byte_at}
 use Rattle.rdm_model.proofs.Members.{or_else_cases, last_or_less}
 use Rattle.rdm_model.proofs.Cuts.{Part}
 
-length-below : (n : ℕ) → length (below n) ≡ n
+pub length-below : (n : ℕ) → length (below n) ≡ n
 unfolding below
 length-below zero = refl
 length-below (suc n) = length_push (below n) n ∙ add-one _ ∙ ap suc (length-below n)
