@@ -93,13 +93,13 @@ none_act o (Handle d answer) = none_handle o d.src d.body answer
 none_act o (Poll c) = (let unfolded : open_after o Polled ≡ o = stays_polled o in unfolded)
 
 -- without a program no life is open
-none_opens : (log : List Entry) → open_life (deeds [] log) ≡ None
+pub none_opens : (log : List Entry) → open_life (deeds [] log) ≡ None
 unfolding open_life deeds
 none_opens [] = refl
 none_opens (e ∷ before) = none_act (open_life (deeds [] before)) e.act ∙ none_opens before
 
 -- a port with an open life is a rank
-open_port : (job : Job) (port : ℕ) (log : List Entry) (c : Connid) → open_life (deeds_at job port log) ≡ Some c → port < port_count job
+pub open_port : (job : Job) (port : ℕ) (log : List Entry) (c : Connid) → open_life (deeds_at job port log) ≡ Some c → port < port_count job
 unfolding deeds_at rank_of
 open_port job port log c is =
     elim (cases_lt port (length job.ranks)) [
@@ -118,7 +118,7 @@ unfolding turn_going
 turn_of_going None to item h = cc
 turn_of_going (Some t) to item h = (t, refl, h)
 
-life_goes : (ports : ℕ) (own : Own) (port_log log : List Deed) (to : Life) (item : Item) → going (life_scene ports own port_log log) ≡ Some (Goes to item)
+pub life_goes : (ports : ℕ) (own : Own) (port_log log : List Deed) (to : Life) (item : Item) → going (life_scene ports own port_log log) ≡ Some (Goes to item)
     → (t : Turn) × (turn own (heard_by own.limits.first log) log ≡ Some t) × (turn_going (Some t) ≡ Some (Goes to item))
 unfolding going life_going
 life_goes ports own port_log log to item h =
@@ -126,26 +126,28 @@ life_goes ports own port_log log to item h =
     (note_goes (next_note ports own.life.port.0 port_log) (turn_going (turn own (heard_by own.limits.first log) log)) to item h)
 
 -- where no life is open nothing goes to a life
-closed_goes : (s : Scene) (to : Life) (item : Item) → s.now ≡ None → going s ≡ Some (Goes to item) → ⊥
+pub closed_goes : (s : Scene) (to : Life) (item : Item) → s.now ≡ None → going s ≡ Some (Goes to item) → ⊥
 unfolding going life_going
 closed_goes s to item now h =
     let a = note_goes (next_note s.ports s.own.life.port.0 s.port_log) (life_going s.now s) to item h in
     let b : life_going None s ≡ Some (Goes to item) = subst (λ (o : Option Connid). life_going o s ≡ Some (Goes to item)) now a in
     goes_none to item b
 
-open_goes_well : (job : Job) (port : ℕ) (log : List Entry) (to : Life) (item : Item) (c : Connid) → JobFits job → Local job port log → AllHandledFit log
-    → open_life (deeds_at job port log) ≡ Some c → going (own_scene job port (deeds_at job port log)) ≡ Some (Goes to item) → CanGo item
-unfolding deeds_at own_of heard_by
-open_goes_well job port log to item c fair l h is goes =
+-- what fits of an open life in a fair job, by a log that is right by itself
+pub record OpenFits (job : Job) (port : ℕ) (log : List Entry) (c : Connid) : Type 0 where
+  pub begins : OwnFits (own_of job (life_of port c))
+  pub deeds_fit : DeedsFit (port_count job) job.limits.first (of_life c (deeds_at job port log))
+  pub taken : AllTakenFit (of_life c (deeds_at job port log))
+
+pub life_fits : (job : Job) (port : ℕ) (log : List Entry) (c : Connid) → JobFits job → Local job port log → AllHandledFit log
+    → open_life (deeds_at job port log) ≡ Some c → OpenFits job port log c
+unfolding deeds_at own_of
+life_fits job port log c fair l h is =
     let own = own_of job (life_of port c) in
     let port_log = deeds (rank_of job port).ops log in
     let mine = of_life c port_log in
     let rank = fair.ranks port in
-    let of_life_goes : going (life_scene (port_count job) own port_log mine) ≡ Some (Goes to item) =
-    subst (λ (s : Scene). going s ≡ Some (Goes to item)) (opened_scene job port c port_log is) goes in
-    let t = life_goes (port_count job) own port_log mine to item of_life_goes in
     let all = all_did_fit (port_count job) (rank_of job port).ops log rank.ops in
-    let taken = life_taken c port_log (all_taken_fit (rank_of job port).ops log h) in
     let local = life_local job port c log l in
     let few = rank.few in
     let a = life_count c port_log in
@@ -153,17 +155,30 @@ open_goes_well job port log to item c fair l h is goes =
     let n = next_within job port log l in
     let ports = fair.ports in
     let rank_port = open_port job port log c is in
-    let fits : DeedsFit (port_count job) own.limits.first mine = record {
-      did = life_did (port_count job) c port_log all;
-      ranges = ranges_fit own mine local;
-      numbers = numbers_fit own mine local;
-      count = omega arith;
-    } in
-    let begins : OwnFits own = record { port = omega arith; connid = open_fits (port_count job) port_log c all is; features = rank.features } in
+    record {
+      begins = record { port = omega arith; connid = open_fits (port_count job) port_log c all is; features = rank.features };
+      deeds_fit = record {
+        did = life_did (port_count job) c port_log all;
+        ranges = ranges_fit own mine local;
+        numbers = numbers_fit own mine local;
+        count = omega arith;
+      };
+      taken = life_taken c port_log (all_taken_fit (rank_of job port).ops log h);
+    }
+
+open_goes_well : (job : Job) (port : ℕ) (log : List Entry) (to : Life) (item : Item) (c : Connid) → JobFits job → Local job port log → AllHandledFit log
+    → open_life (deeds_at job port log) ≡ Some c → going (own_scene job port (deeds_at job port log)) ≡ Some (Goes to item) → CanGo item
+unfolding own_of heard_by
+open_goes_well job port log to item c fair l h is goes =
+    let own = own_of job (life_of port c) in
+    let port_log = deeds_at job port log in
+    let mine = of_life c port_log in
+    let t = life_goes (port_count job) own port_log mine to item (subst (λ (s : Scene). going s ≡ Some (Goes to item)) (opened_scene job port c port_log is) goes) in
+    let fits = life_fits job port log c fair l h is in
     let ms = heard_by own.limits.first mine in
-    let bytes : MessagesFit ms = λ source k. bytes_by_fit own.limits.first mine source k taken in
-    let heads : HeadsFit ms.head = heads_fit mine taken in
-    turn_fits (port_count job) own ms mine t.0 to item begins fair.limits bytes heads fits taken t.1 t.2
+    let bytes : MessagesFit ms = λ source k. bytes_by_fit own.limits.first mine source k fits.taken in
+    let heads : HeadsFit ms.head = heads_fit mine fits.taken in
+    turn_fits (port_count job) own ms mine t.0 to item fits.begins fair.limits bytes heads fits.deeds_fit fits.taken t.1 t.2
 
 -- what goes out in a fair job fits the wire
 pub goes_well : (job : Job) → IsTrue (is_fair law_ops job) → GoesWell job
