@@ -9,6 +9,7 @@ use Rattle.rdm_wire.specs.declared.Body.{Body}
 use Rattle.rdm_wire.specs.declared.Body.TheVariants.{Note, Between}
 use Rattle.rdm_model.specs.declared.job.Job.{Job}
 use Rattle.rdm_model.specs.declared.job.Instr.{Instr}
+use Rattle.rdm_model.specs.declared.job.Instr.TheVariants.{Send}
 use Rattle.rdm_model.specs.declared.answer.Next.{Next as Answer}
 use Rattle.rdm_model.specs.declared.answer.Next.TheVariants.{Did as DidAnswer}
 use Rattle.rdm_model.specs.declared.answer.Handled.{Handled}
@@ -23,6 +24,11 @@ use Rattle.rdm_model.specs.Classes.{class_of}
 use Rattle.rdm_model.specs.Steps.{count, is_next, Does}
 use Rattle.rdm_model.specs.Local.{own_scene, Local}
 use Rattle.rdm_law.proofs.Lives.{at_of_life}
+
+-- 1 for a send
+unfoldable pub send_count : Instr → ℕ
+send_count (Send req) = 1
+send_count _ = 0
 
 -- what an instruction counts, where it did
 unfoldable pub did_as : (Instr → ℕ) → Deed → ℕ

@@ -29,6 +29,7 @@ use Rattle.rdm_law.proofs.Queue.{owed, waits_owed}
 use Rattle.rdm_law.proofs.SentFits.{SentFits, option_length}
 use Rattle.rdm_law.proofs.TurnsFit.{reply_no_send}
 use Rattle.rdm_law.proofs.AnswersFit.{sent_life, sent_lives, lives_of_sends}
+use Rattle.rdm_law.proofs.OpCounts.{send_count, did_as}
 use Rattle.rdm_law.proofs.PlainDeeds.{IsPlainPacket, IsPlainLoad, IsWithPeer, AreWithPeer}
 use Rattle.rdm_law.proofs.PlainTurns.{IsPlainGoing, all_eager, plain_owed, PlainSent, plain_sends, plain_kind}
 
@@ -104,17 +105,12 @@ plain_turn own peer ms log (Sends s p) to item k heads fit one is goes =
           (sym to_is ∙ sym (ap (λ (x : Sent). x.to) sent) ∙ plain.0, subst (IsPlainLoad own.limits.first) item_is (subst (IsPlainPacket own.limits.first) packet plain.1))
     ]
 
--- 1 for a send that did
-unfoldable pub is_sent : Deed → ℕ
-is_sent (Did (Send req)) = 1
-is_sent _ = 0
-
-sent_by_deed : (before : List Deed) (d : Deed) → length (sent_life before d) ≤ is_sent d
-unfolding sent_life is_sent
+sent_by_deed : (before : List Deed) (d : Deed) → length (sent_life before d) ≤ did_as send_count d
+unfolding sent_life did_as send_count
 sent_by_deed before (Did (Send req)) = option_length (current before req.to.0)
 sent_by_deed before _ = omega arith
 
-lives_by_sends : (log : List Deed) → length (sent_lives log) ≤ deed_count is_sent log
+lives_by_sends : (log : List Deed) → length (sent_lives log) ≤ deed_count (did_as send_count) log
 unfolding sent_lives deed_count
 lives_by_sends [] = omega arith
 lives_by_sends (d ∷ before) =
@@ -124,7 +120,7 @@ lives_by_sends (d ∷ before) =
     omega arith
 
 -- no more messages than sends that did
-pub sends_by_deeds : (own : Own) (ms : Messages) (log : List Deed) → length (sends own ms log) ≤ deed_count is_sent log
+pub sends_by_deeds : (own : Own) (ms : Messages) (log : List Deed) → length (sends own ms log) ≤ deed_count (did_as send_count) log
 sends_by_deeds own ms log =
     let a : length (map (λ (s : Sent). s.to) (sends own ms log)) ≡ length (sends own ms log) = length-map (sends own ms log) (λ (s : Sent). s.to) in
     let b : length (map (λ (s : Sent). s.to) (sends own ms log)) ≡ length (sent_lives log) = ap length (lives_of_sends own ms log) in

@@ -30,13 +30,8 @@ use Rattle.rdm_model.specs.Scenes.{deeds_at}
 use Rattle.rdm_model.specs.Local.{Local}
 use Rattle.rdm_model.proofs.Members.{slice_get-member}
 use Rattle.rdm_law.proofs.Lives.{at_of_life}
-use Rattle.rdm_law.proofs.OpCounts.{did_as, did_within}
+use Rattle.rdm_law.proofs.OpCounts.{send_count, did_as, did_within}
 use Rattle.rdm_law.proofs.PlainDeeds.{IsPlainOp, IsPlainPacket, IsPlainLoad, OpensNone, IsWithPeer, AreWithPeer}
-
--- 1 for a send
-unfoldable pub send_count : Instr → ℕ
-send_count (Send req) = 1
-send_count _ = 0
 
 -- the program of a life that opens once, sends once at most, and has to do with one other life alone
 pub record PlainRank (own : Own) (peer : Life) (ops : List Instr) : Type 0 where

@@ -22,7 +22,7 @@ use Rattle.rdm_law.proofs.Sound.{Sound, GoesWell, waiting_in, entry_of, local_mo
 use Rattle.rdm_law.proofs.SoundSteps.{next_sound, poll_sound, goes_sound}
 
 -- a fetch leaves what waits for each port as it was
-fetch_waits : (job : Job) (w : World) (port p : ℕ) → waiting_in (after_fetch job w port) p ≡ waiting_in w p
+pub fetch_waits : (job : Job) (w : World) (port p : ℕ) → waiting_in (after_fetch job w port) p ≡ waiting_in w p
 unfolding after_fetch put_at
 fetch_waits job w port p =
     (elim (p == port) as (λ b. (p == port) ≡ b →
@@ -59,7 +59,7 @@ unfolding stamp_after
 handle_stamp job log d answer h = not_worn_by job log d h
 
 -- what waits, where one goes out of a stash
-stash_less : (w : World) (port place : ℕ) (d : Datagram) (r : Removed (w.stashes port) place d) (p : ℕ)
+pub stash_less : (w : World) (port place : ℕ) (d : Datagram) (r : Removed (w.stashes port) place d) (p : ℕ)
     → put_at port (remove (w.stashes port) place) w.stashes p ++ w.queues p ≡ one_less (waiting_in w) port r.front (r.back ++ w.queues port) p
 unfolding put_at
 stash_less w port place d r p =
@@ -72,7 +72,7 @@ stash_less w port place d r p =
       | false ↦ λ is. refl
     ]) refl
 
-stash_was : (w : World) (port place : ℕ) (d : Datagram) (r : Removed (w.stashes port) place d) → waiting_in w port ≡ r.front ++ d ∷ (r.back ++ w.queues port)
+pub stash_was : (w : World) (port place : ℕ) (d : Datagram) (r : Removed (w.stashes port) place d) → waiting_in w port ≡ r.front ++ d ∷ (r.back ++ w.queues port)
 stash_was w port place d r = ap (λ (ds : List Datagram). ds ++ w.queues port) r.was ∙ append_assoc r.front (d ∷ r.back) (w.queues port)
 
 handle_sound : (job : Job) (w : World) (port place : ℕ) (o : Option Datagram) → slice_get (w.stashes port) place ≡ o → Sound job w → Sound job (with_handle job w port place o)

@@ -82,7 +82,7 @@ poll_sound job w port (Some c) is s =
     chosen (Sound job) (is_worn job (w.logs port)) w _ (λ yes. s) (λ no. quiet_sound job w port (Poll c) tt no is s)
 
 -- one more in a queue is one more that waits
-queue_more : (w : World) (d : Datagram) (p : ℕ) → w.stashes p ++ put_at d.dst.0 (w.queues d.dst.0 ++ d ∷ []) w.queues p ≡ one_more (waiting_in w) d p
+pub queue_more : (w : World) (d : Datagram) (p : ℕ) → w.stashes p ++ put_at d.dst.0 (w.queues d.dst.0 ++ d ∷ []) w.queues p ≡ one_more (waiting_in w) d p
 unfolding put_at
 queue_more w d p =
     (elim (p == d.dst.0) as (λ b. (p == d.dst.0) ≡ b →
