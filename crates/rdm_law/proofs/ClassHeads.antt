@@ -29,7 +29,7 @@ use Rattle.rdm_law.proofs.Known.{known_one, known_head, opened}
 use Rattle.rdm_law.proofs.Named.{went_reply}
 use Rattle.rdm_law.proofs.Clashes.{Clash}
 use Rattle.rdm_law.proofs.ReplyTurns.{asks_apart}
-use Rattle.rdm_law.proofs.Answering.{reply_once}
+use Rattle.rdm_law.proofs.ReplyTurns.{reply_once}
 use Rattle.rdm_law.proofs.Arrives.{Arrives, arriving_scene}
 use Rattle.rdm_law.proofs.Fresh.{taken_before}
 use Rattle.rdm_law.proofs.ClassSources.{known_shake}
@@ -99,4 +99,4 @@ shake_agrees job history to from words connid d a ports port_log =
     let clash : Clash r.reply s.reply = inl (record { to_is = r.to_is ∙ sym s.to_is; words = k.0; connid = k.1; is = r.is; words' = words; connid' = connid; is' = s.is }) in
     taken_before job history to from (Spelled (Handshake words connid)) (Spelled (Handshake k.0 k.1)) d a was
     (reply_once (own_of job from) r.reply s.reply was.taken.place a.taken.place (life_deeds job history from)
-    (asks_apart (own_of job from) (life_deeds job history from) (own_life job history a.played from)) clash r.turned s.turned))
+    (own_life job history a.played from) r.turned s.turned clash))

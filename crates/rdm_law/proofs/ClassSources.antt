@@ -1,7 +1,7 @@
 -- What a life pushes names it, and its life is known to the one that it is for: neither Malformed nor Unknown.
 use Rattle.rdm_model.proofs.Sending.{grant_taken}
 use Rattle.std.specs.Bool.{then_some}
-use Rattle.rdm_law.proofs.Answering.{owed_seen}
+use Rattle.rdm_law.proofs.Seen.{owed_seen}
 use Rattle.rdm_law.proofs.Held.{sent_current, took_current}
 use Rattle.rdm_pkt.specs.declared.Form.{Form}
 use Rattle.rdm_model.specs.Currents.{current}

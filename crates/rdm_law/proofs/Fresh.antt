@@ -43,7 +43,7 @@ use Rattle.rdm_law.proofs.Arrives.{Arrives}
 use Rattle.rdm_law.proofs.Asks.{iov_bytes}
 use Rattle.rdm_law.proofs.Clashes.{Clash}
 use Rattle.rdm_law.proofs.ReplyTurns.{asks_apart}
-use Rattle.rdm_law.proofs.Answering.{reply_once}
+use Rattle.rdm_law.proofs.ReplyTurns.{reply_once}
 use Rattle.rdm_law.proofs.SentSizes.{sent_sized}
 use Rattle.rdm_law.proofs.AnswersFit.{ranges_fit}
 
@@ -153,7 +153,7 @@ piece_once job history to from n x y k l place played a b i j =
                 subst (λ (p : Piece). place < p.offset + length p.bytes) v.piece_is j.1,
               );
             }))) in
-            reply_once own u.went.reply v.went.reply k l log (asks_apart own log (own_life job history played from)) clash u.went.turned v.went.turned)
+            reply_once own u.went.reply v.went.reply k l log (own_life job history played from) u.went.turned v.went.turned clash)
       ]
     ]
 
