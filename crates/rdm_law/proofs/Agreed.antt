@@ -29,6 +29,7 @@ use Rattle.rdm_law.proofs.Lawfully.{sent_account, agree_now}
 abbrev own_at : Job → ℕ → List Entry → Scene
 own_at job port history = own_scene job port (port_deeds job port history)
 
+-- what was sent to a port's open life
 abbrev sent_at : Job → ℕ → List Entry → Messages
 sent_at job port history = sent_to job history (life_at port (open_life (port_deeds job port history)))
 
@@ -48,6 +49,7 @@ answer_agreed job port history instr played =
 pub going_agreed : (job : Job) (port : ℕ) (history : List Entry) → Played job history → going (own_scene job port (port_deeds job port history)) ≡ going (sent_scene job port history)
 going_agreed job port history played = in_both job port history going played (λ a. going_same (own_at job port history) (sent_at job port history) a)
 
+-- an instruction that is left answers the same
 left_same : (job : Job) (s t : Scene) (log : List Entry) (o : Option Instr) → ((instr : Instr) → answer_of s instr ≡ answer_of t instr) → left_answer job s log o ≡ left_answer job t log o
 unfolding left_answer
 left_same job s t log None h = refl
@@ -60,6 +62,7 @@ unfolding left_at
 left_agreed job port history log played =
     left_same job (own_at job port history) (sent_scene job port history) log (instruction_left job port log) (λ instr. answer_agreed job port history instr played)
 
+-- no completion is left by both accounts or by neither
 none_same : (s : Scene) (ns : Messages) → AgreesIn s ns → next_completion_is_none s ≡ next_completion_is_none (by_account s ns)
 unfolding next_completion_is_none
 none_same s ns a = let c = completions_same s.own s.ms ns s.log a in rw c refl

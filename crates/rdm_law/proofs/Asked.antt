@@ -39,6 +39,7 @@ use Rattle.rdm_law.proofs.Pieces.{SentPiece, GivenPiece, PieceOf}
 use Rattle.rdm_law.proofs.Whole.{byte_of_piece}
 use Rattle.rdm_law.proofs.Sent.{carried_part}
 
+-- a piece of later packets is one of all
 piece_later : (o : Option Piece) (xs : List Piece) (x : Piece) → Member x xs → Member x (cons_option o xs)
 piece_later None xs x m = m
 piece_later (Some y) xs x m = inr m
@@ -69,6 +70,7 @@ opened_read limits m Eager h = cc
 opened_read limits m Medium h = cc
 opened_read limits m LongCts h = cc
 
+-- a message that is read is not granted
 read_not_long : (kind : Kind) → is_read kind ≡ true → kind ≡ LongCts → ⊥
 unfolding is_read
 read_not_long kind h e = let f : is_read LongCts ≡ true = subst (λ (k : Kind). is_read k ≡ true) e h in cc
@@ -105,6 +107,7 @@ pub record AskedAt (job : Job) (history : List Entry) (i j : Life) (s : Sent) (p
   pub from : ask.at ≤ place
   pub to : place < ask.at + ask.length
 
+-- bytes that were given were asked for
 given_asked : (job : Job) (history : List Entry) (i j : Life) (s : Sent) (x : Piece) (place k : ℕ) → GivenPiece job history i j s x k → x.offset ≤ place
     → place < x.offset + length x.bytes → AskedAt job history i j s place
 given_asked job history i j s x place k g from to =

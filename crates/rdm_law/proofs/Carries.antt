@@ -52,6 +52,7 @@ taken_turn job before e c source item played comes now does is =
     let came : Comes before e (Handle r.0 (TookAnswer r.1)) = subst C r.3 comes in
     (r.0, pushed_taken job before (life_of e.port.0 c) source item r.0 played t (ap (λ (p : PortNo). p.0) came.0) came.1)
 
+-- bytes that an open life takes are a part of what was sent, and new
 pub carries_open : (job : Job) (before : List Entry) (e : Entry) (c : Connid) → Played job before → SendsAre job before → Comes before e e.act
     → open_life (deeds_at job e.port.0 (log_of e.port.0 before)) ≡ Some c
     → Does job class_of (own_scene job e.port.0 (deeds_at job e.port.0 (log_of e.port.0 before))) (log_of e.port.0 before) e e.act

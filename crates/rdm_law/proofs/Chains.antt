@@ -62,6 +62,7 @@ pub record DataWent (job : Job) (history : List Entry) (life' from : Life) (recv
   pub to_is : sent.to ≡ life'
   pub push : DataPush (own_of job from) (life_deeds job history from) sent (CtsData recv offset connid bytes)
 
+-- granted bytes that went to a life are of a send
 pub data_went : (job : Job) (history : List Entry) (life' from : Life) (recv : OpId) (offset : ℕ) (connid : Connid) (bytes : List ℕ) (d : Datagram)
     (t : TakenTurn job history life' from (Spelled (CtsData recv offset connid bytes)) d) → DataWent job history life' from recv offset connid bytes t.place
 data_went job history life' from recv offset connid bytes d t =
@@ -94,6 +95,7 @@ pub record GrantKnown (job : Job) (history : List Entry) (life' from : Life) (s 
   pub long : s.kind ≡ LongCts
   pub head_is : (account job history life').head pair.message.life pair.message.no.0 ≡ message_head job.limits s.message s.kind
 
+-- a grant of a pair names the send of its message
 grant_known_at : (job : Job) (history : List Entry) (life' from source : Life) (s : Sent) (send recv : OpId) (p : Pair) (credits : ℕ) → source ≡ from
     → Member s (sends_of job history from) → send ≡ op_id s.number → Member p (pairs_of job history life') → recv ≡ recv_in p → p.message.life ≡ source
     → (k : Known job history life' source p.message.no.0) → (account job history life').head p.message.life p.message.no.0 ≡ message_head job.limits k.sent.message k.sent.kind
@@ -124,6 +126,7 @@ grant_known job history life' from s recv size connid played m t =
     let k = pair_known job history life' o.pair played o.member in
     grant_known_at job history life' from o.pair.message.life s (op_id s.number) recv o.pair o.credits o.to_is m refl o.member o.recv_is refl k.known k.head_is o.shape_is
 
+-- a grant that was taken from a life by another name
 grant_at : (job : Job) (history : List Entry) (from to life' : Life) (send recv : OpId) (size : ℕ) (connid : Connid) → to ≡ life'
     → Member (Took to (Spelled (Cts send recv size connid))) (life_deeds job history from) → Member (Took life' (Spelled (Cts send recv size connid))) (life_deeds job history from)
 grant_at job history from to life' send recv size connid e h = subst (λ (x : Life). Member (Took x (Spelled (Cts send recv size connid))) (life_deeds job history from)) e h
@@ -135,10 +138,12 @@ grants_known job history life' from s g played m to h =
     let t = grant_taken (life_deeds job history from) s.to s.number g h in
     grant_known job history life' from s (op_id g.recv) g.size t.0 played m (grant_at job history from s.to life' (op_id s.number) (op_id g.recv) g.size t.0 to t.1)
 
+-- granted bytes name the receive of their grant
 data_recv : (own : Own) (log : List Deed) (s : Sent) (recv : OpId) (offset : ℕ) (connid : Connid) (bytes : List ℕ) (p : DataPush own log s (CtsData recv offset connid bytes))
     → recv.0 ≡ p.grant.recv
 data_recv own log s recv offset connid bytes p = (let is = p.is in let e : recv ≡ op_id p.grant.recv = cc in ap (λ (x : OpId). x.0) e)
 
+-- their grant was taken
 data_grant : (own : Own) (log : List Deed) (s : Sent) (p : Packet) (d : DataPush own log s p) → Member d.grant (grants log s.to s.number)
 data_grant own log s p d = subst (λ (gs : List Grant). Member d.grant gs) (sym d.grants_are) (inl refl)
 
@@ -159,6 +164,7 @@ pub record GivenWent (job : Job) (history : List Entry) (life' from : Life) (g :
   pub item_is : reply.item ≡ Gives g
   pub of : OfGiven (own_of job from) (account job history from) (life_deeds job history from) reply g
 
+-- what was given to a life answers its ask
 pub given_went : (job : Job) (history : List Entry) (life' from : Life) (g : ReadData) (d : Datagram) (t : TakenTurn job history life' from (Gives g) d)
     → GivenWent job history life' from g t.place
 given_went job history life' from g d t =
@@ -183,6 +189,7 @@ pub record AskKnown (job : Job) (history : List Entry) (life' from : Life) (s : 
   pub of : Member a (asks_for (shape_by job.limits s.message s.kind) (recv_in pair))
   pub head_is : (account job history life').head pair.message.life pair.message.no.0 ≡ message_head job.limits s.message s.kind
 
+-- an ask of a pair names the send of its message
 pub ask_known_at : (job : Job) (history : List Entry) (life' from source : Life) (s : Sent) (a : ReadAsk) (p : Pair) → source ≡ from
     → Member s (sends_of job history from) → s.number ≡ a.send_id.0 → Member p (pairs_of job history life') → p.message.life ≡ source
     → (k : Known job history life' source p.message.no.0) → (account job history life').head p.message.life p.message.no.0 ≡ message_head job.limits k.sent.message k.sent.kind

@@ -50,6 +50,7 @@ pub record AskSend (job : Job) (history : List Entry) (j i : Life) (a : ReadAsk)
   pub names : sent.number ≡ a.send_id.0
   pub known : AskKnown job history i j sent a
 
+-- an ask of a pair names the send of its message
 ask_send_at : (job : Job) (history : List Entry) (j i source : Life) (a : ReadAsk) (p : Pair) → source ≡ j → Member p (pairs_of job history i) → p.message.life ≡ source
     → (k : Known job history i source p.message.no.0) → (account job history i).head p.message.life p.message.no.0 ≡ message_head job.limits k.sent.message k.sent.kind
     → Member a (asks_for (shape_in (account job history i).head p) (recv_in p)) → AskSend job history j i a
@@ -112,6 +113,7 @@ asked_by_took peer send (Took from (Asks ask)) b m =
     ]) refl m
 asked_by_took peer send _ b m = elim m [ ]
 
+-- each ask of a send was taken
 pub asks_took : (log : List Deed) (peer : Life) (send : ℕ) (b : ReadAsk) → Member b (asks_of log peer send) → Member (Took peer (Asks b)) log × (b.send_id.0 ≡ send)
 unfolding asks_of
 asks_took [] peer send b m = elim m [ ]
@@ -121,6 +123,7 @@ asks_took (d ∷ before) peer send b m =
       | inr k ↦ let r = asked_by_took peer send d b k in (inl r.0, r.1)
     ]
 
+-- asks that overlap share a byte
 share_from : (a b : ReadAsk) → overlaps a.at a.length b.at b.length ≡ true → AsksShare a b
 share_from a b h =
     let p = overlap_parts a.at a.length b.at b.length h in

@@ -63,6 +63,7 @@ asked_by_cases peer send (Took from (Asks ask)) =
     ]
 asked_by_cases peer send _ = inl refl
 
+-- no two asks of a send share a byte
 asks_all_apart : (log : List Deed) (peer : Life) (send : ℕ) → AsksApart log → AllApart (asks_of log peer send)
 unfolding asks_of
 asks_all_apart [] peer send a = tt
@@ -100,6 +101,7 @@ read_within n tagged cq_data raw own known limits =
           ]
     ]
 
+-- what is read of a send begins within its message
 sent_within : (job : Job) (history : List Entry) (j : Life) (s : Sent) → Member s (sends_of job history j) → read_from s.kind ≤ length s.message.bytes
 sent_within job history j s m =
     let own = own_of job j in
@@ -147,6 +149,7 @@ owed_gives own ms (d ∷ before) r n (inl (inr (inr (inr (inl x))))) is = (let e
 owed_gives own ms (d ∷ before) r n (inl (inr (inr (inr (inr x))))) is =
     (record { recv_id = x.ask.recv_id; at = x.ask.at; bytes = take x.ask.length (drop x.ask.at x.sent.message.bytes) }, x.is)
 
+-- a number that is that one
 number_some : (n : ℕ) (o : Option ℕ) → is_number n o ≡ true → o ≡ Some n
 unfolding is_number
 number_some n None h = cc
@@ -221,6 +224,7 @@ end_new job history j i send recv connid d h e =
     let k = reply_once (own_of job i) x.reply y.reply w.taken.taken.place h.taken.place (life_deeds job history i) (own_life job history h.played i) x.turned y.turned clash in
     taken_before job history j i (Spelled (Eor send recv connid)) (Spelled (Eor (op_id e.known.sent.number) w.recv w.connid)) d h w.taken k)
 
+-- the send that an arriving end names is live
 end_live : (job : Job) (history : List Entry) (j i : Life) (send recv : OpId) (connid : Connid) (d : Datagram) (ports : ℕ) (port_log : List Deed)
     → (h : Arrives job history j i (Spelled (Eor send recv connid)) d) → (e : EndSend job history i j send.0 recv.0)
     → live_send (arriving_scene job history j ports port_log) i send.0 ≡ Some e.known.sent
@@ -232,6 +236,7 @@ end_live job history j i send recv connid d ports port_log h e =
     live_send_is (arriving_scene job history j ports port_log) s i send.0 e.sent_member e.known.to_is e.number_is
     (read_over log ((progress (own_of job j) (account job history j) log).packets s.number) s f e.read n)
 
+-- a read send
 read_send : (t : Sent) → is_read t.kind ≡ true → is_read_send (Some t) ≡ true
 unfolding is_read_send
 read_send t h = h
@@ -244,6 +249,7 @@ end_has_op job history j i send recv connid d ports port_log h =
     let e = end_went job history j i send recv connid d h.played h.taken in
     ap (λ o. not (is_read_send o)) (end_live job history j i send recv connid d ports port_log h e) ∙ ap not (read_send e.known.sent e.read)
 
+-- an end is not early where all was asked for and nothing waits to be given
 end_in_time : (s : Scene) (t : Sent) → asked_bytes (asks_of s.log t.to t.number) + read_from t.kind ≡ length t.message.bytes
     → ((r : Reply) → Member r (progress s.own s.ms s.log).replies → r.to ≡ t.to → r.gives ≡ Some t.number → ⊥) → is_early_end s (Some t) ≡ false
 unfolding is_early_end

@@ -62,15 +62,18 @@ ask_unended job history j i a d h s =
     let high = b.to in
     ask_new job history j i s.sent a b.ask d h s.known s.member b.names b.took (a.at, omega arith, omega arith, low, high))
 
+-- a read send is not over while its life is known and no end of it was taken
 pub read_over : (log : List Deed) (pushed : List Packet) (s : Sent) → is_forgotten log s.to ≡ false → is_read s.kind ≡ true → list_any (ends_send s.to s.number) log ≡ false
     → is_over log pushed s ≡ false
 unfolding is_over
 read_over log pushed s f r e = rw (f, r, e) refl
 
+-- the life whose datagram arrives is not forgotten
 pub not_forgotten_here : (job : Job) (history : List Entry) (life' from : Life) (item : Item) (d : Datagram) → Arrives job history life' from item d
     → is_forgotten (life_deeds job history life') from ≡ false
 not_forgotten_here job history life' from item d h = not_forgotten (own_of job life') (life_deeds job history life') from (own_life job history h.played life') h.current
 
+-- the send that an arriving ask names is live
 ask_live : (job : Job) (history : List Entry) (j i : Life) (a : ReadAsk) (d : Datagram) (ports : ℕ) (port_log : List Deed) → (h : Arrives job history j i (Asks a) d)
     → (s : AskSend job history j i a) → live_send (arriving_scene job history j ports port_log) i a.send_id.0 ≡ Some s.sent
 ask_live job history j i a d ports port_log h s =
@@ -80,6 +83,7 @@ ask_live job history j i a d ports port_log h s =
     live_send_is (arriving_scene job history j ports port_log) s.sent i a.send_id.0 s.member s.to_is s.names
     (read_over log ((progress (own_of job j) (account job history j) log).packets s.sent.number) s.sent f s.known.ask_of.read e)
 
+-- an ask that lies in what is read and shares no byte is good
 good_ask : (s : Scene) (i : Life) (a : ReadAsk) (t : Sent) → AskOf t.message t.kind a
     → list_any (λ (b : ReadAsk). overlaps a.at a.length b.at b.length) (asks_of s.log i a.send_id.0) ≡ false → is_good_ask s i a (Some t) ≡ true
 unfolding is_good_ask

@@ -44,22 +44,27 @@ pub record IsFree (s : Scene) (from : Life) (item : Item) : Type 0 where
 abbrev lives_case : Bool → Bool → Option Class
 lives_case other_life other_source = first_case ((other_life, Some ToOther) ∷ (other_source, Some FromOther) ∷ []) None
 
+-- the first case holds
 first_true : {A : Type 0} (b : Bool) (x : A) (cs : List (Bool × A)) (last : A) → b ≡ true → first_case ((b, x) ∷ cs) last ≡ x
 unfolding first_case
 first_true b x cs last h = rw h refl
 
+-- the first case does not hold
 first_false : {A : Type 0} (b : Bool) (x : A) (cs : List (Bool × A)) (last : A) → b ≡ false → first_case ((b, x) ∷ cs) last ≡ first_case cs last
 unfolding first_case
 first_false b x cs last h = rw h refl
 
+-- no case of lives holds
 lives_none : (a b : Bool) → a ≡ false → b ≡ false → lives_case a b ≡ None
 unfolding first_case
 lives_none a b h k = rw (h, k) refl
 
+-- an item for another life is ToOther
 item_other : (s : Scene) (from : Life) (to : Connid) (item : Item) → not (is_connid s.now to) ≡ true → item_class s from to item ≡ Some ToOther
 unfolding item_class
 item_other s from to item h = first_true (not (is_connid s.now to)) (Some ToOther) _ None h
 
+-- an item of another life than the current one is FromOther
 item_source : (s : Scene) (from : Life) (to : Connid) (item : Item) → not (is_connid s.now to) ≡ false → is_other (current s.log from.port.0) from ≡ true
     → item_class s from to item ≡ Some FromOther
 unfolding item_class
@@ -111,10 +116,12 @@ arrived_as job before port d from to load played dst pushed fresh body other =
       current = other;
     }
 
+-- the life that a datagram is for is open
 scene_now : (job : Job) (port : ℕ) (log : List Deed) (to : Connid) → not (is_connid (own_scene job port log).now to) ≡ false → open_life log ≡ Some to
 unfolding own_scene scene
 scene_now job port log to h = is_connid-true (open_life log) to (not-false (is_connid (open_life log) to) h)
 
+-- a datagram between lives that came passes each test
 between_free : (job : Job) (before : List Entry) (port : ℕ) (d : Datagram) (from to : Connid) (load : Load) → AllFree job → Played job before → d.dst.0 ≡ port
     → PushedIn d (log_of d.src.0 before) → IsUnhandled d before → d.body ≡ Between from to load
     → (s : Scene) → s ≡ life_scene (port_count job) (own_of job (life_of port to)) (port_deeds job port before) (life_deeds job before (life_of port to))
@@ -126,12 +133,14 @@ between_free job before port d from to load free played dst pushed fresh body s 
     let f = free before (life_of port to) (life d.src from) (item_of load) d a (port_count job) (port_deeds job port before) in
     subst (λ (x : Scene). IsFree x (life d.src from) (item_of load)) (sym is) f
 
+-- the scene of a port while a life is open
 opened_here : (job : Job) (before : List Entry) (port : ℕ) (to : Connid) → open_life (port_deeds job port before) ≡ Some to
     → own_scene job port (port_deeds job port before)
     ≡ life_scene (port_count job) (own_of job (life_of port to)) (port_deeds job port before) (life_deeds job before (life_of port to))
 unfolding life_deeds
 opened_here job before port to h = opened_scene job port to (port_deeds job port before) h
 
+-- the class of what a datagram that came has in it is that by lives
 body_lives : (job : Job) (before : List Entry) (port : ℕ) (d : Datagram) (body : Body) → AllFree job → Played job before → d.dst.0 ≡ port
     → PushedIn d (log_of d.src.0 before) → IsUnhandled d before → d.body ≡ body
     → body_class (own_scene job port (port_deeds job port before)) d body ≡ body_lives_class (own_scene job port (port_deeds job port before)) d body

@@ -12,6 +12,7 @@ abbrev pub AllApart : List ReadAsk → Type 0
 AllApart [] = Unit {0}
 AllApart (a ∷ as') = AllApart as' × ((b : ReadAsk) → Member b as' → AsksShare a b → ⊥)
 
+-- one more ask that shares no byte with the others
 pub apart_push : (as' : List ReadAsk) (b : ReadAsk) → AllApart as' → ((a : ReadAsk) → Member a as' → AsksShare a b → ⊥) → AllApart (as' ++ b ∷ [])
 apart_push [] b a h = (tt, λ c m s. elim m [ ])
 apart_push (x ∷ xs) b a h = (
@@ -30,6 +31,7 @@ below_bound a k = min (a.at + a.length) k - a.at
 has_place : ReadAsk → ℕ → ℕ
 has_place a k = cond (nat_le a.at k && nat_lt k (a.at + a.length)) 1 0
 
+-- the next place is of the ask or not
 below_next : (a : ReadAsk) (k : ℕ) → below_bound a (suc k) ≡ below_bound a k + has_place a k
 unfolding below_bound has_place
 below_next a k =
@@ -54,11 +56,13 @@ total : (ReadAsk → ℕ) → List ReadAsk → ℕ
 total f [] = 0
 total f (a ∷ as') = f a + total f as'
 
+-- the same of all asks
 total_next : (k : ℕ) (as' : List ReadAsk) → total (λ a. below_bound a (suc k)) as' ≡ total (λ a. below_bound a k) as' + total (λ a. has_place a k) as'
 unfolding total
 total_next k [] = omega arith
 total_next k (a ∷ as') = let h = below_next a k in let r = total_next k as' in omega arith
 
+-- an ask that does not have the place
 lacks_place : (a : ReadAsk) (k : ℕ) → (a.at ≤ k → k < a.at + a.length → ⊥) → has_place a k ≡ 0
 unfolding has_place
 lacks_place a k h =
@@ -66,16 +70,19 @@ lacks_place a k h =
     false_from_ne_true (nat_le a.at k && nat_lt k (a.at + a.length)) (λ t. let p = and_parts (nat_le a.at k) (nat_lt k (a.at + a.length)) t in h (leb-true a.at k p.0) (ltb-true k (a.at + a.length) p.1)) in
     rw f refl
 
+-- an ask that has it
 owns_place : (a : ReadAsk) (k : ℕ) → a.at ≤ k → k < a.at + a.length → has_place a k ≡ 1
 unfolding has_place
 owns_place a k low high =
     let t = and_from (nat_le a.at k) (nat_lt k (a.at + a.length)) (le-leb a.at k low) (lt-ltb k (a.at + a.length) high) in rw t refl
 
+-- a place that no ask has
 none_has : (k : ℕ) (as' : List ReadAsk) → ((b : ReadAsk) → Member b as' → b.at ≤ k → k < b.at + b.length → ⊥) → total (λ a. has_place a k) as' ≡ 0
 unfolding total
 none_has k [] h = refl
 none_has k (a ∷ as') h = let x = lacks_place a k (h a (inl refl)) in let y = none_has k as' (λ b m. h b (inr m)) in omega arith
 
+-- a place that an ask has is of one alone
 one_has : (k : ℕ) (as' : List ReadAsk) (b : ReadAsk) → AllApart as' → Member b as' → b.at ≤ k → k < b.at + b.length → total (λ a. has_place a k) as' ≡ 1
 unfolding total
 one_has k [] b apart m low high = elim m [ ]
@@ -90,6 +97,7 @@ one_has k (a ∷ as') b apart (inr m) low high =
     let y = one_has k as' b apart.0 m low high in
     omega arith
 
+-- no ask has a place before the stretch
 none_below : (as' : List ReadAsk) (from : ℕ) → ((a : ReadAsk) → Member a as' → from ≤ a.at) → total (λ a. below_bound a (from + 0)) as' ≡ 0
 unfolding total below_bound
 none_below [] from starts = refl
@@ -98,6 +106,7 @@ none_below (a ∷ as') from starts =
     let r = none_below as' from (λ b m. starts b (inr m)) in
     omega arith
 
+-- so many places from the start of the stretch on are covered
 covered_to : (as' : List ReadAsk) (from n : ℕ) → AllApart as' → ((a : ReadAsk) → Member a as' → from ≤ a.at)
     → ((k : ℕ) → from ≤ k → k < from + n → (b : ReadAsk) × Member b as' × (b.at ≤ k) × (k < b.at + b.length))
     → total (λ a. below_bound a (from + n)) as' ≡ n
@@ -111,6 +120,7 @@ covered_to as' from (suc n) apart starts cover =
     let e : from + suc n ≡ suc (from + n) = omega arith in
     ap (λ (x : ℕ). total (λ a. below_bound a x) as') e ∙ (omega arith)
 
+-- all places of the asks lie before its end
 all_below : (as' : List ReadAsk) (top : ℕ) → ((a : ReadAsk) → Member a as' → a.at + a.length ≤ top) → total (λ a. below_bound a top) as' ≡ total (λ a. a.length) as'
 unfolding total below_bound
 all_below [] top ends = refl
@@ -119,6 +129,7 @@ all_below (a ∷ as') top ends =
     let r = all_below as' top (λ b m. ends b (inr m)) in
     omega arith
 
+-- the sum of the lengths
 total_sum : (as' : List ReadAsk) (n : ℕ) → fold (λ x (a : ReadAsk). x + a.length) n as' ≡ n + total (λ a. a.length) as'
 unfolding total
 total_sum [] n = omega arith

@@ -56,6 +56,7 @@ pub record EndSend (job : Job) (history : List Entry) (i j : Life) (send recv : 
   pub filled : is_filled (own_of job i).limits.first (account job history i).head (life_deeds job history i) pair ≡ true
   pub head_is : (account job history i).head pair.message.life pair.message.no.0 ≡ message_head job.limits known.sent.message known.sent.kind
 
+-- an end of a pair names the send of its message
 end_send_at : (job : Job) (history : List Entry) (i j source : Life) (send recv : OpId) (connid : Connid) (p : Pair) → source ≡ j → Member p (pairs_of job history i)
     → p.message.life ≡ source → (k : Known job history i source p.message.no.0)
     → (account job history i).head p.message.life p.message.no.0 ≡ message_head job.limits k.sent.message k.sent.kind
@@ -108,6 +109,7 @@ pub record EndTaken (job : Job) (history : List Entry) (j i : Life) (send : ℕ)
   pub taken : Taken job history j i (Spelled (Eor (op_id send) recv connid))
   pub of : EndSend job history i j send recv.0
 
+-- so is one that was taken
 pub end_taken : (job : Job) (history : List Entry) (j i : Life) (send : ℕ) → Played job history → list_any (ends_send i send) (life_deeds job history j) ≡ true
     → EndTaken job history j i send
 end_taken job history j i send played h =

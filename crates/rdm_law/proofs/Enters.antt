@@ -32,6 +32,7 @@ length_without x (y ∷ xs) m =
       ]
     ]) refl
 
+-- without one number the others stay
 other_without : (x y : ℕ) (xs : List ℕ) → Member y xs → (y ≡ x → ⊥) → Member y (without_first (λ z. nat_eq z x) xs)
 unfolding without_first
 other_without x y [] m n = elim m [ ]
@@ -54,10 +55,12 @@ deed_number : Deed → ℕ
 deed_number (Took from (Spelled (Rtm number tag opt form))) = number.0
 deed_number _ = 0
 
+-- the number of a packet that opens a message
 rtm_number : (source : Life) (number : MsgNo) (tag : Option ℕ) (opt : Opt) (form : Form) → deed_number (Took source (Spelled (Rtm number tag opt form))) ≡ number.0
 unfolding deed_number
 rtm_number source number tag opt form = refl
 
+-- a number that was heard of is that of a deed
 heard_member : (log : List Deed) (source : Life) (n : ℕ) → is_heard log source n ≡ true → Member n (map deed_number log)
 unfolding is_heard
 heard_member log source n h =
@@ -73,6 +76,7 @@ pub record Reach (first : ℕ) (log : List Deed) (source : Life) : Type 0 where
   pub heard : (k : ℕ) → k < count → is_heard log source (first + k) ≡ true
   pub stops : is_heard log source (first + count) ≡ false
 
+-- from so many numbers on
 reach_from : (first : ℕ) (log : List Deed) (source : Life) (fuel n : ℕ) → n + fuel ≡ suc (length log) → ((k : ℕ) → k < n → is_heard log source (first + k) ≡ true) → Reach first log source
 reach_from first log source zero n e h =
     let r = row_fits first n (map deed_number log) (λ k lt. heard_member log source (first + k) (h k lt)) in
@@ -88,6 +92,7 @@ reach_from first log source (suc fuel) n e h =
 pub reach : (first : ℕ) (log : List Deed) (source : Life) → Reach first log source
 reach first log source = reach_from first log source (suc (length log)) 0 (omega arith) (λ k lt. absurd (omega arith))
 
+-- the numbers within the reach have entered
 pub entered_from : (first : ℕ) (log : List Deed) (source : Life) (r : Reach first log source) (k : ℕ) → k < r.count → has_entered first log source (first + k) ≡ true
 unfolding has_entered heard_below
 entered_from first log source r k lt =
@@ -96,6 +101,7 @@ entered_from first log source r k lt =
     (each_below_from (λ j. is_heard log source (first + j)) (first + k - first) (λ j l. r.heard j (omega arith))))
     (r.heard k lt)
 
+-- a number that has entered: it and all before it were heard of
 entered_parts : (first : ℕ) (log : List Deed) (source : Life) (n : ℕ) → has_entered first log source n ≡ true
     → (first ≤ n) × ((j : ℕ) → j < n - first → is_heard log source (first + j) ≡ true) × (is_heard log source n ≡ true)
 unfolding has_entered heard_below
@@ -104,6 +110,7 @@ entered_parts first log source n h =
     let q = and_parts (nat_le first n) (each_below (λ j. is_heard log source (first + j)) (n - first)) p.0 in
     (leb-true first n q.0, λ j l. each_below_at (λ j. is_heard log source (first + j)) (n - first) j q.1 l, p.1)
 
+-- the numbers past the reach have not entered
 pub not_entered : (first : ℕ) (log : List Deed) (source : Life) (r : Reach first log source) (k : ℕ) → r.count ≤ k → has_entered first log source (first + k) ≡ false
 not_entered first log source r k le =
     false_from_ne_true (has_entered first log source (first + k)) (λ t.
@@ -114,9 +121,11 @@ not_entered first log source r k le =
       | inr other ↦ (let e = p.1 r.count (omega arith) in cc)
     ])
 
+-- a number that does not pass is left out
 last_no : (first : ℕ) (p : ℕ → Bool) (n : ℕ) → p (first + n) ≡ false → (xs : List ℕ) → xs ++ filter p ((first + n) ∷ []) ≡ xs
 last_no first p n h xs = rw h (append-nil xs)
 
+-- a number that passes comes next
 last_yes : (first : ℕ) (p : ℕ → Bool) (n m : ℕ) → m ≡ n → p (first + n) ≡ true
     → map (λ k. first + k) (below m) ++ filter p ((first + n) ∷ []) ≡ map (λ k. first + k) (below (suc m))
 unfolding below

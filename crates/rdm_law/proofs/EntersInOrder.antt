@@ -24,6 +24,7 @@ use Rattle.rdm_law.specs.Headline.{numbers_from, numbers_in, EnterInOrder}
 use Rattle.rdm_law.proofs.Whole.{length-below}
 use Rattle.rdm_law.proofs.Enters.{Reach, reach, entering_joins}
 
+-- the numbers of events in a row
 numbers-append : (source : Life) (es fs : List Event) → numbers_from source (es ++ fs) ≡ numbers_from source es ++ numbers_from source fs
 unfolding numbers_from
 numbers-append source [] fs = refl
@@ -35,16 +36,19 @@ numbers-append source (Post r ∷ es) fs = numbers-append source es fs
 numbers-append source (Cancel n ∷ es) fs = numbers-append source es fs
 numbers-append source (Forget l ∷ es) fs = numbers-append source es fs
 
+-- the arrivals of a life have its numbers
 numbers_own : (heads : Heads) (from source : Life) (ns : List ℕ) → same_life from source ≡ true → numbers_from source (map (arrival heads from) ns) ≡ ns
 unfolding numbers_from
 numbers_own heads from source [] h = refl
 numbers_own heads from source (n ∷ ns) h = let r = numbers_own heads from source ns h in rw (h, r) refl
 
+-- those of another life have none
 numbers_other : (heads : Heads) (from source : Life) (ns : List ℕ) → same_life from source ≡ false → numbers_from source (map (arrival heads from) ns) ≡ []
 unfolding numbers_from
 numbers_other heads from source [] h = refl
 numbers_other heads from source (n ∷ ns) h = let r = numbers_other heads from source ns h in rw (h, r) refl
 
+-- a life that is forgotten brings none
 numbers_forgets : (source : Life) (lives : List Life) → numbers_from source (map Forget lives) ≡ []
 unfolding numbers_from
 numbers_forgets source [] = refl
@@ -60,11 +64,13 @@ not_heard_by source (Took from (Spelled (Rtm number tag opt form))) no' n =
     ]) refl
 not_heard_by source _ no' n = refl
 
+-- nothing more
 or_none : {A : Type 0} (o : Option A) → or_else o None ≡ o
 unfolding or_else
 or_none None = refl
 or_none (Some x) = refl
 
+-- a deed that takes nothing of a life leaves what was heard of it
 same_heard : (source : Life) (d : Deed) (before : List Deed) → ((item : Item) → d ≡ Took source item → ⊥) → (n : ℕ) → is_heard (d ∷ before) source n ≡ is_heard before source n
 unfolding is_heard heard_head
 same_heard source d before no' n =
@@ -83,6 +89,7 @@ reach_one first log more source r s same =
       ]
     ]
 
+-- lives that differ are not one
 not_self : (from source : Life) → same_life from source ≡ false → from ≡ source → ⊥
 not_self from source h e = let t = ap (λ (l : Life). same_life l source) e in let u = same_life-refl source in cc
 

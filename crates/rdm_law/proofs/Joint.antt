@@ -22,14 +22,17 @@ abbrev pub Within : ℕ → List Entry → Type 0
 Within top [] = Unit {0}
 Within top (e ∷ before) = Within top before × (e.stamp.0 ≤ top)
 
+-- a greater stamp is not passed either
 within_more : (top more : ℕ) (log : List Entry) → top ≤ more → Within top log → Within more log
 within_more top more [] h w = tt
 within_more top more (e ∷ before) h w = (within_more top more before h w.0, omega arith)
 
+-- stamps do not fall
 above_newest : (e f : Entry) (before : List Entry) → IsAbove e (f ∷ before) → f.stamp.0 ≤ e.stamp.0
 above_newest e f before (inl a) = omega arith
 above_newest e f before (inr a) = let s = ap (λ (x : Stamp). x.0) a.0 in omega arith
 
+-- no older entry has a greater stamp
 in_order_within : (e : Entry) (before : List Entry) → IsInOrder (e ∷ before) → Within e.stamp.0 before
 in_order_within e [] o = tt
 in_order_within e (f ∷ before) o =
@@ -56,6 +59,7 @@ pushed_or_before job port e before d =
     ])
     (λ s l h. inr h)
 
+-- a handled datagram is older than its handling
 stamp_of_handle : (job : Job) (e : Entry) (before : List Entry) (d : Datagram) (answer : Handled)
     → Local job e.port.0 (log_of e.port.0 (e ∷ before)) → e.act ≡ Handle d answer → d.stamp.0 < e.stamp.0
 stamp_of_handle job e before d answer l is =
@@ -76,6 +80,7 @@ comes_from_before job newer whole e before (Next index op answer) ls le above c 
 comes_from_before job newer whole e before (Push d) ls le above c = tt
 comes_from_before job newer whole e before (Poll p) ls le above c = tt
 
+-- what is delivered from logs with a newer entry is delivered from those without it
 delivered_before : (job : Job) (newer : Entry) (whole history : List Entry)
     → ((port : ℕ) → Local job port (log_of port (newer ∷ whole))) → ((port : ℕ) → Local job port (log_of port history))
     → Within newer.stamp.0 history
@@ -87,6 +92,7 @@ delivered_before job newer whole (e ∷ before) ls ks w d =
       comes_from_before job newer whole e before e.act ls w.1 (λ x answer is. stamp_of_handle job e before x answer (ks e.port.0) is) d.1,
     )
 
+-- the newest handling is of what was pushed before
 comes_at : (job : Job) (e : Entry) (before : List Entry) (act : Act) → ((port : ℕ) → Local job port (log_of port (e ∷ before)))
     → ((d : Datagram) (answer : Handled) → act ≡ Handle d answer → d.stamp.0 < e.stamp.0)
     → ComesFrom (λ port. log_of port (e ∷ before)) before e act → Comes before e act
@@ -107,6 +113,7 @@ wire_from job (e ∷ before) o ls d =
       comes_at job e before e.act ls (λ x answer is. stamp_of_handle job e before x answer (ls e.port.0) is) d.1,
     )
 
+-- a datagram comes from logs that are the same
 same_comes : (logs ks : ℕ → List Entry) (before : List Entry) (e : Entry) (act : Act) → ((port : ℕ) → logs port ≡ ks port)
     → ComesFrom logs before e act → ComesFrom ks before e act
 same_comes logs ks before e (Handle d answer) s c = (c.0, (let P : List Entry → Type 0 = λ log. PushedIn d log in subst P (s d.src.0) c.1), c.2)
@@ -114,6 +121,7 @@ same_comes logs ks before e (Next index op answer) s c = tt
 same_comes logs ks before e (Push d) s c = tt
 same_comes logs ks before e (Poll p) s c = tt
 
+-- so do all
 same_delivered : (logs ks : ℕ → List Entry) (history : List Entry) → ((port : ℕ) → logs port ≡ ks port) → IsDelivered logs history → IsDelivered ks history
 same_delivered logs ks [] s d = tt
 same_delivered logs ks (e ∷ before) s d = (same_delivered logs ks before s d.0, same_comes logs ks before e e.act s d.1)
@@ -123,6 +131,7 @@ pub record JointParts (job : Job) (history : List Entry) : Type 0 where
   pub locals : (port : ℕ) → Local job port (log_of port history)
   pub wire : Wire history
 
+-- the joint history of such logs
 pub joint_parts : (job : Job) (logs : ℕ → List Entry) (history : List Entry) → IsJoint logs history → IsDelivered logs history
     → ((port : ℕ) → Local job port (logs port)) → JointParts job history
 joint_parts job logs history joint d ls =

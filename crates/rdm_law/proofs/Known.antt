@@ -51,10 +51,12 @@ pub record HeadTaken (log : List Deed) (source : Life) (n : ℕ) (h : Head) : Ty
   pub number_is : number.0 ≡ n
   pub head_is : head_of tag opt form ≡ h
 
+-- a value that a test gives: the test holds
 pub then_parts : {A : Type 0} (b : Bool) (x y : A) → then_some b x ≡ Some y → (b ≡ true) × (x ≡ y)
 then_parts true x y h = (refl, cc)
 then_parts false x y h = cc
 
+-- a head that a deed tells is of a packet that it took
 head_by_taken : (source : Life) (n : ℕ) (d : Deed) (before : List Deed) (h : Head) → head_by source n d ≡ Some h → HeadTaken (d ∷ before) source n h
 unfolding head_by
 head_by_taken source n (Took from (Spelled (Rtm number tag opt form))) before h is =
@@ -127,6 +129,7 @@ pub record Opened (job : Job) (history : List Entry) (life' source : Life) (numb
   pub opt_is : opt ≡ known.sent.message.opt
   pub turned : TurnedAt (own_of job source) (Sends known.sent (Rtm number tag opt form)) k (life_deeds job history source)
 
+-- a packet that opens a message, by the send that it is of
 opened_by : (job : Job) (history : List Entry) (life' source : Life) (number : MsgNo) (tag : Option ℕ) (opt : Opt) (form : Form) (k : ℕ)
     → SentIt (own_of job source) (life_deeds job history source) life' (Spelled (Rtm number tag opt form)) k
     → Opened job history life' source number tag opt form k
@@ -151,6 +154,7 @@ opened_by job history life' source number tag opt form k s =
       turned = turned;
     }
 
+-- a packet that opens a message and went to a life is of a send
 pub opened : (job : Job) (history : List Entry) (life' source : Life) (number : MsgNo) (tag : Option ℕ) (opt : Opt) (form : Form) (d : Datagram)
     (t : TakenTurn job history life' source (Spelled (Rtm number tag opt form)) d) → Opened job history life' source number tag opt form t.place
 opened job history life' source number tag opt form d t =
@@ -164,6 +168,7 @@ pub record KnownHead (job : Job) (history : List Entry) (life' source : Life) (n
   pub known : Known job history life' source n
   pub head_is : h ≡ message_head job.limits known.sent.message known.sent.kind
 
+-- a message that was heard of was sent as it was heard of
 pub known_head : (job : Job) (history : List Entry) (life' source : Life) (n : ℕ) (h : Head) → Played job history
     → heard_head (life_deeds job history life') source n ≡ Some h → KnownHead job history life' source n h
 known_head job history life' source n h played is =

@@ -42,6 +42,7 @@ back_account : (job : Job) (port : ℕ) (before : List Entry)
 unfolding sent_scene own_scene scene
 back_account job port before = refl
 
+-- what was sent agrees with what was taken
 agree_sent_own : (job : Job) (port : ℕ) (before : List Entry) → Played job before
     → AgreesIn (sent_scene job port before) (own_scene job port (port_deeds job port before)).ms
 agree_sent_own job port before played =
@@ -50,6 +51,7 @@ agree_sent_own job port before played =
     let a = agree_now job port before played (sends_are job before played) in
     subst (λ (x : Scene). AgreesIn x s.ms) (sym (sent_account job port before)) (agree_back s.own.limits.first s.ms ns s.log a)
 
+-- the class by lives is the class by the whole table
 class_back : (job : Job) (before : List Entry) (e : Entry) (d : Datagram) (answer : Handled) → AllFree job → Played job before → Comes before e (Handle d answer)
     → lives_class (sent_scene job e.port.0 before) d ≡ class_of (own_scene job e.port.0 (port_deeds job e.port.0 before)) d
 class_back job before e d answer free played c =
@@ -57,6 +59,7 @@ class_back job before e d answer free played c =
     let ns = sent_to job before (life_at e.port.0 (open_life (port_deeds job e.port.0 before))) in
     ap (λ (x : Scene). lives_class x d) (sent_account job e.port.0 before) ∙ sym (lives_class_same s ns d) ∙ sym (class_lives job before e d answer free played c)
 
+-- an entry that fits by what was sent fits by what its port took
 fits_own : (job : Job) (before : List Entry) (e : Entry) → AllFree job → Played job before → Comes before e e.act
     → Fits job lives_class (sent_scene job e.port.0 before) (log_of e.port.0 before) e
     → Fits job class_of (own_scene job e.port.0 (port_deeds job e.port.0 before)) (log_of e.port.0 before) e
@@ -68,6 +71,7 @@ fits_own job before e free played comes fits =
     (fits_same job lives_class class_of (sent_scene job e.port.0 before) s.ms (log_of e.port.0 before) e (agree_sent_own job e.port.0 before played)
     (λ d answer is. class_back job before e d answer free played (subst C is comes) ∙ ap (λ (x : Scene). class_of x d) (sym back)) fits)
 
+-- a port's log with its newest entry is right by itself
 local_entry : (job : Job) (before : List Entry) (e : Entry) (port : ℕ) → Local job port (log_of port before)
     → Fits job class_of (own_scene job e.port.0 (port_deeds job e.port.0 before)) (log_of e.port.0 before) e → e.port.0 ≡ port → Local job port (e ∷ log_of port before)
 unfolding port_deeds

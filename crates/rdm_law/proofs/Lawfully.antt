@@ -47,10 +47,12 @@ pub sent_account : (job : Job) (port : ℕ) (before : List Entry)
 unfolding sent_scene own_scene scene
 sent_account job port before = refl
 
+-- accounts agree where nothing was done
 agree_none : (first : ℕ) (ms ns : Messages) → Agree first ms ns []
 unfolding heard_head is_filled matching is_pair
 agree_none first ms ns = record { heads = λ source n h is. absurd (cc); bytes = λ p is. absurd (cc) }
 
+-- the accounts of an open life agree
 agree_life : (job : Job) (port : ℕ) (before : List Entry) (c : Connid) → Played job before → SendsAre job before
     → Agree (own_of job (life_of port c)).limits.first (heard_by job.limits.first (of_life c (port_deeds job port before))) (sent_to job before (life_of port c))
     (of_life c (port_deeds job port before))
@@ -65,6 +67,7 @@ unfolding of_open_life life_at
 agree_at job port before None played are = agree_none _ _ _
 agree_at job port before (Some c) played are = agree_life job port before c played are
 
+-- the accounts of a port agree at each time
 pub agree_now : (job : Job) (port : ℕ) (before : List Entry) → Played job before → SendsAre job before
     → AgreesIn (own_scene job port (port_deeds job port before)) (sent_to job before (life_at port (open_life (port_deeds job port before))))
 unfolding own_scene scene
@@ -82,6 +85,7 @@ scene_by job port before now =
       ms = sent_to job before (life_at port now);
     }
 
+-- the scene of a port by what was sent, by its open life
 scene_is_by : (job : Job) (port : ℕ) (before : List Entry) → sent_scene job port before ≡ scene_by job port before (open_life (port_deeds job port before))
 unfolding sent_scene scene
 scene_is_by job port before = refl
@@ -99,6 +103,7 @@ closed_takes job port before e source item none does is =
     let f : is_connid None r.2 ≡ true = subst (λ o. is_connid o r.2 ≡ true) none t in
     cc
 
+-- what an open life takes carries what was sent
 carries_life : (job : Job) (before : List Entry) (e : Entry) (c : Connid) → Played job before → SendsAre job before → Comes before e e.act
     → open_life (port_deeds job e.port.0 before) ≡ Some c
     → Does job class_of (own_scene job e.port.0 (port_deeds job e.port.0 before)) (log_of e.port.0 before) e e.act
@@ -111,6 +116,7 @@ carries_life job before e c played are comes now does =
     subst (λ x. Does job class_of x (log_of e.port.0 before) e e.act) (opened_scene job e.port.0 c port_log now) does in
     carries_open job before e c played are comes now does (life_step job e.port.0 c (port_count job) port_log (of_life c port_log) (log_of e.port.0 before) e e.act refl does')
 
+-- what a port takes carries what was sent, whichever life is open
 carries_at : (job : Job) (before : List Entry) (e : Entry) (now : Option Connid) → Played job before → SendsAre job before → Comes before e e.act
     → open_life (port_deeds job e.port.0 before) ≡ now
     → Does job class_of (own_scene job e.port.0 (port_deeds job e.port.0 before)) (log_of e.port.0 before) e e.act
@@ -122,6 +128,7 @@ carries_at job before e None played are comes now does source n x is =
     absurd (closed_takes job e.port.0 before e source p.0 now does p.1)
 carries_at job before e (Some c) played are comes now does source n x is = carries_life job before e c played are comes now does source n x is
 
+-- what a port takes carries what was sent
 carries_scene : (job : Job) (before : List Entry) (e : Entry) → Played job before → SendsAre job before → Comes before e e.act
     → Does job class_of (own_scene job e.port.0 (port_deeds job e.port.0 before)) (log_of e.port.0 before) e e.act
     → Carries (sent_scene job e.port.0 before) (deed_of (rank_of job e.port.0).ops e.act)
@@ -129,6 +136,7 @@ carries_scene job before e played are comes does =
     subst (λ s. Carries s (deed_of (rank_of job e.port.0).ops e.act)) (sym (scene_is_by job e.port.0 before))
     (carries_at job before e (open_life (port_deeds job e.port.0 before)) played are comes refl does)
 
+-- an entry that fits by what its port took fits by what was sent
 fits_sent : (job : Job) (before : List Entry) (e : Entry) → AllFree job → Played job before → SendsAre job before → Comes before e e.act
     → Fits job class_of (own_scene job e.port.0 (port_deeds job e.port.0 before)) (log_of e.port.0 before) e
     → Fits job lives_class (sent_scene job e.port.0 before) (log_of e.port.0 before) e
@@ -140,6 +148,7 @@ fits_sent job before e free played are comes fits =
     (fits_same job class_of lives_class s ns (log_of e.port.0 before) e (agree_now job e.port.0 before played are)
     (λ d answer is. class_lives job before e d answer free played (subst C is comes) ∙ lives_class_same s ns d) fits)
 
+-- the newest entry fits by what its port took
 own_entry : (job : Job) (e : Entry) (before : List Entry) → Local job e.port.0 (log_of e.port.0 (e ∷ before))
     → Fits job class_of (own_scene job e.port.0 (port_deeds job e.port.0 before)) (log_of e.port.0 before) e
 unfolding port_deeds
@@ -148,6 +157,7 @@ own_entry job e before l =
     let mine : Local job e.port.0 (e ∷ log_of e.port.0 before) = subst P (log_of-same e.port.0 e before refl) l in
     mine.2
 
+-- each entry is lawful
 law_from : (job : Job) (history : List Entry) → AllFree job → IsInOrder history → Played job history → Lawful job history
 law_from job [] free order played = tt
 law_from job (e ∷ before) free order played =

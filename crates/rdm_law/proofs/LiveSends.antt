@@ -21,6 +21,7 @@ pub live_parts : (own : Own) (ms : Messages) (log : List Deed) (s : Sent) → Me
 unfolding live_sends live_of
 live_parts own ms log s m = member-filter (λ (t : Sent). not (is_over log ((progress own ms log).packets t.number) t)) s (sends own ms log) m
 
+-- a send that is not over is live
 live_from : (own : Own) (ms : Messages) (log : List Deed) (s : Sent) → Member s (sends own ms log) → is_over log ((progress own ms log).packets s.number) s ≡ false
     → Member s (live_sends own ms log)
 unfolding live_sends live_of

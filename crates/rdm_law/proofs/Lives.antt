@@ -67,9 +67,11 @@ TurnedAt own t k (d ∷ before) =
 abbrev pub life_of : ℕ → Connid → Life
 life_of port connid = record { port = record { 0 = port }; connid = connid }
 
+-- identifiers of one number are one
 pub same_connid : (c d : Connid) → c.0 ≡ d.0 → c ≡ d
 same_connid c d h = ap (λ (n : ℕ). let x : Connid = record { 0 = n } in x) h
 
+-- ports of one number are one
 pub same_port : (p q : PortNo) → p.0 ≡ q.0 → p ≡ q
 same_port p q h = ap (λ (n : ℕ). let x : PortNo = record { 0 = n } in x) h
 
@@ -79,6 +81,7 @@ unfolding is_connid
 is_connid-true None c h = cc
 is_connid-true (Some d) c h = ap Some (same_connid d c (eqb-true d.0 c.0 h))
 
+-- the identifier that is open passes the test
 pub is_connid-from : (o : Option Connid) (c : Connid) → o ≡ Some c → is_connid o c ≡ true
 unfolding is_connid
 is_connid-from o c h = rw h (eq-eqb c.0 c.0 refl)
@@ -106,16 +109,19 @@ pub record GoesOut (own : Own) (log : List Deed) (to : Life) (item : Item) : Typ
   pub is : turn own (heard_by own.limits.first log) log ≡ Some turn'
   pub gives : turn_going (Some turn') ≡ Some (Goes to item)
 
+-- what goes out between lives is of a turn
 turn_goes : (o : Option Turn) (to : Life) (item : Item) → turn_going o ≡ Some (Goes to item) → (t : Turn) × (o ≡ Some t) × (turn_going (Some t) ≡ Some (Goes to item))
 unfolding turn_going
 turn_goes None to item h = cc
 turn_goes (Some t) to item h = (t, refl, h)
 
+-- what goes out between lives goes where no note does
 pub note_goes : (o : Option OwedNote) (others : Option Going) (to : Life) (item : Item) → note_going o others ≡ Some (Goes to item) → others ≡ Some (Goes to item)
 unfolding note_going
 note_goes None others to item h = h
 note_goes (Some note) others to item h = cc
 
+-- what goes out of an open life is of its next turn
 goes_out : (ports : ℕ) (own : Own) (port_log log : List Deed) (to : Life) (item : Item)
     → going (life_scene ports own port_log log) ≡ Some (Goes to item) → GoesOut own log to item
 unfolding going life_going
@@ -134,6 +140,7 @@ pub record IsPush (own : Own) (log : List Deed) (d : Datagram) (from to : Connid
   pub from_is : from ≡ own.life.connid
   pub bears : Bears item load
 
+-- a push of what goes between lives
 push_is_going : (ports : ℕ) (own : Own) (port_log log : List Deed) (d : Datagram) (from to : Connid) (load : Load) (g : Going)
     → d.body ≡ Between from to load → going (life_scene ports own port_log log) ≡ Some g → IsGoing (life_scene ports own port_log log) g d
     → IsPush own log d from to load
@@ -151,10 +158,12 @@ push_is_going ports own port_log log d from to load (Goes dest item) b is h =
       bears = (let B : Load → Type 0 = λ x. Bears item x in subst B (sym e) h.1.2);
     }
 
+-- a push between lives that is next is of the next turn of the open life
 pub push_is : (ports : ℕ) (own : Own) (port_log log : List Deed) (d : Datagram) (from to : Connid) (load : Load)
     → d.body ≡ Between from to load → IsNext (life_scene ports own port_log log) d → IsPush own log d from to load
 push_is ports own port_log log d from to load b n = push_is_going ports own port_log log d from to load n.0 b n.1 n.2
 
+-- an instruction that did is one that the life may do
 next_step : (ports : ℕ) (own : Own) (port_log log : List Deed) (o : Option Instr) (answer : Answer) (instr : Instr)
     → o ≡ Some instr → answer ≡ answer_of (life_scene ports own port_log log) instr → LifeStep own log (deed_by_next o answer)
 unfolding deed_by_next
@@ -163,6 +172,7 @@ next_step ports own port_log log (Some i) (DidAnswer what) instr is h =
     (ports, port_log, what, subst (λ x. answer_of (life_scene ports own port_log log) x ≡ DidAnswer what) e (sym h))
 next_step ports own port_log log _ answer instr is h = tt
 
+-- a push is of what is next
 push_step : (ports : ℕ) (own : Own) (port_log log : List Deed) (d : Datagram) (body : Body) → d.body ≡ body → IsNext (life_scene ports own port_log log) d
     → LifeStep own log (deed_by_push body)
 unfolding deed_by_push
@@ -171,6 +181,7 @@ push_step ports own port_log log d (Between from to load) b n =
     let p = push_is ports own port_log log d from to load b n in
     (p.out.turn', p.out.is)
 
+-- what is not false is true
 pub not-false : (b : Bool) → not b ≡ false → b ≡ true
 not-false true h = refl
 not-false false h = cc
@@ -193,6 +204,7 @@ pub item_to : (s : Scene) (from : Life) (to : Connid) (item : Item) → item_cla
 unfolding item_class
 item_to s from to item h = not-false (is_connid s.now to) (first_none (not (is_connid s.now to)) ToOther _ h).0
 
+-- a datagram that is taken has no class
 handle_step : (ports : ℕ) (own : Own) (port_log log : List Deed) (d : Datagram) (body : Body) (answer : Handled) → d.body ≡ body
     → answer ≡ handled_answer class_of (life_scene ports own port_log log) d → LifeStep own log (deed_by_handle d.src body answer)
 unfolding deed_by_handle handled_answer class_of body_class is_connid
@@ -205,6 +217,7 @@ handle_step ports own port_log log d (Between from to load) (TookAnswer entered)
 handle_step ports own port_log log d (Note note) (TookAnswer entered) b h = tt
 handle_step ports own port_log log d _ _ b h = tt
 
+-- an entry that fits is one that the open life may make
 pub life_step : (job : Job) (port : ℕ) (connid : Connid) (ports : ℕ) (port_log log : List Deed) (before : List Entry) (e : Entry) (act : Act) → e.port.0 ≡ port
     → Does job class_of (life_scene ports (own_of job (life_of port connid)) port_log log) before e act
     → LifeStep (own_of job (life_of port connid)) log (deed_of (rank_of job port).ops act)

@@ -6,10 +6,12 @@ use Rattle.rdm_model.specs.declared.entry.Entry.{Entry}
 use Rattle.rdm_model.specs.Deeds.{log_of}
 use Rattle.rdm_model.specs.Local.{Local}
 
+-- an entry of the port is in the port's log
 pub log_of-same : (port : ℕ) (e : Entry) (before : List Entry) → e.port.0 ≡ port → log_of port (e ∷ before) ≡ e ∷ log_of port before
 unfolding log_of
 log_of-same port e before h = rw (eq-eqb e.port.0 port h) refl
 
+-- an entry of another port is not
 pub log_of-other : (port : ℕ) (e : Entry) (before : List Entry) → (e.port.0 ≡ port → ⊥) → log_of port (e ∷ before) ≡ log_of port before
 unfolding log_of
 log_of-other port e before h = rw (ne_eqb e.port.0 port h) refl

@@ -14,6 +14,7 @@ use Rattle.rdm_law.specs.Headline.{Share, MatchedOnce}
 use Rattle.rdm_law.proofs.Numbered.{LacksPair, PairsApart, matching_numbered}
 use Rattle.rdm_law.proofs.Distinct.{matching_distinct}
 
+-- pairs that lack a receive have it at no place
 lacks_at : (n k : ℕ) (ps : List Pair) (p : Pair) → LacksPair n ps → slice_get ps k ≡ Some p → p.recv.id.0 ≡ n → ⊥
 lacks_at n k [] p l h e = cc
 lacks_at n zero (q ∷ ps) p l h e = let s : q ≡ p = cc in l.0 (ap (λ (x : Pair). x.recv.id.0) s ∙ e)

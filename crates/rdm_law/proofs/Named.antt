@@ -50,10 +50,12 @@ pub record PairKnown (job : Job) (history : List Entry) (life' : Life) (p : Pair
   pub known : Known job history life' p.message.life p.message.no.0
   pub head_is : (account job history life').head p.message.life p.message.no.0 ≡ message_head job.limits known.sent.message known.sent.kind
 
+-- the head of a message that was heard of, by what was taken
 account_head : (first : ℕ) (log : List Deed) (source : Life) (n : ℕ) (h : Head) → heard_head log source n ≡ Some h → (heard_by first log).head source n ≡ h
 unfolding heard_by
 account_head first log source n h is = heads_by_heard log source n h is
 
+-- the message of a pair was sent
 pub pair_known : (job : Job) (history : List Entry) (life' : Life) (p : Pair) → Played job history → Member p (pairs_of job history life') → PairKnown job history life' p
 pair_known job history life' p played m =
     let log = life_deeds job history life' in
@@ -70,6 +72,7 @@ IsOfSend (Cts send recv size connid) = ⊥
 IsOfSend (Eor send recv connid) = ⊥
 IsOfSend (Handshake words connid) = ⊥
 
+-- what is pushed of a send opens its message or is granted
 pub of_send : (own : Own) (s : Sent) (p : Packet) (k : ℕ) (log : List Deed) → TurnedAt own (Sends s p) k log → IsOfSend p
 of_send own s p k log h =
     let P : Packet → Type 0 = λ x. IsOfSend x in
@@ -96,6 +99,7 @@ pub went_ask : (job : Job) (history : List Entry) (life' from : Life) (a : ReadA
     → RepliedIt (own_of job from) (life_deeds job history from) life' (Asks a) t.place
 went_ask job history life' from a d t = elim (went job history life' from (Asks a) d t) [ inl s ↦ (let is = s.is in cc) | inr r ↦ r ]
 
+-- so is what is given
 pub went_given : (job : Job) (history : List Entry) (life' from : Life) (g : ReadData) (d : Datagram) (t : TakenTurn job history life' from (Gives g) d)
     → RepliedIt (own_of job from) (life_deeds job history from) life' (Gives g) t.place
 went_given job history life' from g d t = elim (went job history life' from (Gives g) d t) [ inl s ↦ (let is = s.is in cc) | inr r ↦ r ]
@@ -125,6 +129,7 @@ pub head_shape : (limits : EpLimits) (m : Message) (kind : Kind) → (message_he
 unfolding message_head
 head_shape limits m kind = refl
 
+-- the length that a head tells
 pub head_length : (limits : EpLimits) (m : Message) (kind : Kind) → (message_head limits m kind).length ≡ length m.bytes
 unfolding message_head
 head_length limits m kind = refl
@@ -147,6 +152,7 @@ pub record AskOf (m : Message) (kind : Kind) (a : ReadAsk) : Type 0 where
   pub has_byte : 0 < a.length
   pub listed : is_in_iov a 0 m.iov ≡ true
 
+-- an ask of a message, by the kind of its send
 pub ask_of : (limits : EpLimits) (m : Message) (kind : Kind) (recv : OpId) (a : ReadAsk) → Member a (asks_for (shape_by limits m kind) recv) → AskOf m kind a
 unfolding shape_by asks_for read_from is_read
 ask_of limits m Eager recv a h = elim h [ ]

@@ -51,22 +51,27 @@ pub record PieceOf (job : Job) (history : List Entry) (life' from : Life) (n : �
   pub part : Part x known.sent.message.bytes
   pub how : SentPiece job history from known.sent x k ⊎ GivenPiece job history life' from known.sent x k
 
+-- a message that was sent, by its number
 abbrev known_at : (job : Job) (history : List Entry) (life' from : Life) (m n : ℕ) → m ≡ n → Known job history life' from m → Known job history life' from n
 known_at job history life' from m n e k = record { sent = k.sent; member = k.member; to_is = k.to_is; number_is = k.number_is ∙ e }
 
+-- bytes in a packet of a send are a part of its message
 sent_piece : (job : Job) (history : List Entry) (life' from : Life) (n : ℕ) (known : Known job history life' from n) (p : Packet) (x : Piece) (k : ℕ)
     → TurnedAt (own_of job from) (Sends known.sent p) k (life_deeds job history from) → packet_piece p ≡ Some x → PieceOf job history life' from n x k
 sent_piece job history life' from n known p x k t h =
     record { known = known; part = turn_part (own_of job from) known.sent p x k (life_deeds job history from) t h; how = inl (p, t, h) }
 
+-- a value that a test gives, or none
 cond_none : {A : Type 0} (t : Bool) (o : Option A) (x : A) → cond t o None ≡ Some x → (t ≡ true) × (o ≡ Some x)
 cond_none true o x h = (refl, h)
 cond_none false o x h = cc
 
+-- the bytes of a packet that opens a message
 rtm_piece : (number : MsgNo) (tag : Option ℕ) (opt : Opt) (form : Form) → packet_piece (Rtm number tag opt form) ≡ piece_of form
 unfolding packet_piece
 rtm_piece number tag opt form = refl
 
+-- the bytes of a packet of granted bytes
 data_piece : (recv : OpId) (offset : ℕ) (connid : Connid) (bytes : List ℕ) → packet_piece (CtsData recv offset connid bytes) ≡ Some (record { offset = offset; bytes = bytes })
 unfolding packet_piece
 data_piece recv offset connid bytes = refl

@@ -40,6 +40,7 @@ pub record TookEnd (ms : Messages) (es : List RecvEnd) (from : Life) (tag cq_dat
   pub bytes_are : take capacity (ms.bytes pair.message.life pair.message.no.0) ≡ bytes
   pub excess_is : (ms.head pair.message.life pair.message.no.0).length - capacity ≡ excess
 
+-- a receive that took a message ended with it
 outcome_took : (ms : Messages) (e : RecvEnd) (r : Receive) (from : Life) (tag cq_data : Option ℕ) (bytes : List ℕ) (excess : ℕ) → outcome ms e r ≡ Took from tag cq_data bytes excess
     → TookEnd ms (e ∷ []) from tag cq_data bytes excess
 unfolding outcome took_outcome kept_bytes
@@ -48,6 +49,7 @@ outcome_took ms (Filled p) r from tag cq_data bytes excess h =
 outcome_took ms (Withdrawn n) r from tag cq_data bytes excess h = cc
 outcome_took ms (Gone n) r from tag cq_data bytes excess h = cc
 
+-- an end is one of more ends
 took_more : (ms : Messages) (es fs : List RecvEnd) (from : Life) (tag cq_data : Option ℕ) (bytes : List ℕ) (excess : ℕ) → ((p : Pair) → Member (Filled p) es → Member (Filled p) fs)
     → TookEnd ms es from tag cq_data bytes excess → TookEnd ms fs from tag cq_data bytes excess
 took_more ms es fs from tag cq_data bytes excess more t =
@@ -62,6 +64,7 @@ took_more ms es fs from tag cq_data bytes excess more t =
       excess_is = t.excess_is;
     }
 
+-- the completion of one end
 one_took : (ms : Messages) (rs : List Receive) (e : RecvEnd) (recv : RecvNo) (from : Life) (tag cq_data : Option ℕ) (bytes : List ℕ) (excess : ℕ)
     → Member (Recv recv (Took from tag cq_data bytes excess)) (recv_completion ms rs e) → TookEnd ms (e ∷ []) from tag cq_data bytes excess
 unfolding recv_completion
@@ -70,6 +73,7 @@ one_took ms rs e recv from tag cq_data bytes excess m =
     let o : outcome ms e r.0 ≡ Took from tag cq_data bytes excess = (let x = r.2 in cc) in
     outcome_took ms e r.0 from tag cq_data bytes excess o
 
+-- the completions of ends in order
 some_took : (ms : Messages) (rs : List Receive) (es : List RecvEnd) (recv : RecvNo) (from : Life) (tag cq_data : Option ℕ) (bytes : List ℕ) (excess : ℕ)
     → Member (Recv recv (Took from tag cq_data bytes excess)) (recv_completions ms rs es) → TookEnd ms es from tag cq_data bytes excess
 unfolding recv_completions
@@ -81,6 +85,7 @@ some_took ms rs (e ∷ es) recv from tag cq_data bytes excess m =
       | inr k ↦ took_more ms es (e ∷ es) from tag cq_data bytes excess (λ p n. inr n) (some_took ms rs es recv from tag cq_data bytes excess k)
     ]
 
+-- the completion of a send is of no receive
 send_no_recv : (log : List Deed) (ss : List Sent) (recv : RecvNo) (o : Outcome) → Member (Recv recv o) (map (send_completion log) ss) → ⊥
 unfolding send_completion
 send_no_recv log ss recv o m = let r = member-map (send_completion log) (Recv recv o) ss m in let e = r.2 in cc

@@ -45,12 +45,14 @@ use Rattle.rdm_law.proofs.ClassLives.{AllFree}
 use Rattle.rdm_law.proofs.LawfulPlayed.{lawful_played}
 use Rattle.rdm_law.proofs.PolledSent.{TookEnd, completed_took}
 
+-- a receive that is taken back is not filled
 withdrawn_no_pair : (d : Deed) (p : Pair) → Member (Filled p) (withdrawn_by d) → ⊥
 unfolding withdrawn_by
 withdrawn_no_pair (Did (Cancel recv)) p (inl is) = cc
 withdrawn_no_pair (Did (Cancel recv)) p (inr never) = elim never [ ]
 withdrawn_no_pair _ p m = elim m [ ]
 
+-- a receive that is gone is not filled
 gone_no_pair : (first : ℕ) (heads : Heads) (before : List Deed) (ends : List RecvEnd) (life' : Life) (p : Pair) → Member (Filled p) (gone_with first heads before ends life') → ⊥
 unfolding gone_with
 gone_no_pair first heads before ends life' p m =
@@ -59,6 +61,7 @@ gone_no_pair first heads before ends life' p m =
     let e = r.2 in
     cc
 
+-- a receive that a deed fills is in a pair
 filled_pair : (first : ℕ) (heads : Heads) (d : Deed) (before : List Deed) (p : Pair) → Member (Filled p) (map Filled (filled_by first heads d before)) → Member p (pairs first heads (d ∷ before))
 unfolding filled_by
 filled_pair first heads d before p m =
@@ -93,6 +96,7 @@ sent_still job e before life' s m =
     let more = sent_by (own_of job life') (sent_to job before life') (life_deeds job before life') (sends_in job before life') (deed_for job e before life') in
     subst (λ (xs : List Sent). Member s xs) (sym (sends_in_newest job e before life')) (member-append_left s (sends_in job before life') more m)
 
+-- what was sent before stays so
 took_still : (job : Job) (e : Entry) (before : List Entry) (port : ℕ) (from : Life) (tag cq_data : Option ℕ) (bytes : List ℕ) (excess : ℕ)
     → TookOf job before port from tag cq_data bytes excess → TookOf job (e ∷ before) port from tag cq_data bytes excess
 took_still job e before port from tag cq_data bytes excess t =
@@ -107,6 +111,7 @@ took_still job e before port from tag cq_data bytes excess t =
       excess_is = t.excess_is;
     }
 
+-- the parts of a head
 head_parts : (limits : EpLimits) (m : Message) (kind : Kind)
     → ((message_head limits m kind).tag ≡ m.tag) × ((message_head limits m kind).cq_data ≡ m.opt.cq_data) × ((message_head limits m kind).length ≡ length m.bytes)
 unfolding message_head
@@ -141,6 +146,7 @@ life_took job history life' from tag cq_data bytes excess played t =
       excess_is = sym t.excess_is ∙ ap (λ (n : ℕ). n - t.capacity) (ap (λ (h : Head). h.length) placed.0 ∙ parts.2);
     }
 
+-- a completion of the open life, if there is one
 poll_at : (job : Job) (before : List Entry) (port : ℕ) (now : Option Connid) (recv : RecvNo) (from : Life) (tag cq_data : Option ℕ) (bytes : List ℕ) (excess : ℕ) → Played job before
     → Member (Recv recv (Took from tag cq_data bytes excess)) (completions (own_of job (life_at port now)) (sent_to job before (life_at port now)) (of_open_life now (port_deeds job port before)))
     → TookOf job before port from tag cq_data bytes excess
@@ -151,6 +157,7 @@ poll_at job before port (Some c) recv from tag cq_data bytes excess played m =
     life_took job before life' from tag cq_data bytes excess played
     (completed_took (own_of job life') (sent_to job before life') (life_deeds job before life') recv from tag cq_data bytes excess m)
 
+-- the completions of a port, by its open life
 scene_completions : (job : Job) (port : ℕ) (before : List Entry) → completions (sent_scene job port before).own (sent_scene job port before).ms (sent_scene job port before).log
     ≡ completions (own_of job (life_at port (open_life (port_deeds job port before)))) (sent_to job before (life_at port (open_life (port_deeds job port before))))
     (of_open_life (open_life (port_deeds job port before)) (port_deeds job port before))

@@ -69,10 +69,12 @@ pub record PushedTurn (job : Job) (port : ℕ) (from : Connid) (to : Life) (load
   pub gives : turn_going (Some turn') ≡ Some (Goes to item)
   pub bears : Bears item load
 
+-- the newest deed pushes the turn that was next
 turned_newest : (own : Own) (t : Turn) (k : ℕ) (log : List Deed) (d : Deed) → d ≡ Pushed → turn own (heard_by own.limits.first log) log ≡ Some t → k ≡ length log
     → TurnedAt own t k (d ∷ log)
 turned_newest own t k log d p h e = inl (p, h, e)
 
+-- what was pushed stays so
 pushed_longer : (job : Job) (port : ℕ) (from : Connid) (to : Life) (load : Load) (d : Datagram) (e : Entry) (before : List Entry)
     → PushedTurn job port from to load d before → PushedTurn job port from to load d (e ∷ before)
 unfolding deeds_at deeds
@@ -88,6 +90,7 @@ pushed_longer job port from to load d e before p =
       bears = p.bears;
     }
 
+-- only an open life sends
 now_goes : (s : Scene) (now : Option Connid) (to : Life) (item : Item) → life_going now s ≡ Some (Goes to item) → (c : Connid) × (now ≡ Some c)
 unfolding life_going
 now_goes s None to item h = cc
@@ -99,6 +102,7 @@ unfolding going
 open_goes s to item h =
     now_goes s s.now to item (note_goes (next_note s.ports s.own.life.port.0 s.port_log) (life_going s.now s) to item h)
 
+-- what goes between lives goes from an open life
 open_going : (s : Scene) (d : Datagram) (from to : Connid) (load : Load) (g : Going) → d.body ≡ Between from to load → going s ≡ Some g → IsGoing s g d
     → (c : Connid) × (s.now ≡ Some c)
 open_going s d from to load (GoesNote note) b is h = let x = h.1 in cc
@@ -108,13 +112,16 @@ open_going s d from to load (Goes dest item) b is h = open_goes s dest item is
 pub open_push : (s : Scene) (d : Datagram) (from to : Connid) (load : Load) → d.body ≡ Between from to load → IsNext s d → (c : Connid) × (s.now ≡ Some c)
 open_push s d from to load b n = open_going s d from to load n.0 b n.1 n.2
 
+-- the life that is open in a scene is open in its log
 own_now : (job : Job) (port : ℕ) (log : List Deed) (c : Connid) → (own_scene job port log).now ≡ Some c → open_life log ≡ Some c
 unfolding own_scene scene
 own_now job port log c h = h
 
+-- a life has its port and its identifier
 same_life_parts : (l : Life) (p : PortNo) (c : Connid) → p ≡ l.port → c ≡ l.connid → ◌≡◌ {A = Life} l (record { port = p; connid = c })
 same_life_parts l p c h k = rw (h, k) refl
 
+-- a push of an open life is its turn, at the count of its deeds
 pushed_by : (job : Job) (port : ℕ) (c from to : Connid) (load : Load) (d : Datagram) (e : Entry) (before : List Entry) → e.port.0 ≡ port → e.act ≡ Push d
     → d.body ≡ Between from to load → open_life (deeds_at job port before) ≡ Some c
     → IsNext (life_scene (port_count job) (own_of job (life_of port c)) (deeds_at job port before) (of_life c (deeds_at job port before))) d

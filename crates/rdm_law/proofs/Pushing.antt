@@ -73,11 +73,11 @@ not_covered own ms log s n m less =
     (elim (covers ps n) as (λ b. covers ps n ≡ b → b ≡ false) [
       | false ↦ λ h. refl
       | true ↦ λ h. absurd (
-        let b = some_of (byte_at ps allowed) (each_below_at (λ place. is_some (byte_at ps place)) n allowed h less) in
-        let q = byte_of_piece ps allowed b.0 b.1 in
-        let e = byte_ends q.0 allowed b.0 q.2 in
-        let w = pushed_ends own ms log s q.0 m q.1 in
-        omega arith)
+          let b = some_of (byte_at ps allowed) (each_below_at (λ place. is_some (byte_at ps place)) n allowed h less) in
+          let q = byte_of_piece ps allowed b.0 b.1 in
+          let e = byte_ends q.0 allowed b.0 q.2 in
+          let w = pushed_ends own ms log s q.0 m q.1 in
+          omega arith)
     ]) refl
 
 not_pushed : (s : Sent) (ps : List Packet) → covers (pieces_in ps) (length s.message.bytes) ≡ false → is_pushed s ps ≡ false

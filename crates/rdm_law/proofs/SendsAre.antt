@@ -19,6 +19,7 @@ use Rattle.rdm_law.proofs.Lives.{at_of_life, is_connid-from}
 use Rattle.rdm_law.proofs.Wired.{Played, played_before}
 use Rattle.rdm_law.proofs.Sent.{SendsAre, agree_sent}
 
+-- an entry of the port while the life is open is a deed of the life
 deed_mine : (job : Job) (e : Entry) (before : List Entry) (life' : Life) → e.port.0 ≡ life'.port.0 → open_life (port_deeds job life'.port.0 before) ≡ Some life'.connid
     → deed_for job e before life' ≡ deed_of (rank_of job life'.port.0).ops e.act
 unfolding deed_for
@@ -27,6 +28,7 @@ deed_mine job e before life' s o =
     (is_connid-from (open_life (port_deeds job life'.port.0 before)) life'.connid o) in
     rw t refl
 
+-- another entry is none
 deed_none : (job : Job) (e : Entry) (before : List Entry) (life' : Life)
     → ((e.port.0 == life'.port.0) && is_connid (open_life (port_deeds job life'.port.0 before)) life'.connid) ≡ false → deed_for job e before life' ≡ Nothing
 unfolding deed_for
@@ -52,6 +54,7 @@ at_life_deeds P job life' e before same other =
           (other (deed_none job e before life' (and_left (nat_eq e.port.0 port) _ (ne_eqb e.port.0 port s))))
     ]
 
+-- a deed of the life makes the same send by both accounts
 sends_newest : (job : Job) (own : Own) (log : List Deed) (d : Deed) (ns : Messages) (sents : List Sent)
     → Agree own.limits.first (heard_by own.limits.first log) ns log → sends own (heard_by own.limits.first log) log ≡ sents
     → sends own (heard_by own.limits.first (d ∷ log)) (d ∷ log) ≡ with_sent own ns log d sents
@@ -64,15 +67,18 @@ sends_newest job own log d ns sents a are =
     sym (sent_by_same own (heard_by first log) (heard_by first (d ∷ log)) log sents d grows) ∙ sent_by_same own (heard_by first log) ns log sents d a in
     rw (s, b) refl
 
+-- nothing sends nothing
 sends_none : (own : Own) (ms : Messages) (log : List Deed) (sents : List Sent) → with_sent own ms log Nothing sents ≡ sents
 unfolding with_sent sent_by
 sends_none own ms log sents = append-nil sents
 
+-- what a life sent, with the newest entry
 pub sends_in_newest : (job : Job) (e : Entry) (before : List Entry) (life' : Life)
     → sends_in job (e ∷ before) life' ≡ with_sent (own_of job life') (sent_to job before life') (life_deeds job before life') (deed_for job e before life') (sends_in job before life')
 unfolding sends_in sent_to
 sends_in_newest job e before life' = refl
 
+-- the sends agree with a newer entry
 sends_step : (job : Job) (e : Entry) (before : List Entry) → Played job before → SendsAre job before → SendsAre job (e ∷ before)
 sends_step job e before played are life' =
     let own = own_of job life' in
@@ -84,6 +90,7 @@ sends_step job e before played are life' =
     (λ deed. are life' ∙ sym (sends_none own ns log (sends_in job before life')) ∙ ap (λ d. with_sent own ns log d (sends_in job before life')) (sym deed)
     ∙ sym (sends_in_newest job e before life'))
 
+-- what a life sent is the same by both accounts
 pub sends_are : (job : Job) (history : List Entry) → Played job history → SendsAre job history
 unfolding sends_in life_deeds port_deeds deeds_at deeds log_of of_life sends
 sends_are job [] played life' = refl

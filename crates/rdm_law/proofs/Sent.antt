@@ -71,12 +71,14 @@ known_placed job history life' from n are k =
     let le = subst (λ (m : ℕ). job.limits.first ≤ m) e p.0 in
     sent_placed job history from life' n k.sent le (subst (λ (ss : List Sent). slice_get (sends_to ss life') (n - job.limits.first) ≡ Some k.sent) (are from) at')
 
+-- heads that were heard are those of what was sent
 heads_agree_at : (job : Job) (history : List Entry) (life' : Life) → Played job history → SendsAre job history
     → HeadsAgree (heads_by (life_deeds job history life')) (sent_to job history life').head (life_deeds job history life')
 heads_agree_at job history life' played are source n h is =
     let k = known_head job history life' source n h played is in
     heads_by_heard (life_deeds job history life') source n h is ∙ k.head_is ∙ sym (known_placed job history life' source n are k.known).0
 
+-- a message put together from parts that came whole is the message
 bytes_are : (first : ℕ) (log : List Deed) (p : Pair) (whole : List ℕ) → is_filled first (heads_by log) log p ≡ true
     → (heads_by log p.message.life p.message.no.0).length ≡ length whole
     → ((q : Piece) → Member q (carried_pieces first (heads_by log) log p.message.life p.message.no.0) → Part q whole)
@@ -91,10 +93,12 @@ bytes_are first log p whole is size parts =
     let b = landed_byte first (heads_by log) log p k is lt in
     parts_byte ps whole k b.0 parts b.1 ∙ ap Some (ap (λ (o : Option ℕ). unwrap_or o 0) (sym b.1)))
 
+-- the heads of an account by what was taken
 account_heads : (job : Job) (history : List Entry) (life' : Life) → (account job history life').head ≡ heads_by (life_deeds job history life')
 unfolding heard_by
 account_heads job history life' = refl
 
+-- bytes of a message that fills a receive are those that were sent
 bytes_agree_at : (job : Job) (history : List Entry) (life' : Life) (p : Pair) → Played job history → SendsAre job history
     → is_filled (own_of job life').limits.first (heads_by (life_deeds job history life')) (life_deeds job history life') p ≡ true
     → bytes_by (own_of job life').limits.first (life_deeds job history life') p.message.life p.message.no.0 ≡ (sent_to job history life').bytes p.message.life p.message.no.0

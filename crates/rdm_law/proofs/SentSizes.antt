@@ -18,6 +18,7 @@ use Rattle.rdm_law.proofs.RegionsFit.{RangeFits, AllRangesFit}
 abbrev pub IsSized : Sent → Type 0
 IsSized s = iov_bytes s.message.iov ≡ length s.message.bytes
 
+-- a range within its region has its length
 range_length : (rs : List (List ℕ)) (region at len : ℕ) → at + len ≤ length (get_or rs region []) → length (range_of rs region at len) ≡ len
 unfolding range_of
 range_length rs region at len h =
@@ -25,11 +26,13 @@ range_length rs region at len h =
     let b = length-drop at (get_or rs region []) in
     omega arith
 
+-- a send of so many bytes has them in its read list
 made_sized : (own : Own) (before : List Deed) (count messages : ℕ) (req : SendReq) (to : Life) (bytes : List ℕ) → length bytes ≡ req.len
     → IsSized (new_sent own before count messages req to bytes)
 unfolding new_sent iov_bytes
 made_sized own before count messages req to bytes e = omega arith
 
+-- a new send does, whose range lies in its region
 new_sized : (own : Own) (ms : Messages) (d : Deed) (before : List Deed) (s : Sent) → AllRangesFit (d ∷ before) → NewSent own ms before (sends own ms before) d s → IsSized s
 new_sized own ms d before s fit n =
     let P : Deed → Type 0 = λ x. RangeFits before x in
@@ -40,6 +43,7 @@ new_sized own ms d before s fit n =
     (made_sized own before (length (sends own ms before)) (length (sends_to (sends own ms before) n.to)) n.req n.to (range_of rs n.req.region.0 n.req.at n.req.len)
     (range_length rs n.req.region.0 n.req.at n.req.len range))
 
+-- each send has as many bytes as its read list
 pub sent_sized : (own : Own) (ms : Messages) (log : List Deed) → AllRangesFit log → (s : Sent) → Member s (sends own ms log) → IsSized s
 unfolding sends
 sent_sized own ms [] fit s m = elim m [ ]

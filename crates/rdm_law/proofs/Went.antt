@@ -34,6 +34,7 @@ pub record RepliedIt (own : Own) (log : List Deed) (to : Life) (item : Item) (k 
   pub to_is : reply.to ≡ to
   pub is : reply.item ≡ item
 
+-- a turn gives a packet of a send or a reply
 by_turn : (own : Own) (log : List Deed) (to : Life) (item : Item) (k : ℕ) (t : Turn) → TurnedAt own t k log → turn_going (Some t) ≡ Some (Goes to item)
     → SentIt own log to item k ⊎ RepliedIt own log to item k
 unfolding turn_going

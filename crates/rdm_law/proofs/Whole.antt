@@ -9,11 +9,13 @@ use Rattle.rdm_num.specs.Pieces.{Piece, byte_in, byte_at}
 use Rattle.rdm_model.proofs.Members.{or_else_cases, last_or_less}
 use Rattle.rdm_model.proofs.Cuts.{Part}
 
+-- there are n numbers below n
 pub length-below : (n : ℕ) → length (below n) ≡ n
 unfolding below
 length-below zero = refl
 length-below (suc n) = length_push (below n) n ∙ add-one _ ∙ ap suc (length-below n)
 
+-- each number below n stands at its place
 get_or-below : (n k d : ℕ) → k < n → get_or (below n) k d ≡ k
 unfolding below
 get_or-below zero k d h = absurd (omega arith)
@@ -32,12 +34,14 @@ put_together f n xs e h =
     let c : k < n = (let q = length-below n in omega arith) in
     get_or-map f (below n) k k d b ∙ ap f (get_or-below n k k c) ∙ sym (get_or_from_slice_get xs k (f k) d (h k c)))
 
+-- an element of the front of a list
 slice_get-take : (n : ℕ) (xs : List ℕ) (k b : ℕ) → slice_get (take n xs) k ≡ Some b → slice_get xs k ≡ Some b
 slice_get-take zero xs k b h = cc
 slice_get-take (suc n) [] k b h = h
 slice_get-take (suc n) (x ∷ xs) zero b h = h
 slice_get-take (suc n) (x ∷ xs) (suc k) b h = slice_get-take n xs k b h
 
+-- an element of the rest of a list
 slice_get-drop : (n : ℕ) (xs : List ℕ) (k j b : ℕ) → j ≡ n + k → slice_get (drop n xs) k ≡ Some b → slice_get xs j ≡ Some b
 slice_get-drop zero xs k j b e h = let s : j ≡ k = omega arith in rw s h
 slice_get-drop (suc n) [] k j b e h = cc

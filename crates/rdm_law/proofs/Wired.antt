@@ -72,6 +72,7 @@ pub record TakenAs (from : Life) (to : Connid) (item : Item) (d : Datagram) : Ty
   pub body_is : d.body ≡ Between from.connid to load
   pub item_is : item_of load ≡ item
 
+-- a take is of a datagram between lives
 handle_took : (src : PortNo) (body : Body) (answer : Handled) (from : Life) (item : Item) → deed_by_handle src body answer ≡ Took from item
     → (entered : Option Entered) × (f to : Connid) × (load : Load) × (answer ≡ TookAnswer entered) × (body ≡ Between f to load) × (life src f ≡ from) × (item_of load ≡ item)
 unfolding deed_by_handle
@@ -79,11 +80,13 @@ handle_took src (Between f to load) (TookAnswer entered) from item h = (entered,
 handle_took src (Note note) (TookAnswer entered) from item h = cc
 handle_took src _ _ from item h = cc
 
+-- no instruction takes
 next_took : (o : Option Instr) (answer : Answer) (from : Life) (item : Item) → deed_by_next o answer ≡ Took from item → ⊥
 unfolding deed_by_next
 next_took (Some instr) (DidAnswer what) from item h = cc
 next_took _ _ from item h = cc
 
+-- no push takes
 push_took : (body : Body) (from : Life) (item : Item) → deed_by_push body ≡ Took from item → ⊥
 unfolding deed_by_push
 push_took (Note note) from item h = cc
@@ -119,16 +122,19 @@ took_to s d f to load entered h b =
     let item : item_class s (life d.src f) to (item_of load) ≡ None = subst (λ x. body_class s d x ≡ None) b none in
     item_to s (life d.src f) to (item_of load) item
 
+-- an identifier that is open is the one
 own_connid : (c to : Connid) → is_connid (Some c) to ≡ true → c ≡ to
 unfolding is_connid
 own_connid c to h = same_connid c to (eqb-true c.0 to.0 h)
 
+-- what is taken names the life that takes it
 taken_named : (job : Job) (port : ℕ) (c to : Connid) (from : Life) (item : Item) (d : Datagram) → TakenAs from to item d → is_connid (Some (own_of job (life_of port c)).life.connid) to ≡ true
     → TakenAs from c item d
 unfolding own_of
 taken_named job port c to from item d t is =
     record { load = t.load; src_is = t.src_is; body_is = t.body_is ∙ ap (λ x. Between from.connid x t.load) (sym (own_connid c to is)); item_is = t.item_is }
 
+-- what is taken while a life is open is for that life
 pub taken_to : (job : Job) (port : ℕ) (c to : Connid) (from : Life) (item : Item) (e : Entry) (before : List Entry) (d : Datagram) (entered : Option Entered)
     → open_life (deeds_at job port before) ≡ Some c → Does job class_of (own_scene job port (deeds_at job port before)) before e e.act
     → e.act ≡ Handle d (TookAnswer entered) → TakenAs from to item d → TakenAs from c item d
@@ -166,6 +172,7 @@ handled_by port d (e ∷ before) h =
     (λ s k. elim k [ inl a ↦ inl (a.0, a.1, s) | inr a ↦ inr (handled_by port d before a) ])
     (λ s k. inr (handled_by port d before k)) h
 
+-- what was pushed stays so as the history grows
 pushed_longer : (port : ℕ) (d : Datagram) (e : Entry) (before : List Entry) → PushedIn d (log_of port before) → PushedIn d (log_of port (e ∷ before))
 pushed_longer port d e before h = at_log_of (λ log. PushedIn d log) port e before (λ s. inr h) (λ s. h)
 
@@ -208,12 +215,15 @@ pub record TakenTurn (job : Job) (history : List Entry) (life' from : Life) (ite
   pub placed : PlacedAt job from.port.0 from.connid d place (log_of from.port.0 history)
   pub gives : turn_going (Some turn') ≡ Some (Goes life' item)
 
+-- lives of one port and identifier are one
 same_life_parts : (p q : PortNo) (c d : Connid) → p ≡ q → c ≡ d → ◌≡◌ {A = Life} (record { port = p; connid = c }) (record { port = q; connid = d })
 same_life_parts p q c d h k = rw (h, k) refl
 
+-- the life that a datagram is for
 same_life_at : (d : Datagram) (to : Connid) (life' : Life) → d.dst.0 ≡ life'.port.0 → to ≡ life'.connid → ◌≡◌ {A = Life} (record { port = d.dst; connid = to }) life'
 same_life_at d to life' h k = same_life_parts d.dst life'.port to life'.connid (same_port d.dst life'.port h) k
 
+-- what was pushed as a turn of a port is a turn of the life that the datagram names
 turn_taken : (job : Job) (history : List Entry) (life' from : Life) (item : Item) (d : Datagram) → TakenAs from life'.connid item d → d.dst.0 ≡ life'.port.0
     → (port : ℕ) → from.port.0 ≡ port → (load : Load) → item_of load ≡ item
     → PushedTurn job port from.connid (record { port = d.dst; connid = life'.connid }) load d (log_of port history)
@@ -243,6 +253,7 @@ pub record Taken (job : Job) (history : List Entry) (life' from : Life) (item : 
   pub handled : HandledBy life'.port.0 datagram history
   pub taken : TakenTurn job history life' from item datagram
 
+-- what a life took was pushed by the life that it names
 pub taken_pushed : (job : Job) (history : List Entry) (life' from : Life) (item : Item) → Played job history
     → Member (Took from item) (life_deeds job history life') → Taken job history life' from item
 unfolding life_deeds port_deeds

@@ -27,6 +27,7 @@ pub heads_by_heard : (log : List Deed) (source : Life) (n : ℕ) (h : Head) → 
 unfolding heads_by
 heads_by_heard log source n h is = rw is refl
 
+-- heads that were heard stay
 pub heads_grow : (d : Deed) (before : List Deed) → HeadsAgree (heads_by before) (heads_by (d ∷ before)) before
 heads_grow d before source n h is =
     heads_by_heard before source n h is ∙ sym (heads_by_heard (d ∷ before) source n h (heard_still d before source n h is))
@@ -57,6 +58,7 @@ pub carried_more : (first : ℕ) (heads : Heads) (d : Deed) (before : List Deed)
 unfolding carried_pieces
 carried_more first heads d before source n place b h = byte_at_more (carried_pieces first heads before source n) _ place b h
 
+-- a message that fills a receive was heard of
 pub filled_heard : (first : ℕ) (heads : Heads) (log : List Deed) (p : Pair) → is_filled first heads log p ≡ true
     → (h : Head) × (heard_head log p.message.life p.message.no.0 ≡ Some h)
 unfolding is_filled
@@ -64,6 +66,7 @@ filled_heard first heads log p is =
     is_pair_heard first heads log p.recv.id.0 p.message.life p.message.no.0
     (and_parts (is_pair (pairs first heads log) p.recv.id.0 p.message.life p.message.no.0) (has_landed first heads log p.message.life p.message.no.0) is).0
 
+-- a message that is put together stays so with a newer deed
 bytes_at : (first : ℕ) (hs ks : Heads) (d : Deed) (before : List Deed) (p : Pair) → HeadsAgree hs ks before → is_filled first hs before p ≡ true
     → map (λ place. unwrap_or (byte_at (carried_pieces first hs before p.message.life p.message.no.0) place) 0) (below (hs p.message.life p.message.no.0).length)
     ≡ map (λ place. unwrap_or (byte_at (carried_pieces first ks (d ∷ before) p.message.life p.message.no.0) place) 0) (below (ks p.message.life p.message.no.0).length)
@@ -81,6 +84,7 @@ bytes_at first hs ks d before p a is =
     ap (λ (o : Option ℕ). unwrap_or o 0) (b.1 ∙ sym now))
     ∙ ap (λ (x : Head). map (λ place. unwrap_or (byte_at (carried_pieces first ks (d ∷ before) source n) place) 0) (below x.length)) same
 
+-- bytes of a message that fills a receive stay
 bytes_grow : (first : ℕ) (d : Deed) (before : List Deed) (p : Pair) → is_filled first (heads_by before) before p ≡ true
     → bytes_by first before p.message.life p.message.no.0 ≡ bytes_by first (d ∷ before) p.message.life p.message.no.0
 unfolding bytes_by

@@ -18,11 +18,13 @@ use Rattle.rdm_model.specs.Steps.{Classing, Does, Fits}
 use Rattle.rdm_model.proofs.SameCompletions.{completions_same, early_count_same}
 use Rattle.rdm_model.proofs.SameAnswers.{by_account, AgreesIn, answer_same, going_same, body_needs_place_same}
 
+-- a datagram that is taken has the same answer
 taken_answer_same : (s : Scene) (ns : Messages) (d : Datagram) (body : Body) → taken_answer s d body ≡ taken_answer (by_account s ns) d body
 unfolding taken_answer
 taken_answer_same s ns d (Note note) = refl
 taken_answer_same s ns d (Between from to load) = refl
 
+-- so has one of a class
 class_answer_same : (s : Scene) (ns : Messages) (d : Datagram) (c : Option Class) → class_answer s d c ≡ class_answer (by_account s ns) d c
 unfolding class_answer
 class_answer_same s ns d None = taken_answer_same s ns d d.body
@@ -43,10 +45,12 @@ again_early_same f g s ns d a e =
     let c = early_count_same s.own s.ms.head ns.head s.log a.heads in
     rw (e, b, c) refl
 
+-- a datagram is what goes by both or by neither
 is_going_same : (s : Scene) (ns : Messages) (g : Going) (d : Datagram) → IsGoing s g d → IsGoing (by_account s ns) g d
 is_going_same s ns (GoesNote note) d h = h
 is_going_same s ns (Goes to item) d h = h
 
+-- a datagram that is next by one account is next by the other
 pub is_next_same : (s : Scene) (ns : Messages) (d : Datagram) → AgreesIn s ns → IsNext s d → IsNext (by_account s ns) d
 is_next_same s ns d a h = (h.0, sym (going_same s ns a) ∙ h.1, is_going_same s ns h.0 d h.2)
 
@@ -62,6 +66,7 @@ does_same job f g s ns before e (Handle d answer) a same h =
     (h.0 ∙ handled_same f g s ns d k, subst (λ b. IsFalse b) (again_early_same f g s ns d a k) h.1)
 does_same job f g s ns before e (Poll c) a same h = let k = completions_same s.own s.ms ns s.log a in rw k at h
 
+-- an entry that fits by one account fits by the other
 pub fits_same : (job : Job) (f g : Classing) (s : Scene) (ns : Messages) (before : List Entry) (e : Entry) → AgreesIn s ns
     → ((d : Datagram) (answer : Handled) → e.act ≡ Handle d answer → f s d ≡ g (by_account s ns) d)
     → Fits job f s before e → Fits job g (by_account s ns) before e

@@ -34,6 +34,7 @@ is_pair_heard first heads log recv source n h =
     subst (λ (m : ℕ). (x : Head) × (heard_head log source m ≡ Some x)) r.4
     (subst (λ (l : Life). (x : Head) × (heard_head log l r.0.message.no.0 ≡ Some x)) r.3 (pair_heard first heads log r.0 r.1))
 
+-- the same messages arrive, with the same tags
 arrivals_same : (first : ℕ) (hs ks : Heads) (d : Deed) (before : List Deed) (source : Life) → HeadsAgree hs ks (d ∷ before)
     → map (arrival hs source) (entering first d before source) ≡ map (arrival ks source) (entering first d before source)
 arrivals_same first hs ks d before source a =
@@ -50,6 +51,7 @@ events_same first hs ks before (Did (Insert life)) a = refl
 events_same first hs ks before (Took from item) a = arrivals_same first hs ks (Took from item) before from a
 events_same first hs ks before _ a = refl
 
+-- the matcher's lists are the same
 pub matching_same : (first : ℕ) (hs ks : Heads) (log : List Deed) → HeadsAgree hs ks log → matching first hs log ≡ matching first ks log
 unfolding matching
 matching_same first hs ks [] a = refl
@@ -58,9 +60,11 @@ matching_same first hs ks (d ∷ before) a =
     let newest = events_same first hs ks before d a in
     rw (earlier, newest)
 
+-- so are the pairs
 pub pairs_same : (first : ℕ) (hs ks : Heads) (log : List Deed) → HeadsAgree hs ks log → pairs first hs log ≡ pairs first ks log
 pairs_same first hs ks log a = ap (λ (m : Matching). m.pairs) (matching_same first hs ks log a)
 
+-- so is all that comes to the matcher
 pub merge_same : (first : ℕ) (hs ks : Heads) (log : List Deed) → HeadsAgree hs ks log → merge first hs log ≡ merge first ks log
 unfolding merge
 merge_same first hs ks [] a = refl
@@ -69,6 +73,7 @@ merge_same first hs ks (d ∷ before) a =
     let newest = events_same first hs ks before d a in
     rw (earlier, newest)
 
+-- the same bytes of each message came
 pub carried_pieces_same : (first : ℕ) (hs ks : Heads) (log : List Deed) (source : Life) (n : ℕ) → HeadsAgree hs ks log
     → carried_pieces first hs log source n ≡ carried_pieces first ks log source n
 unfolding carried_pieces

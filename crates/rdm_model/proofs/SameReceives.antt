@@ -28,6 +28,7 @@ pub and_where : (b x y : Bool) → (b ≡ true → x ≡ y) → (b && x) ≡ (b 
 and_where true x y h = h refl
 and_where false x y h = refl
 
+-- a receive is filled by both accounts or by neither
 pub is_filled_same : (first : ℕ) (hs ks : Heads) (log : List Deed) (p : Pair) → HeadsAgree hs ks log → is_filled first hs log p ≡ is_filled first ks log p
 unfolding is_filled
 is_filled_same first hs ks log p a =
@@ -38,6 +39,7 @@ is_filled_same first hs ks log p a =
     (λ is. let h = is_pair_heard first hs log p.recv.id.0 source n is in landed_same first hs ks log source n a (a source n h.0 h.1))
     ∙ ap (λ (x : Matching). is_pair x.pairs p.recv.id.0 source n && has_landed first ks log source n) m
 
+-- a deed fills the same receives
 pub filled_by_same : (first : ℕ) (hs ks : Heads) (d : Deed) (before : List Deed) → HeadsAgree hs ks (d ∷ before)
     → filled_by first hs d before ≡ filled_by first ks d before
 unfolding filled_by
@@ -48,11 +50,13 @@ filled_by_same first hs ks d before a =
     (λ p. let x = is_filled_same first hs ks (d ∷ before) p a in let y = is_filled_same first hs ks before p (heads_before hs ks d before a) in rw (x, y)) in
     f ∙ ap (λ (x : Matching). filter (λ p. is_filled first ks (d ∷ before) p && not (is_filled first ks before p)) x.pairs) m
 
+-- the same receives are gone with a life
 gone_with_same : (first : ℕ) (hs ks : Heads) (before : List Deed) (ends : List RecvEnd) (life : Life) → HeadsAgree hs ks before
     → gone_with first hs before ends life ≡ gone_with first ks before ends life
 unfolding gone_with
 gone_with_same first hs ks before ends life a = rw (pairs_same first hs ks before a)
 
+-- the same receives end by a deed
 pub recv_ends_by_same : (first : ℕ) (hs ks : Heads) (d : Deed) (before : List Deed) (ends : List RecvEnd) → HeadsAgree hs ks (d ∷ before)
     → recv_ends_by first hs d before ends ≡ recv_ends_by first ks d before ends
 unfolding recv_ends_by
@@ -62,6 +66,7 @@ recv_ends_by_same first hs ks d before ends a =
     (λ life m. gone_with_same first hs ks before ends life (heads_before hs ks d before a)) in
     rw (f, g)
 
+-- the same receives ended
 pub recv_ends_same : (first : ℕ) (hs ks : Heads) (log : List Deed) → HeadsAgree hs ks log → recv_ends first hs log ≡ recv_ends first ks log
 unfolding recv_ends with_recv_ends
 recv_ends_same first hs ks [] a = refl
@@ -70,6 +75,7 @@ recv_ends_same first hs ks (d ∷ before) a =
     let newest = recv_ends_by_same first hs ks d before (recv_ends first ks before) a in
     rw (earlier, newest)
 
+-- the same receives are live
 pub live_receives_same : (first : ℕ) (hs ks : Heads) (log : List Deed) → HeadsAgree hs ks log → live_receives first hs log ≡ live_receives first ks log
 unfolding live_receives
 live_receives_same first hs ks log a = rw (recv_ends_same first hs ks log a)
@@ -91,6 +97,7 @@ covers_more ps qs n h =
     each_below_more (λ place. is_some (byte_at ps place)) (λ place. is_some (byte_at (ps ++ qs) place)) n
     (λ place is. let r = some_of (byte_at ps place) is in is_some_from (byte_at (ps ++ qs) place) r.0 (byte_at_more ps qs place r.0 r.1)) h
 
+-- a message that has landed stays so
 landed_still : (first : ℕ) (heads : Heads) (d : Deed) (before : List Deed) (source : Life) (n : ℕ)
     → has_landed first heads before source n ≡ true → has_landed first heads (d ∷ before) source n ≡ true
 unfolding has_landed carried_pieces

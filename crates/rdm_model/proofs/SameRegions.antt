@@ -50,6 +50,7 @@ AgreeEnd ms ns (Filled p) =
 AgreeEnd ms ns (Withdrawn n) = Unit {0}
 AgreeEnd ms ns (Gone n) = Unit {0}
 
+-- the accounts agree on each message that fills a receive
 filled_end : (first : ℕ) (ms ns : Messages) (d : Deed) (before : List Deed) (e : RecvEnd) → Agree first ms ns (d ∷ before)
     → Member e (map Filled (filled_by first ms.head d before)) → AgreeEnd ms ns e
 unfolding filled_by
@@ -60,12 +61,14 @@ filled_end first ms ns d before e a m =
     let P : RecvEnd → Type 0 = λ x. AgreeEnd ms ns x in
     subst P r.2 (filled_head first ms.head ns.head (d ∷ before) r.0 a.heads is, a.bytes r.0 is)
 
+-- a receive that is taken back ends with no message
 withdrawn_end : (ms ns : Messages) (d : Deed) (e : RecvEnd) → Member e (withdrawn_by d) → AgreeEnd ms ns e
 unfolding withdrawn_by
 withdrawn_end ms ns (Did (Cancel recv)) e (inl is) = let P : RecvEnd → Type 0 = λ x. AgreeEnd ms ns x in subst P is tt
 withdrawn_end ms ns (Did (Cancel recv)) e (inr never) = elim never [ ]
 withdrawn_end ms ns _ e m = elim m [ ]
 
+-- a receive that is gone ends with no message
 gone_end : (first : ℕ) (heads : Heads) (before : List Deed) (ends : List RecvEnd) (ms ns : Messages) (life : Life) (e : RecvEnd)
     → Member e (gone_with first heads before ends life) → AgreeEnd ms ns e
 unfolding gone_with
@@ -88,6 +91,7 @@ ends_agree first ms ns d before ends e a m =
           gone_end first ms.head before ends ms ns r.0 e r.2
     ]
 
+-- an end writes the same
 after_end_same : (ms ns : Messages) (e : RecvEnd) (r : Option Receive) (rs : List (List ℕ)) → AgreeEnd ms ns e → after_end ms e r rs ≡ after_end ns e r rs
 unfolding after_end written_by kept_bytes
 after_end_same ms ns e None rs a = refl
@@ -95,6 +99,7 @@ after_end_same ms ns (Filled p) (Some r) rs a = let b = a.1 in rw b refl
 after_end_same ms ns (Withdrawn n) (Some r) rs a = refl
 after_end_same ms ns (Gone n) (Some r) rs a = refl
 
+-- so do ends in order
 after_ends_same : (ms ns : Messages) (rs : List Receive) (es : List RecvEnd) (regions' : List (List ℕ)) → ((e : RecvEnd) → Member e es → AgreeEnd ms ns e)
     → after_ends ms rs es regions' ≡ after_ends ns rs es regions'
 unfolding after_ends
@@ -103,6 +108,7 @@ after_ends_same ms ns rs (e ∷ es) regions' a =
     let newest = after_end_same ms ns e (receive_numbered rs (ended_recv e)) regions' (a e (inl refl)) in
     ap (λ r. after_ends ms rs es r) newest ∙ after_ends_same ms ns rs es _ (λ x m. a x (inr m))
 
+-- the regions have the same bytes
 pub regions_same : (first : ℕ) (ms ns : Messages) (log : List Deed) → Agree first ms ns log → regions first ms log ≡ regions first ns log
 unfolding regions
 regions_same first ms ns [] a = refl
@@ -114,12 +120,14 @@ regions_same first ms ns (d ∷ before) a =
     (λ e m. ends_agree first ms ns d before (recv_ends first ms.head before) e a m) in
     ap (λ rs. rs ++ region_by d) (written ∙ (rw (ends, newest, earlier) refl))
 
+-- a deed makes the same send
 pub sent_by_same : (own : Own) (ms ns : Messages) (before : List Deed) (sents : List Sent) (d : Deed) → Agree own.limits.first ms ns before
     → sent_by own ms before sents d ≡ sent_by own ns before sents d
 unfolding sent_by
 sent_by_same own ms ns before sents (Did (Send req)) a = rw (regions_same own.limits.first ms ns before a) refl
 sent_by_same own ms ns before sents _ a = refl
 
+-- the same was sent
 pub sends_same : (own : Own) (ms ns : Messages) (log : List Deed) → Agree own.limits.first ms ns log → sends own ms log ≡ sends own ns log
 unfolding sends with_sent
 sends_same own ms ns [] a = refl

@@ -23,6 +23,7 @@ pub cond_where : {A : Type 0} (b : Bool) (x y z : A) → (b ≡ true → x ≡ y
 cond_where true x y z h = h refl
 cond_where false x y z h = refl
 
+-- the next window of a message is the same
 pub window_same : (limits : EpLimits) (hs ks : Heads) (log : List Deed) (p : Pair) (granted : ℕ) → HeadsAgree hs ks log
     → window limits hs log p granted ≡ window limits ks log p granted
 unfolding window
@@ -40,6 +41,7 @@ window_same limits hs ks log p granted a =
     rw e refl)
     ∙ (rw (m, c) refl)
 
+-- as many bytes are granted
 pub granted_bytes_same : (limits : EpLimits) (hs ks : Heads) (log : List Deed) (p : Pair) → HeadsAgree hs ks log
     → granted_bytes limits hs log p ≡ granted_bytes limits ks log p
 unfolding granted_bytes with_window
@@ -49,6 +51,7 @@ granted_bytes_same limits hs ks (d ∷ before) p a =
     let newest = window_same limits hs ks (d ∷ before) p (granted_bytes limits ks before p) a in
     rw (earlier, newest) refl
 
+-- a pair owes the same
 pub pair_items_same : (own : Own) (hs ks : Heads) (d : Deed) (before : List Deed) (p : Pair) → HeadsAgree hs ks (d ∷ before)
     → Member p (pairs own.limits.first hs (d ∷ before)) → pair_items own hs d before p ≡ pair_items own ks d before p
 unfolding pair_items
@@ -63,6 +66,7 @@ pair_items_same own hs ks d before p a m =
     let k = is_filled_same own.limits.first hs ks before p b in
     rw (g, w, n, f, k, e) refl
 
+-- a deed makes the same replies owed
 pub replies_by_same : (own : Own) (hs ks : Heads) (sents : List Sent) (d : Deed) (before : List Deed) → HeadsAgree hs ks (d ∷ before)
     → replies_by own hs sents d before ≡ replies_by own ks sents d before
 unfolding replies_by pair_replies
