@@ -21,7 +21,7 @@ use Rattle.rdm_model.specs.Owns.{Heads}
 use Rattle.rdm_model.specs.Heard.{heard_head, head_by}
 use Rattle.rdm_model.specs.Matches.{pairs}
 use Rattle.rdm_model.specs.Parts.{piece_by, carried_by, carried_pieces}
-use Rattle.rdm_model.proofs.Members.{member-append_cases, is_some_from, same_life-true, same_life-refl}
+use Rattle.rdm_model.proofs.Members.{member-append_cases, is_some_from, same_life-true, same_life-refl, then_some_parts, some-or_else_left, some-or_else_right}
 use Rattle.rdm_model.proofs.Matches.{is_pair_still, is_pair_member, pair_heard}
 
 -- a packet that opens the message brought the piece
@@ -52,10 +52,6 @@ pub record FromGiven (ps : List Pair) (source : Life) (n : ℕ) (item : Item) (x
 -- what brought a piece
 abbrev pub Brought : List Pair → Life → ℕ → Item → Piece → Type 0
 Brought ps source n item x = FromRtm n item x ⊎ (FromData ps source n item x ⊎ FromGiven ps source n item x)
-
-then_some_parts : {A : Type 0} (b : Bool) (x y : A) → then_some b x ≡ Some y → (b ≡ true) × (x ≡ y)
-then_some_parts true x y h = (refl, cc)
-then_some_parts false x y h = cc
 
 -- a piece is brought by one of three kinds
 pub piece_cases : (ps : List Pair) (source : Life) (n : ℕ) (item : Item) (x : Piece) → piece_by ps source n item ≡ Some x → Brought ps source n item x
@@ -135,16 +131,6 @@ rtm_heard source n item number tag opt form is number_is =
     let t : (same_life source source && number.0 == n) ≡ true = and_from _ _ (same_life-refl source) (eq-eqb number.0 n number_is) in
     rw (is, t) refl
 
-or_else_some : {A : Type 0} (x y : Option A) → is_some y ≡ true → is_some (or_else x y) ≡ true
-unfolding or_else
-or_else_some None y h = h
-or_else_some (Some a) y h = refl
-
-some_or_else : {A : Type 0} (x y : Option A) → is_some x ≡ true → is_some (or_else x y) ≡ true
-unfolding or_else
-some_or_else None y h = cc
-some_or_else (Some a) y h = refl
-
 -- the message of a pair was heard of
 pub paired_heard : (first : ℕ) (heads : Heads) (log : List Deed) (recv : ℕ) (source : Life) (n : ℕ) → is_pair (pairs first heads log) recv source n ≡ true
     → is_some (heard_head log source n) ≡ true
@@ -159,15 +145,15 @@ brought_heard : (first : ℕ) (heads : Heads) (before : List Deed) (source : Lif
 unfolding heard_head
 brought_heard first heads before source n d item x t (inl b) =
     let e = rtm_heard source n item b.number b.tag b.opt b.form b.is b.number_is in
-    or_else_some (heard_head before source n) (head_by source n d) (is_some_from (head_by source n d) (head_of b.tag b.opt b.form) (ap (head_by source n) t ∙ e))
+    some-or_else_right (heard_head before source n) (head_by source n d) (is_some_from (head_by source n d) (head_of b.tag b.opt b.form) (ap (head_by source n) t ∙ e))
 brought_heard first heads before source n d item x t (inr (inl b)) =
-    some_or_else (heard_head before source n) (head_by source n d) (paired_heard first heads before b.recv.0 source n b.paired)
+    some-or_else_left (heard_head before source n) (head_by source n d) (paired_heard first heads before b.recv.0 source n b.paired)
 brought_heard first heads before source n d item x t (inr (inr b)) =
-    some_or_else (heard_head before source n) (head_by source n d) (paired_heard first heads before b.data'.recv_id.0 source n b.paired)
+    some-or_else_left (heard_head before source n) (head_by source n d) (paired_heard first heads before b.data'.recv_id.0 source n b.paired)
 
 heard_longer : (d : Deed) (before : List Deed) (source : Life) (n : ℕ) → is_some (heard_head before source n) ≡ true → is_some (heard_head (d ∷ before) source n) ≡ true
 unfolding heard_head
-heard_longer d before source n h = some_or_else (heard_head before source n) (head_by source n d) h
+heard_longer d before source n h = some-or_else_left (heard_head before source n) (head_by source n d) h
 
 -- a message of which bytes came was heard of
 pub carried_heard : (first : ℕ) (heads : Heads) (log : List Deed) (source : Life) (n : ℕ) (x : Piece) → Member x (carried_pieces first heads log source n)

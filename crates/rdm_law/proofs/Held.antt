@@ -10,23 +10,19 @@ use Rattle.rdm_model.specs.Deeds.{Deed, Did, Took, Item}
 use Rattle.rdm_model.specs.Currents.{inserted_by, last_inserted, seen_by, first_seen, current, is_current, was_current}
 use Rattle.rdm_model.specs.Owns.{Own, Messages}
 use Rattle.rdm_model.specs.Sends.{Sent, new_sent, sends}
-use Rattle.rdm_model.proofs.Members.{or_else_cases}
+use Rattle.rdm_model.proofs.Members.{or_else_cases, then_some_parts, some-or_else_left, some-or_else_right}
 use Rattle.rdm_model.proofs.Numbers.{NewSent, made}
-
-then_is : {A : Type 0} (b : Bool) (x y : A) → then_some b x ≡ Some y → (b ≡ true) × (x ≡ y)
-then_is true x y h = (refl, cc)
-then_is false x y h = cc
 
 inserted_port : (port : ℕ) (d : Deed) (l : Life) → inserted_by port d ≡ Some l → (l.port.0 ≡ port) × (d ≡ Did (Insert l))
 unfolding inserted_by
 inserted_port port (Did (Insert x)) l h =
-    let t = then_is (x.port.0 == port) x l h in
+    let t = then_some_parts (x.port.0 == port) x l h in
     (ap (λ (y : Life). y.port.0) (sym t.1) ∙ eqb-true x.port.0 port t.0, ap (λ (y : Life). Did (Insert y)) t.1)
 inserted_port port _ l h = cc
 
 seen_port : (port : ℕ) (d : Deed) (l : Life) → seen_by port d ≡ Some l → l.port.0 ≡ port
 unfolding seen_by
-seen_port port (Took from item) l h = let t = then_is (from.port.0 == port) from l h in ap (λ (y : Life). y.port.0) (sym t.1) ∙ eqb-true from.port.0 port t.0
+seen_port port (Took from item) l h = let t = then_some_parts (from.port.0 == port) from l h in ap (λ (y : Life). y.port.0) (sym t.1) ∙ eqb-true from.port.0 port t.0
 seen_port port _ l h = cc
 
 last_port : (log : List Deed) (port : ℕ) (l : Life) → last_inserted log port ≡ Some l → l.port.0 ≡ port
@@ -47,16 +43,6 @@ unfolding current
 current_port log port l h =
     elim (or_else_cases (last_inserted log port) (first_seen log port) l h) [ inl a ↦ last_port log port l a | inr a ↦ first_port log port l a.1 ]
 
-some_left : {A : Type 0} (x y : Option A) → is_some x ≡ true → is_some (or_else x y) ≡ true
-unfolding or_else
-some_left None y h = cc
-some_left (Some a) y h = refl
-
-some_right : {A : Type 0} (x y : Option A) → is_some y ≡ true → is_some (or_else x y) ≡ true
-unfolding or_else
-some_right None y h = h
-some_right (Some a) y h = refl
-
 some_cases : {A : Type 0} (x y : Option A) → is_some (or_else x y) ≡ true → (is_some x ≡ true) ⊎ (is_some y ≡ true)
 unfolding or_else
 some_cases None y h = inr h
@@ -67,8 +53,8 @@ pub current_stays : (d : Deed) (before : List Deed) (port : ℕ) → is_some (cu
 unfolding current last_inserted first_seen
 current_stays d before port h =
     elim (some_cases (last_inserted before port) (first_seen before port) h) [
-      | inl a ↦ some_left (or_else (inserted_by port d) (last_inserted before port)) (or_else (first_seen before port) (seen_by port d)) (some_right (inserted_by port d) (last_inserted before port) a)
-      | inr a ↦ some_right (or_else (inserted_by port d) (last_inserted before port)) (or_else (first_seen before port) (seen_by port d)) (some_left (first_seen before port) (seen_by port d) a)
+      | inl a ↦ some-or_else_left (or_else (inserted_by port d) (last_inserted before port)) (or_else (first_seen before port) (seen_by port d)) (some-or_else_right (inserted_by port d) (last_inserted before port) a)
+      | inr a ↦ some-or_else_right (or_else (inserted_by port d) (last_inserted before port)) (or_else (first_seen before port) (seen_by port d)) (some-or_else_left (first_seen before port) (seen_by port d) a)
     ]
 
 pub current_kept : (newer before : List Deed) (port : ℕ) → is_some (current before port) ≡ true → is_some (current (newer ++ before) port) ≡ true
@@ -82,7 +68,7 @@ seen_some d from item h = rw h (ap (λ (b : Bool). is_some (then_some b from)) (
 took_now : (d : Deed) (before : List Deed) (from : Life) (item : Item) → d ≡ Took from item → is_some (current (d ∷ before) from.port.0) ≡ true
 unfolding current first_seen
 took_now d before from item h =
-    some_right (last_inserted (d ∷ before) from.port.0) (or_else (first_seen before from.port.0) (seen_by from.port.0 d)) (some_right (first_seen before from.port.0) (seen_by from.port.0 d) (seen_some d from item h))
+    some-or_else_right (last_inserted (d ∷ before) from.port.0) (or_else (first_seen before from.port.0) (seen_by from.port.0 d)) (some-or_else_right (first_seen before from.port.0) (seen_by from.port.0 d) (seen_some d from item h))
 
 -- a port from which a datagram was taken has a current life
 pub took_current : (log : List Deed) (from : Life) (item : Item) → Member (Took from item) log → is_some (current log from.port.0) ≡ true

@@ -25,7 +25,7 @@ use Rattle.rdm_model.specs.Sends.{Sent, sends, sends_to}
 use Rattle.rdm_model.specs.Turns.{Sends}
 use Rattle.rdm_model.specs.Local.{heard_by}
 use Rattle.rdm_model.specs.Lawful.{life_deeds}
-use Rattle.rdm_model.proofs.Members.{or_else_cases, same_life-true}
+use Rattle.rdm_model.proofs.Members.{or_else_cases, same_life-true, then_some_parts}
 use Rattle.rdm_model.proofs.Numbers.{placed}
 use Rattle.rdm_law.proofs.Owed.{OwedIn}
 use Rattle.rdm_law.proofs.Wired.{Played, TakenTurn, taken_pushed}
@@ -51,16 +51,19 @@ pub record HeadTaken (log : List Deed) (source : Life) (n : ℕ) (h : Head) : Ty
   pub number_is : number.0 ≡ n
   pub head_is : head_of tag opt form ≡ h
 
+<<<<<<< HEAD
 -- a value that a test gives: the test holds
 pub then_parts : {A : Type 0} (b : Bool) (x y : A) → then_some b x ≡ Some y → (b ≡ true) × (x ≡ y)
 then_parts true x y h = (refl, cc)
 then_parts false x y h = cc
 
 -- a head that a deed tells is of a packet that it took
+=======
+>>>>>>> 9709ba3 (Say once what a value that is there if a test holds says)
 head_by_taken : (source : Life) (n : ℕ) (d : Deed) (before : List Deed) (h : Head) → head_by source n d ≡ Some h → HeadTaken (d ∷ before) source n h
 unfolding head_by
 head_by_taken source n (Took from (Spelled (Rtm number tag opt form))) before h is =
-    let t = then_parts (same_life from source && nat_eq number.0 n) (head_of tag opt form) h is in
+    let t = then_some_parts (same_life from source && nat_eq number.0 n) (head_of tag opt form) h is in
     let p = and_parts (same_life from source) (nat_eq number.0 n) t.0 in
     let s : from ≡ source = same_life-true from source p.0 in
     record {

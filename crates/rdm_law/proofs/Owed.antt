@@ -19,8 +19,8 @@ use Rattle.rdm_model.specs.Receives.{is_filled}
 use Rattle.rdm_model.specs.Sends.{Sent, sends}
 use Rattle.rdm_model.specs.Grants.{window, granted_bytes}
 use Rattle.rdm_model.specs.Replies.{Reply, reply, is_from, handshake_by, asks_for, grant_for, end_for, pair_items, pair_replies, given_of, given_by, replies_by}
+use Rattle.rdm_model.proofs.Lists.{member-flat_map}
 use Rattle.rdm_model.proofs.Members.{member-append_cases, member-map, find_member, same_life-true}
-use Rattle.rdm_law.proofs.Unique.{member-flat_map}
 use Rattle.rdm_law.proofs.Queue.{owed}
 
 -- the shape of a pair's message

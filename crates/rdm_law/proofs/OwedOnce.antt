@@ -20,10 +20,11 @@ use Rattle.rdm_model.specs.Receives.{is_filled}
 use Rattle.rdm_model.specs.Grants.{window, granted_bytes}
 use Rattle.rdm_model.specs.Sends.{Sent, sends}
 use Rattle.rdm_model.specs.Replies.{Reply, reply, is_from, handshake_by, asks_for, grant_for, end_for, pair_items, pair_replies, given_of, given_by, replies_by}
+use Rattle.rdm_model.proofs.Lists.{member-flat_map}
 use Rattle.rdm_model.proofs.Members.{member-append_cases, member-map, member_list_any, same_life-refl}
 use Rattle.rdm_model.proofs.Matches.{member_is_pair, pair_still}
 use Rattle.rdm_law.proofs.Numbered.{matching_numbered}
-use Rattle.rdm_law.proofs.Unique.{Unique, unique_none, unique_one, unique_append, unique_map, unique_pairs, member-flat_map}
+use Rattle.rdm_law.proofs.Unique.{Unique, unique_none, unique_one, unique_append, unique_map, unique_pairs}
 use Rattle.rdm_law.proofs.Asks.{AsksShare, asks_for_unique, asks_for_recv}
 use Rattle.rdm_law.proofs.Queue.{owed}
 use Rattle.rdm_law.proofs.Owed.{shape_in, recv_in, NewReply, OwedIn, cond_member, items_from, shake_from, given_from, grant_from, end_from, new_from, owed_in}

@@ -26,10 +26,11 @@ use Rattle.rdm_model.specs.Turns.{Sends, packet_piece}
 use Rattle.rdm_model.specs.Lawful.{life_deeds}
 use Rattle.rdm_model.proofs.Matches.{is_pair_member}
 use Rattle.rdm_model.proofs.Cuts.{Part, front_part}
+use Rattle.rdm_model.proofs.Members.{then_some_parts}
 use Rattle.rdm_law.proofs.Lives.{TurnedAt}
 use Rattle.rdm_law.proofs.Turned.{turn_part}
 use Rattle.rdm_law.proofs.Wired.{Played, TakenTurn}
-use Rattle.rdm_law.proofs.Known.{Known, then_parts, opened}
+use Rattle.rdm_law.proofs.Known.{Known, opened}
 use Rattle.rdm_law.proofs.Named.{pairs_of}
 use Rattle.rdm_law.proofs.Chains.{pair_one, data_went, data_known, GivenWent, given_went, given_known}
 
@@ -96,7 +97,7 @@ item_piece job history life' from n x (Spelled (Rtm number tag opt form)) d play
 item_piece job history life' from n x (Spelled (CtsData recv offset connid bytes)) d played t h =
     let w = data_went job history life' from recv offset connid bytes d t in
     let g = data_known job history life' from recv offset connid bytes t.place played w in
-    let c = then_parts (is_pair (pairs_of job history life') recv.0 from n) (record { offset = offset; bytes = bytes }) x h in
+    let c = then_some_parts (is_pair (pairs_of job history life') recv.0 from n) (record { offset = offset; bytes = bytes }) x h in
     let number = found_number job history life' from recv.0 n g.pair g.member g.recv_is c.0 in
     let known = known_at job history life' from g.pair.message.no.0 n number g.known in
     let turned = subst (λ (s : Sent). TurnedAt (own_of job from) (Sends s (CtsData recv offset connid bytes)) t.place (life_deeds job history from)) (sym g.sent_is) w.turned in
@@ -104,7 +105,7 @@ item_piece job history life' from n x (Spelled (CtsData recv offset connid bytes
 item_piece job history life' from n x (Gives g) d played t h =
     let w = given_went job history life' from g d t in
     let a = given_known job history life' from g t.place played w in
-    let c = then_parts (is_pair (pairs_of job history life') g.recv_id.0 from n) (record { offset = g.at; bytes = g.bytes }) x h in
+    let c = then_some_parts (is_pair (pairs_of job history life') g.recv_id.0 from n) (record { offset = g.at; bytes = g.bytes }) x h in
     let recv : a.pair.recv.id.0 ≡ g.recv_id.0 = a.recv_is ∙ ap (λ (y : ReadData). y.recv_id.0) (sym w.of.is) in
     let number = found_number job history life' from g.recv_id.0 n a.pair a.member recv c.0 in
     let known = known_at job history life' from a.pair.message.no.0 n number a.known in

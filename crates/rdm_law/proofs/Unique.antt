@@ -3,6 +3,7 @@ use Rattle.std.proofs.Common.{◌≡◌, ℕ, zero, suc, List, [], ◌∷◌, �
 use Rattle.std.specs.Prelude.{slice_get, flat_map}
 use Rattle.rdm_num.specs.Lists.{Member}
 use Rattle.rdm_match.specs.Matcher.{Pair}
+use Rattle.rdm_model.proofs.Lists.{member-flat_map}
 use Rattle.rdm_model.proofs.Members.{member-append_cases, slice_get-member}
 use Rattle.rdm_law.proofs.Numbered.{PairsApart, LacksPair}
 use Rattle.rdm_law.proofs.Received.{slice_get_split}
@@ -45,15 +46,6 @@ unique_append K s xs ys u v n i j x y h k c =
 -- a list that has nothing that clashes
 pub unique_free : {A : Type 0} (K : A → A → Type 0) (xs : List A) → ((x y : A) → Member x xs → K x y → ⊥) → Unique K xs
 unique_free K xs n i j x y h k c = absurd (n x y (slice_get-member xs i x h) c)
-
--- an element of lists in a row is of one of them
-pub member-flat_map : {A B : Type 0} (f : A → List B) (y : B) (xs : List A) → Member y (flat_map f xs) → (x : A) × Member x xs × Member y (f x)
-member-flat_map f y [] h = elim h [ ]
-member-flat_map f y (x ∷ xs) h =
-    elim (member-append_cases y (f x) (flat_map f xs) h) [
-      | inl a ↦ (x, inl refl, a)
-      | inr a ↦ let r = member-flat_map f y xs a in (r.0, inr r.1, r.2)
-    ]
 
 lacks_pair : (n : ℕ) (p : Pair) (ps : List Pair) → LacksPair n ps → Member p ps → p.recv.id.0 ≡ n → ⊥
 lacks_pair n p [] l h e = elim h [ ]

@@ -23,7 +23,7 @@ use Rattle.rdm_model.specs.Heard.{head_by, heard_head}
 use Rattle.rdm_model.specs.Matches.{pairs}
 use Rattle.rdm_model.specs.Parts.{carried_pieces}
 use Rattle.rdm_model.specs.Grants.{first_part_in, first_part_by, first_part_taken, first_part, window_of, window, with_window, granted_bytes}
-use Rattle.rdm_model.proofs.Members.{or_else_left, or_else_cases}
+use Rattle.rdm_model.proofs.Members.{or_else_left, or_else_cases, then_some_parts}
 use Rattle.rdm_model.proofs.Matches.{is_pair_still, pair_heard, is_pair_member, heard_still}
 use Rattle.rdm_law.proofs.Owed.{shape_in}
 
@@ -42,10 +42,6 @@ some_else (Some b) a = (b, refl)
 some_or : {A : Type 0} (x y : Option A) (a : A) → y ≡ Some a → (b : A) × (or_else x y ≡ Some b)
 some_or x y a e = let r = some_else x a in (r.0, ap (λ o. or_else x o) e ∙ r.1)
 
-then_is : {A : Type 0} (b : Bool) (x y : A) → then_some b x ≡ Some y → (b ≡ true) × (x ≡ y)
-then_is true x y h = (refl, cc)
-then_is false x y h = cc
-
 long_first : (form : Form) (send : OpId) (credits : ℕ) → shape_of form ≡ S.LongCts send credits → (k : ℕ) × (first_part_in form ≡ Some k)
 unfolding shape_of first_part_in
 long_first (LongCts size s c bytes) send credits h = (length bytes, refl)
@@ -58,7 +54,7 @@ first_by : (source : Life) (n : ℕ) (d : Deed) (h : Head) (send : OpId) (credit
     → (k : ℕ) × (first_part_by source n d ≡ Some k)
 unfolding head_by first_part_by head_of
 first_by source n (Took from (Spelled (Rtm number tag opt form))) h send credits is shape =
-    let t = then_is (same_life from source && number.0 == n) (head_of tag opt form) h is in
+    let t = then_some_parts (same_life from source && number.0 == n) (head_of tag opt form) h is in
     let l = long_first form send credits (ap (λ (x : Head). x.shape) t.1 ∙ shape) in
     (l.0, ap (λ b. cond b (first_part_in form) None) t.0 ∙ l.1)
 first_by source n _ h send credits is shape = cc

@@ -1,6 +1,7 @@
 -- Elements of lists, options and lives.
 use Rattle.std.proofs.Common.{◌≡◌, ℕ, zero, suc, ◌<◌, Bool, true, false, cond, List, [], ◌∷◌, ◌++◌, map, Option, Some, None, refl, arith, ◌⊎◌, inl, inr, sym, ◌∙◌, ap}
 use Rattle.std.specs.Prelude.{slice_get, is_some, find, filter}
+use Rattle.std.specs.Bool.{then_some}
 use Rattle.std.specs.List.{list_any}
 use Rattle.std.proofs.lemmas.Bool.{cases_eq, and_parts, and_from, or_cases, or_left, or_right, eqb-true, eq-eqb}
 use Rattle.rdm_num.specs.Lists.{Member, or_else, each_below, without_first}
@@ -153,3 +154,17 @@ same_life-true a b h =
 pub same_life-refl : (l : Life) → same_life l l ≡ true
 unfolding same_life
 same_life-refl l = and_from _ _ (eq-eqb l.port.0 l.port.0 refl) (eq-eqb l.connid.0 l.connid.0 refl)
+
+pub then_some_parts : {A : Type 0} (b : Bool) (x y : A) → then_some b x ≡ Some y → (b ≡ true) × (x ≡ y)
+then_some_parts true x y h = (refl, cc)
+then_some_parts false x y h = cc
+
+pub some-or_else_left : {A : Type 0} (x y : Option A) → is_some x ≡ true → is_some (or_else x y) ≡ true
+unfolding or_else
+some-or_else_left None y h = cc
+some-or_else_left (Some a) y h = refl
+
+pub some-or_else_right : {A : Type 0} (x y : Option A) → is_some y ≡ true → is_some (or_else x y) ≡ true
+unfolding or_else
+some-or_else_right None y h = h
+some-or_else_right (Some a) y h = refl
