@@ -133,37 +133,44 @@ closed_goes s to item now h =
     let b : life_going None s ≡ Some (Goes to item) = subst (λ (o : Option Connid). life_going o s ≡ Some (Goes to item)) now a in
     goes_none to item b
 
--- what fits of an open life in a fair job, by a log that is right by itself
-pub record OpenFits (job : Job) (port : ℕ) (log : List Entry) (c : Connid) : Type 0 where
-  pub begins : OwnFits (own_of job (life_of port c))
+-- what fits of a life in a fair job, by a log that is right by itself
+pub record LifeFits (job : Job) (port : ℕ) (log : List Entry) (c : Connid) : Type 0 where
   pub deeds_fit : DeedsFit (port_count job) job.limits.first (of_life c (deeds_at job port log))
   pub taken : AllTakenFit (of_life c (deeds_at job port log))
 
-pub life_fits : (job : Job) (port : ℕ) (log : List Entry) (c : Connid) → JobFits job → Local job port log → AllHandledFit log
-    → open_life (deeds_at job port log) ≡ Some c → OpenFits job port log c
+pub life_fits : (job : Job) (port : ℕ) (log : List Entry) (c : Connid) → JobFits job → Local job port log → AllHandledFit log → LifeFits job port log c
 unfolding deeds_at own_of
-life_fits job port log c fair l h is =
+life_fits job port log c fair l h =
     let own = own_of job (life_of port c) in
     let port_log = deeds (rank_of job port).ops log in
     let mine = of_life c port_log in
     let rank = fair.ranks port in
-    let all = all_did_fit (port_count job) (rank_of job port).ops log rank.ops in
     let local = life_local job port c log l in
     let few = rank.few in
     let a = life_count c port_log in
     let b = did_instructions (rank_of job port).ops log in
     let n = next_within job port log l in
-    let ports = fair.ports in
-    let rank_port = open_port job port log c is in
     record {
-      begins = record { port = omega arith; connid = open_fits (port_count job) port_log c all is; features = rank.features };
       deeds_fit = record {
-        did = life_did (port_count job) c port_log all;
+        did = life_did (port_count job) c port_log (all_did_fit (port_count job) (rank_of job port).ops log rank.ops);
         ranges = ranges_fit own mine local;
         numbers = numbers_fit own mine local;
         count = omega arith;
       };
       taken = life_taken c port_log (all_taken_fit (rank_of job port).ops log h);
+    }
+
+-- what the endpoint of an open life begins with
+pub life_begins : (job : Job) (port : ℕ) (log : List Entry) (c : Connid) → JobFits job → open_life (deeds_at job port log) ≡ Some c → OwnFits (own_of job (life_of port c))
+unfolding deeds_at own_of
+life_begins job port log c fair is =
+    let rank = fair.ranks port in
+    let ports = fair.ports in
+    let rank_port = open_port job port log c is in
+    record {
+      port = omega arith;
+      connid = open_fits (port_count job) (deeds (rank_of job port).ops log) c (all_did_fit (port_count job) (rank_of job port).ops log rank.ops) is;
+      features = rank.features;
     }
 
 open_goes_well : (job : Job) (port : ℕ) (log : List Entry) (to : Life) (item : Item) (c : Connid) → JobFits job → Local job port log → AllHandledFit log
@@ -174,11 +181,11 @@ open_goes_well job port log to item c fair l h is goes =
     let port_log = deeds_at job port log in
     let mine = of_life c port_log in
     let t = life_goes (port_count job) own port_log mine to item (subst (λ (s : Scene). going s ≡ Some (Goes to item)) (opened_scene job port c port_log is) goes) in
-    let fits = life_fits job port log c fair l h is in
+    let fits = life_fits job port log c fair l h in
     let ms = heard_by own.limits.first mine in
     let bytes : MessagesFit ms = λ source k. bytes_by_fit own.limits.first mine source k fits.taken in
     let heads : HeadsFit ms.head = heads_fit mine fits.taken in
-    turn_fits (port_count job) own ms mine t.0 to item fits.begins fair.limits bytes heads fits.deeds_fit fits.taken t.1 t.2
+    turn_fits (port_count job) own ms mine t.0 to item (life_begins job port log c fair is) fair.limits bytes heads fits.deeds_fit fits.taken t.1 t.2
 
 -- what goes out in a fair job fits the wire
 pub goes_well : (job : Job) → IsTrue (is_fair law_ops job) → GoesWell job

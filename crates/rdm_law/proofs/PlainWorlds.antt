@@ -34,7 +34,7 @@ use Rattle.rdm_law.proofs.SmallBytes.{bytes_by_fit}
 use Rattle.rdm_law.proofs.RegionsFit.{MessagesFit}
 use Rattle.rdm_law.proofs.SentFits.{SentFits, sent_fits}
 use Rattle.rdm_law.proofs.FairJobs.{JobFits, fair_job}
-use Rattle.rdm_law.proofs.GoesWell.{OpenFits, life_fits, life_goes, closed_goes, none_opens, goes_well}
+use Rattle.rdm_law.proofs.GoesWell.{LifeFits, life_fits, life_goes, closed_goes, none_opens, goes_well}
 use Rattle.rdm_law.proofs.OpCounts.{send_count, did_as, did_within, life_within}
 use Rattle.rdm_law.proofs.PlainDeeds.{IsPlain, IsPlainPacket, IsPlainLoad, AreWithPeer, plain_life}
 use Rattle.rdm_law.proofs.PlainTurns.{IsPlainGoing}
@@ -83,7 +83,7 @@ goes_of_life job i j log to item fair plain l fit h is goes =
     let mine = of_life i.connid port_log in
     let peers = life_with_peer job i j log plain.apart plain.rank_i l h in
     let t = life_goes (port_count job) own port_log mine to item (subst (λ (s : Scene). going s ≡ Some (Goes to item)) (opened_scene job i.port.0 i.connid port_log is) goes) in
-    let fits = life_fits job i.port.0 log i.connid fair l fit is in
+    let fits = life_fits job i.port.0 log i.connid fair l fit in
     let ms = heard_by own.limits.first mine in
     let bytes : MessagesFit ms = λ source k. bytes_by_fit own.limits.first mine source k fits.taken in
     let sent : (s : Sent) → Member s (sends own ms mine) → SentFits own s = sent_fits (port_count job) own ms mine bytes fits.deeds_fit in
