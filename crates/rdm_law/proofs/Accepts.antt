@@ -16,6 +16,7 @@ use Rattle.rdm_model.proofs.Members.{member-append_cases, member-filter, member-
 abbrev AllAccept : List Pair → Type 0
 AllAccept ps = (p : Pair) → Member p ps → accepts p.recv p.message ≡ true
 
+-- a pair that accepts may be added
 accept_push : (ps : List Pair) (q : Pair) → AllAccept ps → accepts q.recv q.message ≡ true → AllAccept (ps ++ q ∷ [])
 accept_push ps q all t p h =
     elim (member-append_cases p ps (q ∷ []) h) [
@@ -23,16 +24,19 @@ accept_push ps q all t p h =
       | inr a ↦ elim a [ inl is ↦ subst (λ (x : Pair). accepts x.recv x.message ≡ true) is t | inr never ↦ elim never [ ] ]
     ]
 
+-- a post takes a message that it accepts
 post_accepts : (m : Matching) (r : PostedRecv) (o : Option Arrived) → ((a : Arrived) → o ≡ Some a → accepts r a ≡ true) → AllAccept m.pairs → AllAccept (after_post m r o).pairs
 unfolding after_post
 post_accepts m r None t all = all
 post_accepts m r (Some a) t all = accept_push m.pairs (record { recv = r; message = a }) all (t a refl)
 
+-- an arrival is taken by a receive that accepts it
 arrive_accepts : (m : Matching) (a : Arrived) (o : Option PostedRecv) → ((r : PostedRecv) → o ≡ Some r → accepts r a ≡ true) → AllAccept m.pairs → AllAccept (after_arrive m a o).pairs
 unfolding after_arrive
 arrive_accepts m a None t all = all
 arrive_accepts m a (Some r) t all = accept_push m.pairs (record { recv = r; message = a }) all (t r refl)
 
+-- so each event adds pairs that accept
 after_accepts : (m : Matching) (e : Event) → AllAccept m.pairs → AllAccept (after m e).pairs
 unfolding after
 after_accepts m (Post r) all = post_accepts m r (find (accepts r) m.arrived) (λ a h. (find_member (accepts r) a m.arrived h).1) all
@@ -40,6 +44,7 @@ after_accepts m (Arrive a) all = arrive_accepts m a (find (λ r. accepts r a) m.
 after_accepts m (Cancel n) all = all
 after_accepts m (Forget l) all = all
 
+-- and so do events in order
 run_accepts : (es : List Event) (m : Matching) → AllAccept m.pairs → AllAccept (run m es).pairs
 unfolding run
 run_accepts [] m all = all
@@ -64,6 +69,7 @@ PostsOther n (Arrive a) = Unit {0}
 PostsOther n (Cancel k) = Unit {0}
 PostsOther n (Forget l) = Unit {0}
 
+-- a post of another number
 post_absent : (n : ℕ) (m : Matching) (r : PostedRecv) (o : Option Arrived) → (r.id.0 ≡ n → ⊥) → Absent n m → Absent n (after_post m r o)
 unfolding after_post
 post_absent n m r None t a =
@@ -83,6 +89,7 @@ post_absent n m r (Some b) t a =
       ];
     }
 
+-- an arrival pairs what is posted
 arrive_absent : (n : ℕ) (m : Matching) (b : Arrived) (o : Option PostedRecv) → ((r : PostedRecv) → o ≡ Some r → Member r m.posted) → Absent n m → Absent n (after_arrive m b o)
 unfolding after_arrive
 arrive_absent n m b None t a = record { not_posted = a.not_posted; not_paired = a.not_paired }
@@ -95,6 +102,7 @@ arrive_absent n m b (Some r) t a =
       ];
     }
 
+-- each event that posts no such receive
 after_absent : (n : ℕ) (m : Matching) (e : Event) → PostsOther n e → Absent n m → Absent n (after m e)
 unfolding after
 after_absent n m (Post r) t a = post_absent n m r (find (accepts r) m.arrived) t a
@@ -102,11 +110,13 @@ after_absent n m (Arrive b) t a = arrive_absent n m b (find (λ r. accepts r b) 
 after_absent n m (Cancel k) t a = record { not_posted = λ x h e. a.not_posted x (without_member (is_recv k) x m.posted h) e; not_paired = a.not_paired }
 after_absent n m (Forget l) t a = record { not_posted = λ x h e. a.not_posted x (member-filter _ x m.posted h).0 e; not_paired = a.not_paired }
 
+-- and events in order
 run_absent : (n : ℕ) (es : List Event) (m : Matching) → ((e : Event) → Member e es → PostsOther n e) → Absent n m → Absent n (run m es)
 unfolding run
 run_absent n [] m t a = a
 run_absent n (e ∷ es) m t a = run_absent n es (after m e) (λ x h. t x (inr h)) (after_absent n m e (t e (inl refl)) a)
 
+-- a deed posts no receive of a number that was given before
 others_posted : (first : ℕ) (heads : Heads) (d : Deed) (before : List Deed) (n : ℕ) (x : Event) → n < length (receives before) → Member x (events_by first heads before d) → PostsOther n x
 unfolding events_by
 others_posted first heads (Did (Recv req)) before n x l (inl a) = subst (PostsOther n) a (λ e. omega arith)

@@ -26,10 +26,12 @@ pub record IsAskIn (send recv : OpId) (low high : ℕ) (a : ReadAsk) : Type 0 wh
   pub send_is : a.send_id ≡ send
   pub recv_is : a.recv_id ≡ recv
 
+-- an ask that lies in a range lies in a wider one
 wider : (send recv : OpId) (low high less more : ℕ) (a : ReadAsk) → less ≤ low → high ≤ more → IsAskIn send recv low high a → IsAskIn send recv less more a
 wider send recv low high less more a l m i =
     record { from = (let x = i.from in omega arith); to = (let x = i.to in omega arith); has_byte = i.has_byte; send_is = i.send_is; recv_is = i.recv_is }
 
+-- the asks for what is left of a range lie in it, at its key and offset
 asks_in_parts : (fuel : ℕ) (send recv : OpId) (e : IovEntry) (into at left : ℕ) (a : ReadAsk) → Member a (asks_in fuel send recv e into at left)
     → IsAskIn send recv at (at + left) a × (a.key ≡ e.key) × (a.offset + at ≡ e.offset + into + a.at)
 unfolding asks_in
@@ -59,9 +61,11 @@ asks_in_parts (suc fuel) send recv e into at left a h =
 abbrev pub AsksShare : ReadAsk → ReadAsk → Type 0
 AsksShare a b = Shares a.at a.length b.at b.length
 
+-- sharing a byte holds both ways
 pub asks_share_back : (a b : ReadAsk) → AsksShare a b → AsksShare b a
 asks_share_back a b s = (s.0, s.3, s.4, s.1, s.2)
 
+-- the asks for what is left of a range are apart
 asks_in_unique : (fuel : ℕ) (send recv : OpId) (e : IovEntry) (into at left : ℕ) → Unique AsksShare (asks_in fuel send recv e into at left)
 unfolding asks_in
 asks_in_unique zero send recv e into at left = unique_none AsksShare
@@ -99,6 +103,7 @@ unfoldable pub iov_bytes : List IovEntry → ℕ
 iov_bytes [] = 0
 iov_bytes (e ∷ es) = e.length + iov_bytes es
 
+-- an ask for what is left of a range is in its entry
 in_entry : (send recv : OpId) (e : IovEntry) (begin start left : ℕ) (a : ReadAsk) → begin ≤ start → left ≡ begin + e.length - start
     → IsAskIn send recv start (start + left) a × (a.key ≡ e.key) × (a.offset + start ≡ e.offset + (start - begin) + a.at) → is_in_entry a begin e ≡ true
 unfolding is_in_entry

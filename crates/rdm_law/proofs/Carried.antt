@@ -96,6 +96,7 @@ pub record CarriedBy (first : ℕ) (heads : Heads) (log : List Deed) (source : L
   pub took : Member (Took source item) log
   pub brought : Brought (pairs first heads log) source n item x
 
+-- what brought a piece still names the pair
 brought_still : (first : ℕ) (heads : Heads) (d : Deed) (before : List Deed) (source : Life) (n : ℕ) (item : Item) (x : Piece)
     → Brought (pairs first heads before) source n item x → Brought (pairs first heads (d ∷ before)) source n item x
 brought_still first heads d before source n item x (inl b) = inl b
@@ -104,6 +105,7 @@ brought_still first heads d before source n item x (inr (inl b)) =
 brought_still first heads d before source n item x (inr (inr b)) =
     inr (inr (record { data' = b.data'; is = b.is; at_is = b.at_is; bytes_are = b.bytes_are; paired = is_pair_still first heads d before b.data'.recv_id.0 source n b.paired }))
 
+-- the element of an option is its value
 option_member : {A : Type 0} (o : Option A) (x : A) → Member x (option_to_list o) → o ≡ Some x
 option_member None x h = elim h [ ]
 option_member (Some y) x (inl is) = ap Some is
@@ -124,6 +126,7 @@ carried_from first heads (d ∷ before) source n x h =
           record { item = p.0; took = inl p.1; brought = brought_still first heads d before source n p.0 x p.2 }
     ]
 
+-- a packet that opens a message tells its head
 rtm_heard : (source : Life) (n : ℕ) (item : Item) (number : MsgNo) (tag : Option ℕ) (opt : Opt) (form : Form) → item ≡ Spelled (Rtm number tag opt form) → number.0 ≡ n
     → head_by source n (Took source item) ≡ Some (head_of tag opt form)
 unfolding head_by
@@ -140,6 +143,7 @@ paired_heard first heads log recv source n h =
     let P : Life → ℕ → Type 0 = λ l o. is_some (heard_head log l o) ≡ true in
     subst (λ o. P source o) m.4 (subst (λ l. P l m.0.message.no.0) m.3 (is_some_from (heard_head log m.0.message.life m.0.message.no.0) k.0 k.1))
 
+-- a message of which a piece was brought is heard of
 brought_heard : (first : ℕ) (heads : Heads) (before : List Deed) (source : Life) (n : ℕ) (d : Deed) (item : Item) (x : Piece) → d ≡ Took source item
     → Brought (pairs first heads before) source n item x → is_some (heard_head (d ∷ before) source n) ≡ true
 unfolding heard_head
@@ -151,6 +155,7 @@ brought_heard first heads before source n d item x t (inr (inl b)) =
 brought_heard first heads before source n d item x t (inr (inr b)) =
     some-or_else_left (heard_head before source n) (head_by source n d) (paired_heard first heads before b.data'.recv_id.0 source n b.paired)
 
+-- a message that was heard of stays so
 heard_longer : (d : Deed) (before : List Deed) (source : Life) (n : ℕ) → is_some (heard_head before source n) ≡ true → is_some (heard_head (d ∷ before) source n) ≡ true
 unfolding heard_head
 heard_longer d before source n h = some-or_else_left (heard_head before source n) (head_by source n d) h

@@ -66,6 +66,7 @@ pub record OfGiven (own : Own) (ms : Messages) (log : List Deed) (r : Reply) (g 
   pub is : g ≡ record { recv_id = ask.recv_id; at = ask.at; bytes = take ask.length (drop ask.at sent.message.bytes) }
   pub gives_is : r.gives ≡ Some sent.number
 
+-- an ask that is owed is of a pair
 pub owed_ask : (own : Own) (ms : Messages) (log : List Deed) (r : Reply) (a : ReadAsk) → OwedIn own ms r log → r.item ≡ Asks a
     → OfAsk own.limits.first ms.head log r.to a
 owed_ask own ms [] r a h is = elim h [ ]
@@ -80,6 +81,7 @@ owed_ask own ms (d ∷ before) r a (inl (inr (inr (inl n)))) is = (let e = n.is 
 owed_ask own ms (d ∷ before) r a (inl (inr (inr (inr (inl n))))) is = (let e = n.is in cc)
 owed_ask own ms (d ∷ before) r a (inl (inr (inr (inr (inr n))))) is = (let e = n.is in cc)
 
+-- a grant that is owed is of a pair
 pub owed_cts : (own : Own) (ms : Messages) (log : List Deed) (r : Reply) (send recv : OpId) (size : ℕ) (connid : Connid) → OwedIn own ms r log
     → r.item ≡ Spelled (Cts send recv size connid) → OfCts own ms.head log r.to send recv size connid
 owed_cts own ms [] r send recv size connid h is = elim h [ ]
@@ -114,6 +116,7 @@ owed_cts own ms (d ∷ before) r send recv size connid (inl (inr (inr (inl n))))
 owed_cts own ms (d ∷ before) r send recv size connid (inl (inr (inr (inr (inl n))))) is = (let e = n.is in cc)
 owed_cts own ms (d ∷ before) r send recv size connid (inl (inr (inr (inr (inr n))))) is = (let e = n.is in cc)
 
+-- an end that is owed is of a filled pair
 pub owed_end : (own : Own) (ms : Messages) (log : List Deed) (r : Reply) (send recv : OpId) (connid : Connid) → OwedIn own ms r log
     → r.item ≡ Spelled (Eor send recv connid) → OfEnd own ms.head log r.to send recv connid
 owed_end own ms [] r send recv connid h is = elim h [ ]
@@ -145,6 +148,7 @@ owed_end own ms (d ∷ before) r send recv connid (inl (inr (inr (inr (inl n))))
     }
 owed_end own ms (d ∷ before) r send recv connid (inl (inr (inr (inr (inr n))))) is = (let e = n.is in cc)
 
+-- a handshake that is owed is for a datagram that was taken
 pub owed_shake : (own : Own) (ms : Messages) (log : List Deed) (r : Reply) (words : List ℕ) (connid : Connid) → OwedIn own ms r log
     → r.item ≡ Spelled (Handshake words connid) → OfShake own log r.to words connid
 owed_shake own ms [] r words connid h is = elim h [ ]
@@ -157,10 +161,12 @@ owed_shake own ms (d ∷ before) r words connid (inl (inr (inr (inl n)))) is = (
 owed_shake own ms (d ∷ before) r words connid (inl (inr (inr (inr (inl n))))) is = (let e = n.is in cc)
 owed_shake own ms (d ∷ before) r words connid (inl (inr (inr (inr (inr n))))) is = (let e = n.is in cc)
 
+-- a send stays one of the sends
 sent_still : (own : Own) (ms : Messages) (d : Deed) (before : List Deed) (s : Sent) → Member s (sends own ms before) → Member s (sends own ms (d ∷ before))
 unfolding sends with_sent
 sent_still own ms d before s h = member-append_left s (sends own ms before) _ h
 
+-- what is given is owed for an ask that was taken
 pub owed_given : (own : Own) (ms : Messages) (log : List Deed) (r : Reply) (g : ReadData) → OwedIn own ms r log → r.item ≡ Gives g → OfGiven own ms log r g
 owed_given own ms [] r g h is = elim h [ ]
 owed_given own ms (d ∷ before) r g (inr h) is =

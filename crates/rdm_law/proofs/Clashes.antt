@@ -75,6 +75,7 @@ pub data Kind : Type 0 where
   GivesBytes : Kind
   Others : Kind
 
+-- the kind of a reply
 unfoldable pub kind_of : Item → Kind
 kind_of (Spelled (Handshake words connid)) = Shakes
 kind_of (Spelled (Cts send recv size connid)) = Grants

@@ -61,6 +61,7 @@ pub record GrantHere (job : Job) (history : List Entry) (j i : Life) (send recv 
   pub has_byte : 0 < size
   pub within : allowed_of (own_of job j) (life_deeds job history j) sent + size ≤ length sent.message.bytes
 
+-- a grant that arrives is of what comes next of its send, and lies inside the message
 pub grant_here : (job : Job) (history : List Entry) (j i : Life) (send recv : OpId) (size : ℕ) (connid : Connid) (d : Datagram)
     → Arrives job history j i (Spelled (Cts send recv size connid)) d → GrantHere job history j i send recv size
 grant_here job history j i send recv size connid d a =
@@ -98,6 +99,7 @@ grant_live job history j i send recv size connid d ports port_log a g =
     live_send_is (arriving_scene job history j ports port_log) g.sent i send.0 g.granting.sent g.granting.to_is g.number_is
     (long_live (own_of job j) (account job history j) log g.sent g.granting.sent g.granting.long f (omega arith))
 
+-- a long send is one that takes grants
 long_is : (kind : Kind) → kind ≡ LongCts → is_long kind ≡ true
 unfolding is_long
 long_is kind e = rw e refl
@@ -112,6 +114,7 @@ cts_op_free job history j i send recv size connid d ports port_log a =
     let live = grant_live job history j i send recv size connid d ports port_log a g in
     ap (λ o. not (is_long_send o)) live ∙ ap not (long_is g.sent.kind g.granting.long)
 
+-- where all grants name one receive, none names another
 none_any : (gs : List Grant) (recv : ℕ) → ((g : Grant) → Member g gs → g.recv ≡ recv) → list_any (λ (g : Grant). not (g.recv == recv)) gs ≡ false
 none_any gs recv h =
     (elim (list_any (λ (g : Grant). not (g.recv == recv)) gs) as (λ b. list_any (λ (g : Grant). not (g.recv == recv)) gs ≡ b → b ≡ false) [
@@ -133,9 +136,11 @@ grants_name job history i j p s g played granting m =
     let same : k.pair ≡ p = d.once k.pair p k.member granting.member (k.life_is ∙ sym granting.life_is) n in
     sym k.recv_is ∙ ap (λ (x : Pair). x.recv.id.0) same
 
+-- where neither of two tests holds
 wrong_false : (b c : Bool) → b ≡ false → c ≡ false → (b || c) ≡ false
 wrong_false b c h k = rw (h, k) refl
 
+-- a grant that lies inside what is not granted, for the receive as before, is right
 grant_right : (s : Scene) (t : Sent) (recv size : ℕ) → allowed_of s.own s.log t + size ≤ length t.message.bytes
     → list_any (λ (g : Grant). not (g.recv == recv)) (grants s.log t.to t.number) ≡ false → is_wrong_grant s recv size (Some t) ≡ false
 unfolding is_wrong_grant allowed_bytes
@@ -189,6 +194,7 @@ granting_of job history i j s recv m to k =
       head_is = k.head_is;
     }
 
+-- granted bytes that end within what was granted do not pass it
 passes_none : (s : Scene) (from : Life) (recv end' : ℕ) (o : Option Pair) → live_pair s from recv ≡ o
     → ((p : Pair) → live_pair s from recv ≡ Some p → end' ≤ reach s.own.limits s.ms.head s.log p) → passes_grants s end' o ≡ false
 unfolding passes_grants

@@ -23,6 +23,7 @@ pub record IsTaken (s : Scene) (from : Life) (to : Connid) (item : Item) : Type 
   pub agrees : is_mismatch s from item ≡ false
   pub new : is_overlap s from item ≡ false
 
+-- a datagram that has no class passes each test
 pub taken_parts : (s : Scene) (from : Life) (to : Connid) (item : Item) → item_class s from to item ≡ None → IsTaken s from to item
 unfolding item_class
 taken_parts s from to item h =
@@ -36,6 +37,7 @@ taken_parts s from to item h =
     let i = first_none _ _ _ g.1 in
     record { for_life = a.0; from_current = b.0; well_formed = c.0; known = d.0; good_key = e.0; has_op = f.0; agrees = g.0; new = i.0 }
 
+-- a datagram that passes each test has no class
 pub taken_from : (s : Scene) (from : Life) (to : Connid) (item : Item) → IsTaken s from to item → item_class s from to item ≡ None
 unfolding item_class first_case
 taken_from s from to item t =

@@ -16,17 +16,21 @@ use Rattle.rdm_model.specs.Matches.{arrival, events_by, matching}
 use Rattle.rdm_model.proofs.Members.{member-append_cases, member-filter, each_below_more, some_of, is_some_from, find_member, without_member}
 use Rattle.rdm_model.proofs.Matches.{heard_still, entering_parts}
 
+-- a set of messages, by sender and number
 abbrev pub Known : Type 1
 Known = Life → ℕ → Type 0
 
+-- the message is none of the list
 abbrev pub Other : Arrived → List Arrived → Type 0
 Other a [] = Unit {0}
 Other a (b ∷ bs) = (b.life ≡ a.life → b.no.0 ≡ a.no.0 → ⊥) × Other a bs
 
+-- each message of the list stands in it once
 abbrev pub AllOther : List Arrived → Type 0
 AllOther [] = Unit {0}
 AllOther (a ∷ as') = Other a as' × AllOther as'
 
+-- messages that wait and those that were paired are of the set, each of them once
 pub record Distinct (K : Known) (m : Matching) : Type 0 where
   pub apart : AllOther m.arrived
   pub waiting_known : (a : Arrived) → Member a m.arrived → K a.life a.no.0
@@ -34,37 +38,45 @@ pub record Distinct (K : Known) (m : Matching) : Type 0 where
   pub gone : (p : Pair) (a : Arrived) → Member p m.pairs → Member a m.arrived → p.message.life ≡ a.life → p.message.no.0 ≡ a.no.0 → ⊥
   pub once : (p q : Pair) → Member p m.pairs → Member q m.pairs → p.message.life ≡ q.message.life → p.message.no.0 ≡ q.message.no.0 → p ≡ q
 
+-- an element of the list is another message
 other_member : (a b : Arrived) (bs : List Arrived) → Other a bs → Member b bs → b.life ≡ a.life → b.no.0 ≡ a.no.0 → ⊥
 other_member a b [] o h s n = elim h [ ]
 other_member a b (c ∷ bs) o (inl is) s n = o.0 (ap (λ (x : Arrived). x.life) is ∙ s) (ap (λ (x : Arrived). x.no.0) is ∙ n)
 other_member a b (c ∷ bs) o (inr h) s n = other_member a b bs o.1 h s n
 
+-- another message may be added
 other_push : (a b : Arrived) (bs : List Arrived) → Other a bs → (b.life ≡ a.life → b.no.0 ≡ a.no.0 → ⊥) → Other a (bs ++ b ∷ [])
 other_push a b [] o h = (h, tt)
 other_push a b (c ∷ bs) o h = (o.0, other_push a b bs o.1 h)
 
+-- and so to a list of which each stands in it once
 all_push : (a : Arrived) (bs : List Arrived) → AllOther bs → ((b : Arrived) → Member b bs → b.life ≡ a.life → b.no.0 ≡ a.no.0 → ⊥) → AllOther (bs ++ a ∷ [])
 all_push a [] o h = (tt, tt)
 all_push a (b ∷ bs) o h = (other_push b a bs o.0 (λ s n. h b (inl refl) (sym s) (sym n)), all_push a bs o.1 (λ c k. h c (inr k)))
 
+-- a filter has no more messages
 other_filter : (t : Arrived → Bool) (a : Arrived) (bs : List Arrived) → Other a bs → Other a (filter t bs)
 other_filter t a [] o = tt
 other_filter t a (b ∷ bs) o = elim (t b) as (λ x. Other a (cond x (b ∷ filter t bs) (filter t bs))) [ true ↦ (o.0, other_filter t a bs o.1) | false ↦ other_filter t a bs o.1 ]
 
+-- and each of them once
 all_filter : (t : Arrived → Bool) (bs : List Arrived) → AllOther bs → AllOther (filter t bs)
 all_filter t [] o = tt
 all_filter t (b ∷ bs) o = elim (t b) as (λ x. AllOther (cond x (b ∷ filter t bs) (filter t bs))) [ true ↦ (other_filter t b bs o.0, all_filter t bs o.1) | false ↦ all_filter t bs o.1 ]
 
+-- nor has a list without one of its elements
 other_without : (t : Arrived → Bool) (a : Arrived) (bs : List Arrived) → Other a bs → Other a (without_first t bs)
 unfolding without_first
 other_without t a [] o = tt
 other_without t a (b ∷ bs) o = elim (t b) as (λ x. Other a (cond x bs (b ∷ without_first t bs))) [ true ↦ o.1 | false ↦ (o.0, other_without t a bs o.1) ]
 
+-- and each of them once
 all_without : (t : Arrived → Bool) (bs : List Arrived) → AllOther bs → AllOther (without_first t bs)
 unfolding without_first
 all_without t [] o = tt
 all_without t (b ∷ bs) o = elim (t b) as (λ x. AllOther (cond x bs (b ∷ without_first t bs))) [ true ↦ o.1 | false ↦ (other_without t b bs o.0, all_without t bs o.1) ]
 
+-- the list without its first element that passes lacks that one
 first_other : (t : Arrived → Bool) (a : Arrived) (bs : List Arrived) → AllOther bs → find t bs ≡ Some a → Other a (without_first t bs)
 unfolding without_first
 first_other t a [] o h = tt
@@ -74,6 +86,7 @@ first_other t a (b ∷ bs) o h =
       | false ↦ λ k. (λ s n. other_member b a bs o.0 (find_member t a bs k).0 (sym s) (sym n), first_other t a bs o.1 k)
     ]) h
 
+-- pairs of one message stay one pair, with a new pair of another message
 pair_once : (ps : List Pair) (new : Pair) → ((p q : Pair) → Member p ps → Member q ps → p.message.life ≡ q.message.life → p.message.no.0 ≡ q.message.no.0 → p ≡ q)
     → ((p : Pair) → Member p ps → p.message.life ≡ new.message.life → p.message.no.0 ≡ new.message.no.0 → ⊥)
     → (p q : Pair) → Member p (ps ++ new ∷ []) → Member q (ps ++ new ∷ []) → p.message.life ≡ q.message.life → p.message.no.0 ≡ q.message.no.0 → p ≡ q
@@ -92,9 +105,11 @@ pair_once ps new once other p q h k s n =
       ]
     ]
 
+-- a message of the set, by equal names
 known_at : (K : Known) (l k : Life) (n o : ℕ) → l ≡ k → n ≡ o → K l n → K k o
 known_at K l k n o e f h = let P : ℕ → Type 0 = λ x. K k x in let Q : Life → Type 0 = λ x. K x n in subst P f (subst Q e h)
 
+-- a post takes a message that waits
 posted_distinct : (K : Known) (m : Matching) (w : PostedRecv) (o : Option Arrived) → find (accepts w) m.arrived ≡ o → Distinct K m → Distinct K (after_post m w o)
 unfolding after_post
 posted_distinct K m w None f d = record { apart = d.apart; waiting_known = d.waiting_known; pairs_known = d.pairs_known; gone = d.gone; once = d.once }
@@ -118,6 +133,7 @@ posted_distinct K m w (Some a) f d =
       once = λ p q h k s n. pair_once m.pairs (record { recv = w; message = a }) d.once (λ x l s n. d.gone x a l here s n) p q h k s n;
     }
 
+-- an arrival brings a message that is new
 arrived_distinct : (K L : Known) (m : Matching) (a : Arrived) (o : Option PostedRecv) → (K a.life a.no.0 → ⊥) → L a.life a.no.0 → ((l : Life) (n : ℕ) → K l n → L l n)
     → Distinct K m → Distinct L (after_arrive m a o)
 unfolding after_arrive
@@ -156,6 +172,7 @@ arrived_distinct K L m a (Some w) new known more d =
       once = λ p q h k s n. pair_once m.pairs (record { recv = w; message = a }) d.once (λ x l s n. new (known_at K x.message.life a.life x.message.no.0 a.no.0 s n (d.pairs_known x l))) p q h k s n;
     }
 
+-- a greater set holds too
 distinct_more : (K L : Known) (m : Matching) → ((l : Life) (n : ℕ) → K l n → L l n) → Distinct K m → Distinct L m
 distinct_more K L m more d =
     record {
@@ -166,14 +183,17 @@ distinct_more K L m more d =
       once = d.once;
     }
 
+-- the same of a run of one post
 post_distinct : (K : Known) (m : Matching) (w : PostedRecv) → Distinct K m → Distinct K (run m (Post w ∷ []))
 unfolding run after
 post_distinct K m w d = posted_distinct K m w (find (accepts w) m.arrived) refl d
 
+-- a cancel takes no message
 withdraw_distinct : (K : Known) (m : Matching) (n : ℕ) → Distinct K m → Distinct K (run m (Cancel n ∷ []))
 unfolding run after
 withdraw_distinct K m n d = record { apart = d.apart; waiting_known = d.waiting_known; pairs_known = d.pairs_known; gone = d.gone; once = d.once }
 
+-- forgotten lives lose the messages that wait
 forgets_distinct : (K : Known) (lives : List Life) (m : Matching) → Distinct K m → Distinct K (run m (map Forget lives))
 unfolding run after
 forgets_distinct K [] m d = d
@@ -186,27 +206,33 @@ forgets_distinct K (l ∷ ls) m d =
       once = d.once;
     })
 
+-- no number of the list is that one
 abbrev LacksNumber : ℕ → List ℕ → Type 0
 LacksNumber n [] = Unit {0}
 LacksNumber n (k ∷ ks) = (k ≡ n → ⊥) × LacksNumber n ks
 
+-- each number stands in the list once
 abbrev NumbersApart : List ℕ → Type 0
 NumbersApart [] = Unit {0}
 NumbersApart (k ∷ ks) = LacksNumber k ks × NumbersApart ks
 
+-- an element of the list is another number
 lacks_number : (n k : ℕ) (ks : List ℕ) → LacksNumber n ks → Member k ks → k ≡ n → ⊥
 lacks_number n k [] l h e = elim h [ ]
 lacks_number n k (j ∷ ks) l (inl is) e = l.0 (is ∙ e)
 lacks_number n k (j ∷ ks) l (inr h) e = lacks_number n k ks l.1 h e
 
+-- another number may be added
 lacks_push : (n k : ℕ) (ks : List ℕ) → LacksNumber n ks → (k ≡ n → ⊥) → LacksNumber n (ks ++ k ∷ [])
 lacks_push n k [] l h = (h, tt)
 lacks_push n k (j ∷ ks) l h = (l.0, lacks_push n k ks l.1 h)
 
+-- and so to numbers that are apart
 apart_push : (k : ℕ) (ks : List ℕ) → NumbersApart ks → ((j : ℕ) → Member j ks → j ≡ k → ⊥) → NumbersApart (ks ++ k ∷ [])
 apart_push k [] l h = (tt, tt)
 apart_push k (j ∷ ks) l h = (lacks_push j k ks l.0 (λ e. h j (inl refl) (sym e)), apart_push k ks l.1 (λ i m. h i (inr m)))
 
+-- the numbers below n are below it
 below_member : (n k : ℕ) → Member k (below n) → k < n
 unfolding below
 below_member zero k h = elim h [ ]
@@ -216,35 +242,43 @@ below_member (suc n) k h =
       | inr a ↦ elim a [ inl is ↦ omega arith | inr never ↦ elim never [ ] ]
     ]
 
+-- each of them once
 below_apart : (n : ℕ) → NumbersApart (below n)
 unfolding below
 below_apart zero = tt
 below_apart (suc n) = apart_push n (below n) (below_apart n) (λ j h e. let l = below_member n j h in omega arith)
 
+-- a filter lacks no less
 lacks_filter : (p : ℕ → Bool) (n : ℕ) (ks : List ℕ) → LacksNumber n ks → LacksNumber n (filter p ks)
 lacks_filter p n [] l = tt
 lacks_filter p n (k ∷ ks) l = elim (p k) as (λ x. LacksNumber n (cond x (k ∷ filter p ks) (filter p ks))) [ true ↦ (l.0, lacks_filter p n ks l.1) | false ↦ lacks_filter p n ks l.1 ]
 
+-- and its numbers stay apart
 apart_filter : (p : ℕ → Bool) (ks : List ℕ) → NumbersApart ks → NumbersApart (filter p ks)
 apart_filter p [] l = tt
 apart_filter p (k ∷ ks) l = elim (p k) as (λ x. NumbersApart (cond x (k ∷ filter p ks) (filter p ks))) [ true ↦ (lacks_filter p k ks l.0, apart_filter p ks l.1) | false ↦ apart_filter p ks l.1 ]
 
+-- numbers that are moved on lack the number moved on
 numbers_lack : (first n : ℕ) (ks : List ℕ) → LacksNumber n ks → LacksNumber (first + n) (map (λ k. first + k) ks)
 numbers_lack first n [] l = tt
 numbers_lack first n (k ∷ ks) l = ((λ e. l.0 (omega arith)), numbers_lack first n ks l.1)
 
+-- and stay apart
 numbers_apart : (first : ℕ) (ks : List ℕ) → NumbersApart ks → NumbersApart (map (λ k. first + k) ks)
 numbers_apart first [] l = tt
 numbers_apart first (k ∷ ks) l = (numbers_lack first k ks l.0, numbers_apart first ks l.1)
 
+-- the numbers that enter by a deed are apart
 entering_apart : (first : ℕ) (d : Deed) (before : List Deed) (source : Life) → NumbersApart (entering first d before source)
 unfolding entering
 entering_apart first d before source =
     apart_filter _ (map (λ k. first + k) (below (length (d ∷ before)))) (numbers_apart first (below (length (d ∷ before))) (below_apart (length (d ∷ before))))
 
+-- the set and one message more
 abbrev with_number : Known → Life → ℕ → Known
 with_number K source k l n = K l n ⊎ ((l ≡ source) × (n ≡ k))
 
+-- messages that arrive in order and are new keep each message once
 arrivals_distinct : (L : Known) (heads : Heads) (source : Life) (ks : List ℕ) (K : Known) (m : Matching) → ((l : Life) (n : ℕ) → K l n → L l n)
     → ((k : ℕ) → Member k ks → L source k) → ((k : ℕ) → Member k ks → K source k → ⊥) → NumbersApart ks → Distinct K m → Distinct L (run m (map (arrival heads source) ks))
 unfolding run after
@@ -276,6 +310,7 @@ entered_still first d before source n h =
     and_from _ _ (and_from _ _ b.0 (each_below_more (λ k. is_heard before source (first + k)) (λ k. is_heard (d ∷ before) source (first + k)) (n - first)
     (λ k i. is_heard_still d before source (first + k) i) b.1)) (is_heard_still d before source n a.1)
 
+-- the events of a deed keep each message once
 events_distinct : (first : ℕ) (heads : Heads) (d : Deed) (before : List Deed) (m : Matching) → Distinct (Entered first before) m
     → Distinct (Entered first (d ∷ before)) (run m (events_by first heads before d))
 unfolding events_by run

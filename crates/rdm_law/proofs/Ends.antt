@@ -41,6 +41,7 @@ abbrev pub EndedBy : (first : ℕ) → Heads → List Deed → ℕ → Type 0
 EndedBy first heads log n =
     EndFilled first heads log n ⊎ (((recv : RecvNo) × Member (Did (Cancel recv)) log × (recv.0 ≡ n)) ⊎ EndGone first heads log n)
 
+-- a receive that concerns a life still does
 concerns_still : (first : ℕ) (heads : Heads) (d : Deed) (before : List Deed) (life : Life) (r : Receive) → concerns (pairs first heads before) life r ≡ true
     → concerns (pairs first heads (d ∷ before)) life r ≡ true
 unfolding concerns
@@ -54,15 +55,18 @@ concerns_still first heads d before life r h =
           (member_list_any t m.0 (pairs first heads (d ∷ before)) (pair_still first heads d before m.0 m.1) m.2)
     ]
 
+-- a life that was forgotten stays so
 forgotten_still : (d : Deed) (before : List Deed) (life : Life) → is_forgotten before life ≡ true → is_forgotten (d ∷ before) life ≡ true
 unfolding is_forgotten
 forgotten_still d before life h = or_left (is_forgotten before life) (list_any (same_life life) (forgotten_by before d)) h
 
+-- a life that a deed forgets is forgotten
 forgotten_now : (d : Deed) (before : List Deed) (life : Life) → Member life (forgotten_by before d) → is_forgotten (d ∷ before) life ≡ true
 unfolding is_forgotten
 forgotten_now d before life h =
     or_right (is_forgotten before life) (list_any (same_life life) (forgotten_by before d)) (member_list_any (same_life life) life (forgotten_by before d) h (same_life-refl life))
 
+-- a receive that ended stays so, in the same way
 ended_still : (first : ℕ) (heads : Heads) (d : Deed) (before : List Deed) (n : ℕ) → EndedBy first heads before n → EndedBy first heads (d ∷ before) n
 ended_still first heads d before n (inl e) =
     inl (record { pair = e.pair; member = pair_still first heads d before e.pair e.member; recv_is = e.recv_is; filled = filled_still first heads d before e.pair e.filled })
@@ -77,12 +81,14 @@ ended_still first heads d before n (inr (inr e)) =
       concerns' = concerns_still first heads d before e.life e.recv e.concerns';
     }))
 
+-- what a deed withdraws, it cancels
 withdrawn_from : (d : Deed) (e : RecvEnd) → Member e (withdrawn_by d) → (recv : RecvNo) × (d ≡ Did (Cancel recv)) × (e ≡ Withdrawn recv.0)
 unfolding withdrawn_by
 withdrawn_from (Did (Cancel recv)) e (inl is) = (recv, refl, sym is)
 withdrawn_from (Did (Cancel recv)) e (inr never) = elim never [ ]
 withdrawn_from _ e h = elim h [ ]
 
+-- what a deed fills is a pair that is filled
 filled_from : (first : ℕ) (heads : Heads) (d : Deed) (before : List Deed) (p : Pair) → Member p (filled_by first heads d before)
     → Member p (pairs first heads (d ∷ before)) × (is_filled first heads (d ∷ before) p ≡ true)
 unfolding filled_by
@@ -90,6 +96,7 @@ filled_from first heads d before p h =
     let m = member-filter (λ p. is_filled first heads (d ∷ before) p && not (is_filled first heads before p)) p (pairs first heads (d ∷ before)) h in
     (m.0, (and_parts (is_filled first heads (d ∷ before) p) (not (is_filled first heads before p)) m.1).0)
 
+-- what goes with a life concerns it
 gone_from : (first : ℕ) (heads : Heads) (before : List Deed) (ends : List RecvEnd) (life : Life) (e : RecvEnd) → Member e (gone_with first heads before ends life)
     → (r : Receive) × Member r (receives before) × (concerns (pairs first heads before) life r ≡ true) × (e ≡ Gone r.number)
 unfolding gone_with
@@ -99,6 +106,7 @@ gone_from first heads before ends life e h =
     let f = member-filter t m.0 (receives before) m.1 in
     (m.0, f.0, (and_parts (concerns (pairs first heads before) life m.0) (not (has_ended ends m.0.number)) f.1).0, sym m.2)
 
+-- what ends by a deed ends in one of the three ways
 newly_ended : (first : ℕ) (heads : Heads) (d : Deed) (before : List Deed) (ends : List RecvEnd) (e : RecvEnd) → Member e (recv_ends_by first heads d before ends)
     → EndedBy first heads (d ∷ before) (ended_recv e)
 unfolding recv_ends_by ended_recv
@@ -124,6 +132,7 @@ newly_ended first heads d before ends e h =
           }))
     ]
 
+-- so each receive that ended did
 end_of : (first : ℕ) (heads : Heads) (log : List Deed) (e : RecvEnd) → Member e (recv_ends first heads log) → EndedBy first heads log (ended_recv e)
 unfolding recv_ends with_recv_ends
 end_of first heads [] e h = elim h [ ]

@@ -71,6 +71,7 @@ pub record FirstTaken (log : List Deed) (source : Life) (n k : ℕ) : Type 0 whe
   pub number_is : number.0 ≡ n
   pub length_is : length bytes ≡ k
 
+-- the first part of a form that has one
 first_in : (source : Life) (n k : ℕ) (number : MsgNo) (tag : Option ℕ) (opt : Opt) (form : Form) (d : Deed) (log : List Deed)
     → d ≡ Took source (Spelled (Rtm number tag opt form)) → number.0 ≡ n → first_part_in form ≡ Some k → FirstTaken (d ∷ log) source n k
 unfolding first_part_in
@@ -81,6 +82,7 @@ first_in source n k number tag opt (F.Medium size offset bytes) d log is e h = c
 first_in source n k number tag opt (F.LongRead size send iov) d log is e h = cc
 first_in source n k number tag opt (F.Runt size send iov runt offset bytes) d log is e h = cc
 
+-- the first part that a deed took
 first_by_taken : (source : Life) (n k : ℕ) (d : Deed) (log : List Deed) → first_part_by source n d ≡ Some k → FirstTaken (d ∷ log) source n k
 unfolding first_part_by
 first_by_taken source n k (Took from (Spelled (Rtm number tag opt form))) log h =
@@ -94,6 +96,7 @@ first_by_taken source n k (Took from (Spelled (Rtm number tag opt form))) log h 
     ]) refl h
 first_by_taken source n k _ log h = cc
 
+-- a first part that was taken is of a packet that was
 first_taken : (log : List Deed) (source : Life) (n k : ℕ) → first_part_taken log source n ≡ Some k → FirstTaken log source n k
 unfolding first_part_taken
 first_taken [] source n k h = cc
@@ -105,6 +108,7 @@ first_taken (d ∷ before) source n k h =
       | inr a ↦ first_by_taken source n k d before a.1
     ]
 
+-- the shape of a long message
 long_shape : (limits : EpLimits) (m : Message) (kind : Kind) → kind ≡ LongCts → shape_by limits m kind ≡ S.LongCts m.send limits.credits
 unfolding shape_by
 long_shape limits m kind e = rw e refl

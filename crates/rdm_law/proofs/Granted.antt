@@ -112,6 +112,7 @@ pushed_within : (own : Own) (log : List Deed) (s : Sent) (p : Packet) (x : Piece
     → x.offset + length x.bytes ≤ allowed_of own log s
 pushed_within own log s p x k t h = part_within_allowed own log s p x (turn_is own s p k log t) h
 
+-- a long send is not read
 long_not_read : (kind : Kind) → kind ≡ LongCts → is_read kind ≡ true → ⊥
 unfolding is_read
 long_not_read Eager e h = cc

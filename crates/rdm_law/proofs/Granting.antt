@@ -134,6 +134,7 @@ pub record CtsWent (job : Job) (history : List Entry) (i j : Life) (send recv : 
   pub window' : WindowAt (own_of job i) (account job history i) pair start size answer.place (life_deeds job history i)
   pub answered : Answered (own_of job i) (account job history i) answer k (life_deeds job history i)
 
+-- a pair whose message is long is granting the send of that message
 cts_granting : (job : Job) (history : List Entry) (i j source : Life) (p : Pair) (send : OpId) (credits : ℕ) → Member p (pairs_of job history i) → p.message.life ≡ source → source ≡ j
     → (k : Known job history i source p.message.no.0) → (account job history i).head p.message.life p.message.no.0 ≡ message_head job.limits k.sent.message k.sent.kind
     → shape_in (account job history i).head p ≡ S.LongCts send credits → Granting job history i j p k.sent × (k.sent.message.send ≡ send)
@@ -153,9 +154,11 @@ cts_granting job history i j source p send credits m l e k head shape =
       long.0,
     )
 
+-- a grant is no packet of a send
 no_send : (send recv : OpId) (size : ℕ) (connid : Connid) → IsOfSend (Cts send recv size connid) → ⊥
 no_send send recv size connid h = elim h [ ]
 
+-- a grant that was pushed is of a window of a pair that grants a send
 pub cts_went : (job : Job) (history : List Entry) (i j : Life) (send recv : OpId) (size : ℕ) (connid : Connid) (d : Datagram) → Played job history
     → (t : TakenTurn job history j i (Spelled (Cts send recv size connid)) d) → CtsWent job history i j send recv size t.place
 cts_went job history i j send recv size connid d played t =
@@ -170,6 +173,7 @@ cts_went job history i j send recv size connid d played t =
     let g = cts_granting job history i j w.pair.message.life w.pair send w.credits m refl (w.to_is ∙ r.to_is) k.known k.head_is w.shape_is in
     record { pair = w.pair; sent = k.known.sent; granting = g.0; send_is = g.1; recv_is = w.recv_is; start = w.start; answer = a.0; window' = w.window'; answered = a.1 }
 
+-- a send stays one of the life's as the history grows
 sends_longer : (job : Job) (e : Entry) (before : List Entry) (l : Life) (s : Sent) → Member s (sends_of job before l) → Member s (sends_of job (e ∷ before) l)
 sends_longer job e before l s h =
     let own = own_of job l in
@@ -181,6 +185,7 @@ sends_longer job e before l s h =
     member_later own (heard_by first (d ∷ log)) d log s
     (subst (λ (x : List Sent). Member s x) (sends_same own (heard_by first log) (heard_by first (d ∷ log)) log (agree_grows first d log)) h)) h
 
+-- and a pair one of the life's
 pairs_longer : (job : Job) (e : Entry) (before : List Entry) (l : Life) (p : Pair) → Member p (pairs_of job before l) → Member p (pairs_of job (e ∷ before) l)
 pairs_longer job e before l p h =
     let own = own_of job l in

@@ -45,6 +45,7 @@ pub record NewTake (job : Job) (before : List Entry) (e : Entry) (l source : Lif
   pub fresh : IsUnhandled datagram before
   pub handled : HandledBy l.port.0 datagram (e ∷ before)
 
+-- the same, by the port and identifier of the life
 new_take_at : (job : Job) (before : List Entry) (e : Entry) (port : ℕ) (c : Connid) (source : Life) (item : Item) → Played job (e ∷ before) → e.port.0 ≡ port
     → open_life (deeds_at job port (log_of port before)) ≡ Some c → deed_of (rank_of job port).ops e.act ≡ Took source item
     → NewTake job before e (life_of port c) source item
@@ -62,6 +63,7 @@ new_take_at job before e port c source item played s o is =
       handled = inl (r.1, r.3, s);
     }
 
+-- what a life takes by the newest entry is a datagram that came over the wire
 pub new_take : (job : Job) (before : List Entry) (e : Entry) (l source : Life) (item : Item) → Played job (e ∷ before) → e.port.0 ≡ l.port.0
     → open_life (port_deeds job l.port.0 before) ≡ Some l.connid → deed_of (rank_of job l.port.0).ops e.act ≡ Took source item
     → NewTake job before e l source item

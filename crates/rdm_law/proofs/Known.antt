@@ -51,15 +51,7 @@ pub record HeadTaken (log : List Deed) (source : Life) (n : ℕ) (h : Head) : Ty
   pub number_is : number.0 ≡ n
   pub head_is : head_of tag opt form ≡ h
 
-<<<<<<< HEAD
--- a value that a test gives: the test holds
-pub then_parts : {A : Type 0} (b : Bool) (x y : A) → then_some b x ≡ Some y → (b ≡ true) × (x ≡ y)
-then_parts true x y h = (refl, cc)
-then_parts false x y h = cc
-
 -- a head that a deed tells is of a packet that it took
-=======
->>>>>>> 9709ba3 (Say once what a value that is there if a test holds says)
 head_by_taken : (source : Life) (n : ℕ) (d : Deed) (before : List Deed) (h : Head) → head_by source n d ≡ Some h → HeadTaken (d ∷ before) source n h
 unfolding head_by
 head_by_taken source n (Took from (Spelled (Rtm number tag opt form))) before h is =

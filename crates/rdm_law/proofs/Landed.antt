@@ -74,9 +74,11 @@ missing_apart ps size offset len q m h =
           ]
     ]) refl
 
+-- a piece that is missing is apart from all that came
 missing_all : (ps : List Piece) (size offset : ℕ) (bytes : List ℕ) → is_missing ps size offset (length bytes) ≡ true → IsApart (record { offset = offset; bytes = bytes }) ps
 missing_all ps size offset bytes m q h = missing_apart ps size offset (length bytes) q m h
 
+-- bytes that are not taken are missing
 not_taken : (s : Scene) (source : Life) (n offset len : ℕ) → is_taken s source n offset len ≡ false
     → is_missing (carried_pieces s.own.limits.first s.ms.head s.log source n) (s.ms.head source n).length offset len ≡ true
 unfolding is_taken
@@ -89,6 +91,7 @@ pub record LivePair (s : Scene) (from : Life) (n : ℕ) (p : Pair) : Type 0 wher
   pub life_is : p.message.life ≡ from
   pub live : has_ended (recv_ends s.own.limits.first s.ms.head s.log) n ≡ false
 
+-- the pair that is found is of that receive and life
 pub live_pair_parts : (s : Scene) (from : Life) (n : ℕ) (p : Pair) → live_pair s from n ≡ Some p → LivePair s from n p
 unfolding live_pair is_recv
 live_pair_parts s from n p h =
@@ -98,6 +101,7 @@ live_pair_parts s from n p h =
     let b = and_parts (p.recv.id.0 == n) (same_life p.message.life from) a.0 in
     record { member = m.0; recv_is = eqb-true p.recv.id.0 n b.0; life_is = same_life-true p.message.life from b.1; live = not-true _ a.1 }
 
+-- a shape that passes is of a pair
 shaped : (s : Scene) (test : Shape → Bool) (o : Option Pair) → has_shape s test o ≡ true → (p : Pair) × (o ≡ Some p)
 unfolding has_shape
 shaped s test None h = cc
@@ -116,6 +120,7 @@ pair_missing s from recv n offset len p h k t =
     let P : Life → ℕ → Type 0 = λ l o. is_missing (carried_pieces s.own.limits.first s.ms.head s.log l o) (s.ms.head l o).length offset len ≡ true in
     subst (λ o. P from o) number (subst (λ l. P l p.message.no.0) life (not_taken s p.message.life p.message.no.0 offset len t))
 
+-- bytes for a live receive that are not taken are missing
 data_missing : (s : Scene) (from : Life) (recv n offset len : ℕ) (test : Shape → Bool) (o : Option Pair) → live_pair s from recv ≡ o
     → has_shape s test o ≡ true → is_pair (pairs s.own.limits.first s.ms.head s.log) recv from n ≡ true → is_taken_pair s offset len o ≡ false
     → is_missing (carried_pieces s.own.limits.first s.ms.head s.log from n) (s.ms.head from n).length offset len ≡ true
@@ -138,14 +143,17 @@ opening_missing s from n (Eager bytes) x h e = cc
 opening_missing s from n (LongCts size send credits bytes) x h e = cc
 opening_missing s from n (LongRead size send iov) x h e = cc
 
+-- where not both of two tests hold
 and_false : (a b : Bool) → (a && b) ≡ false → (a ≡ false) ⊎ ((a ≡ true) × (b ≡ false))
 and_false true b h = inr (refl, h)
 and_false false b h = inl refl
 
+-- where neither of two tests holds
 or_false : (a b : Bool) → (a || b) ≡ false → (a ≡ false) × (b ≡ false)
 or_false true b h = cc
 or_false false b h = (refl, h)
 
+-- a packet that opens a message and is taken has new bytes
 rtm_new : (s : Scene) (from : Life) (n : ℕ) (tag : Option ℕ) (opt : Opt) (number : MsgNo) (form : Form) (x : Piece) → number.0 ≡ n
     → is_overlap s from (Spelled (Rtm number tag opt form)) ≡ false → piece_of form ≡ Some x
     → IsApart x (carried_pieces s.own.limits.first s.ms.head s.log from n)
@@ -162,6 +170,7 @@ rtm_new s from n tag opt number form x e h is q m =
           missing_apart (carried_pieces s.own.limits.first s.ms.head s.log from n) (s.ms.head from n).length x.offset (length x.bytes) q (opening_missing s from n form x r is) m
     ]
 
+-- granted bytes that are taken are missing
 granted_missing : (s : Scene) (from : Life) (n : ℕ) (x : Piece) (recv : OpId) (connid : Connid) → is_no_op s from (Spelled (CtsData recv x.offset connid x.bytes)) ≡ false
     → is_overlap s from (Spelled (CtsData recv x.offset connid x.bytes)) ≡ false → is_pair (pairs s.own.limits.first s.ms.head s.log) recv.0 from n ≡ true
     → is_missing (carried_pieces s.own.limits.first s.ms.head s.log from n) (s.ms.head from n).length x.offset (length x.bytes) ≡ true
@@ -169,6 +178,7 @@ unfolding is_no_op is_overlap
 granted_missing s from n x recv connid op over paired =
     data_missing s from recv.0 n x.offset (length x.bytes) is_long_shape (live_pair s from recv.0) refl (not-false (has_shape s is_long_shape (live_pair s from recv.0)) op) paired over
 
+-- read bytes that are taken are missing
 given_missing : (s : Scene) (from : Life) (n : ℕ) (g : ReadData) → is_no_op s from (Gives g) ≡ false → is_overlap s from (Gives g) ≡ false
     → is_pair (pairs s.own.limits.first s.ms.head s.log) g.recv_id.0 from n ≡ true
     → is_missing (carried_pieces s.own.limits.first s.ms.head s.log from n) (s.ms.head from n).length g.at (length g.bytes) ≡ true
@@ -176,6 +186,7 @@ unfolding is_no_op is_overlap
 given_missing s from n g op over paired =
     data_missing s from g.recv_id.0 n g.at (length g.bytes) is_read_shape (live_pair s from g.recv_id.0) refl (not-false (has_shape s is_read_shape (live_pair s from g.recv_id.0)) op) paired over
 
+-- a piece that is brought is apart from those that came
 brought_new : (s : Scene) (from : Life) (n : ℕ) (item : Item) (x : Piece) → is_no_op s from item ≡ false → is_overlap s from item ≡ false
     → Brought (pairs s.own.limits.first s.ms.head s.log) from n item x → IsApart x (carried_pieces s.own.limits.first s.ms.head s.log from n)
 brought_new s from n item x op over (inl b) q m =

@@ -47,6 +47,7 @@ withdraws m bound n r numbered f =
       subst (λ k. k < bound) e (numbered.posted_below r found.0),
     )
 
+-- a cancel that did is of a posted receive
 did_posted : (s : Scene) (recv : RecvNo) (what : DidWhat) → answer_of s (Cancel recv) ≡ DidAnswer what → is_posted s recv.0 ≡ true
 unfolding answer_of first_case
 did_posted s recv what h =
@@ -55,14 +56,17 @@ did_posted s recv what h =
       | false ↦ λ k. cc
     ]) h
 
+-- a posted receive is found
 posted_recv : (s : Scene) (n : ℕ) → is_posted s n ≡ true → (r : PostedRecv) × (find (is_recv n) (matching s.own.limits.first s.ms.head s.log).posted ≡ Some r)
 unfolding is_posted
 posted_recv s n h = some_of (find (is_recv n) (matching s.own.limits.first s.ms.head s.log).posted) h
 
+-- what a cancel leaves
 cancel_run : (first : ℕ) (heads : Heads) (recv : RecvNo) (before : List Deed) → matching first heads (Did (Cancel recv) ∷ before) ≡ after (matching first heads before) (CancelEvent recv.0)
 unfolding matching events_by run
 cancel_run first heads recv before = refl
 
+-- the same of an equal matching
 absent_at : (n : ℕ) (m k : Matching) → m ≡ k → Absent n m → Absent n k
 absent_at n m k e a = subst (λ (x : Matching). Absent n x) e a
 
@@ -100,17 +104,20 @@ pub record PairRecv (log : List Deed) (p : Pair) : Type 0 where
   pub number_is : recv.number ≡ p.recv.id.0
   pub posted_is : recv.posted ≡ p.recv
 
+-- the receive of a pair was accepted
 pub pair_recv : (first : ℕ) (heads : Heads) (log : List Deed) (p : Pair) → Member p (pairs first heads log) → PairRecv log p
 pair_recv first heads log p h =
     let a = (posted_accepted first heads log).paired p h in
     let s = (receive_stands log a.recv a.accepted).1 in
     record { recv = a.recv; accepted = a.accepted; number_is = sym s ∙ ap (λ (x : PostedRecv). x.id.0) a.posted_is; posted_is = a.posted_is }
 
+-- a receive that names one life takes messages of it alone
 from_life : (o : Option Life) (a life : Life) → is_life_or_none o a ≡ true → is_life o life ≡ true → a ≡ life
 unfolding is_life_or_none is_life
 from_life None a life h k = cc
 from_life (Some b) a life h k = sym (same_life-true b a h) ∙ same_life-true b life k
 
+-- so the message that it accepts is of that life
 from_accepted : (r : PostedRecv) (m : Arrived) (life : Life) → accepts r m ≡ true → is_life r.from life ≡ true → m.life ≡ life
 unfolding accepts
 from_accepted r m life a h = from_life r.from m.life life (and_parts (is_life_or_none r.from m.life) (tags_agree r.want m.tag) a).0 h

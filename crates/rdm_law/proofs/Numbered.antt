@@ -19,26 +19,32 @@ abbrev pub Lacks : ℕ → List PostedRecv → Type 0
 Lacks n [] = Unit {0}
 Lacks n (w ∷ ws) = (w.id.0 ≡ n → ⊥) × Lacks n ws
 
+-- each receive of the list has a number of its own
 abbrev pub Apart : List PostedRecv → Type 0
 Apart [] = Unit {0}
 Apart (w ∷ ws) = Lacks w.id.0 ws × Apart ws
 
+-- no pair has that receive
 abbrev pub LacksPair : ℕ → List Pair → Type 0
 LacksPair n [] = Unit {0}
 LacksPair n (p ∷ ps) = (p.recv.id.0 ≡ n → ⊥) × LacksPair n ps
 
+-- each pair of the list, by its place, has a receive of its own
 abbrev pub PairsApart : List Pair → Type 0
 PairsApart [] = Unit {0}
 PairsApart (p ∷ ps) = LacksPair p.recv.id.0 ps × PairsApart ps
 
+-- a pair of another receive may be added
 lacks_pair_push : (n : ℕ) (q : Pair) (ps : List Pair) → LacksPair n ps → (q.recv.id.0 ≡ n → ⊥) → LacksPair n (ps ++ q ∷ [])
 lacks_pair_push n q [] l h = (h, tt)
 lacks_pair_push n q (p ∷ ps) l h = (l.0, lacks_pair_push n q ps l.1 h)
 
+-- and so to pairs that are apart
 pairs_push : (q : Pair) (ps : List Pair) → PairsApart ps → ((p : Pair) → Member p ps → p.recv.id.0 ≡ q.recv.id.0 → ⊥) → PairsApart (ps ++ q ∷ [])
 pairs_push q [] a h = (tt, tt)
 pairs_push q (p ∷ ps) a h = (lacks_pair_push p.recv.id.0 q ps a.0 (λ e. h p (inl refl) (sym e)), pairs_push q ps a.1 (λ r k. h r (inr k)))
 
+-- receives that are posted and those that were paired have numbers of their own, below a bound
 pub record Numbered (bound : ℕ) (m : Matching) : Type 0 where
   pub apart : Apart m.posted
   pub pairs_apart : PairsApart m.pairs
@@ -47,33 +53,39 @@ pub record Numbered (bound : ℕ) (m : Matching) : Type 0 where
   pub gone : (p : Pair) (w : PostedRecv) → Member p m.pairs → Member w m.posted → p.recv.id.0 ≡ w.id.0 → ⊥
   pub once : (p q : Pair) → Member p m.pairs → Member q m.pairs → p.recv.id.0 ≡ q.recv.id.0 → p ≡ q
 
+-- an element of a list that lacks a number has another one
 pub lacks_member : (n : ℕ) (w : PostedRecv) (ws : List PostedRecv) → Lacks n ws → Member w ws → w.id.0 ≡ n → ⊥
 lacks_member n w [] l h e = elim h [ ]
 lacks_member n w (v ∷ ws) l (inl a) e = l.0 (ap (λ (x : PostedRecv). x.id.0) a ∙ e)
 lacks_member n w (v ∷ ws) l (inr a) e = lacks_member n w ws l.1 a e
 
+-- a list without one of its elements lacks no less
 lacks_without : (t : PostedRecv → Bool) (n : ℕ) (ws : List PostedRecv) → Lacks n ws → Lacks n (without_first t ws)
 unfolding without_first
 lacks_without t n [] l = tt
 lacks_without t n (w ∷ ws) l =
     elim (t w) as (λ b. Lacks n (cond b ws (w ∷ without_first t ws))) [ true ↦ l.1 | false ↦ (l.0, lacks_without t n ws l.1) ]
 
+-- and its elements stay apart
 apart_without : (t : PostedRecv → Bool) (ws : List PostedRecv) → Apart ws → Apart (without_first t ws)
 unfolding without_first
 apart_without t [] l = tt
 apart_without t (w ∷ ws) l =
     elim (t w) as (λ b. Apart (cond b ws (w ∷ without_first t ws))) [ true ↦ l.1 | false ↦ (lacks_without t w.id.0 ws l.0, apart_without t ws l.1) ]
 
+-- a filter lacks no less
 lacks_filter : (t : PostedRecv → Bool) (n : ℕ) (ws : List PostedRecv) → Lacks n ws → Lacks n (filter t ws)
 lacks_filter t n [] l = tt
 lacks_filter t n (w ∷ ws) l =
     elim (t w) as (λ b. Lacks n (cond b (w ∷ filter t ws) (filter t ws))) [ true ↦ (l.0, lacks_filter t n ws l.1) | false ↦ lacks_filter t n ws l.1 ]
 
+-- and its elements stay apart
 apart_filter : (t : PostedRecv → Bool) (ws : List PostedRecv) → Apart ws → Apart (filter t ws)
 apart_filter t [] l = tt
 apart_filter t (w ∷ ws) l =
     elim (t w) as (λ b. Apart (cond b (w ∷ filter t ws) (filter t ws))) [ true ↦ (lacks_filter t w.id.0 ws l.0, apart_filter t ws l.1) | false ↦ apart_filter t ws l.1 ]
 
+-- the list without its first element that passes lacks that one's number
 pub first_lacks : (t : PostedRecv → Bool) (w : PostedRecv) (ws : List PostedRecv) → Apart ws → find t ws ≡ Some w → Lacks w.id.0 (without_first t ws)
 unfolding without_first
 first_lacks t w [] l h = tt
@@ -83,14 +95,17 @@ first_lacks t w (v ∷ ws) l h =
       | false ↦ λ k. (λ e. lacks_member v.id.0 w ws l.0 ((find_member t w ws k).0) (sym e), first_lacks t w ws l.1 k)
     ]) h
 
+-- a receive of another number may be added
 lacks_push : (n : ℕ) (w : PostedRecv) (ws : List PostedRecv) → Lacks n ws → (w.id.0 ≡ n → ⊥) → Lacks n (ws ++ w ∷ [])
 lacks_push n w [] l h = (h, tt)
 lacks_push n w (v ∷ ws) l h = (l.0, lacks_push n w ws l.1 h)
 
+-- and so to receives that are apart
 apart_push : (w : PostedRecv) (ws : List PostedRecv) → Apart ws → ((v : PostedRecv) → Member v ws → v.id.0 ≡ w.id.0 → ⊥) → Apart (ws ++ w ∷ [])
 apart_push w [] l h = (tt, tt)
 apart_push w (v ∷ ws) l h = (lacks_push v.id.0 w ws l.0 (λ e. h v (inl refl) (sym e)), apart_push w ws l.1 (λ x k. h x (inr k)))
 
+-- a greater bound holds too
 pub numbered_more : (b c : ℕ) (m : Matching) → b ≤ c → Numbered b m → Numbered c m
 numbered_more b c m le n =
     record {
@@ -102,6 +117,7 @@ numbered_more b c m le n =
       once = n.once;
     }
 
+-- pairs of one receive stay one pair, with a new pair of another receive
 pair_once : (ps : List Pair) (new : Pair) → ((p q : Pair) → Member p ps → Member q ps → p.recv.id.0 ≡ q.recv.id.0 → p ≡ q)
     → ((p : Pair) → Member p ps → p.recv.id.0 ≡ new.recv.id.0 → ⊥)
     → (p q : Pair) → Member p (ps ++ new ∷ []) → Member q (ps ++ new ∷ []) → p.recv.id.0 ≡ q.recv.id.0 → p ≡ q
@@ -120,6 +136,7 @@ pair_once ps new once other p q h k e =
       ]
     ]
 
+-- a post of the number at the bound
 posted_numbered : (b c : ℕ) (m : Matching) (w : PostedRecv) (o : Option Arrived) → b ≤ w.id.0 → w.id.0 < c → Numbered b m → Numbered c (after_post m w o)
 unfolding after_post
 posted_numbered b c m w None from to n =
@@ -153,6 +170,7 @@ posted_numbered b c m w (Some a) from to n =
       once = λ p q h k e. pair_once m.pairs (record { recv = w; message = a }) n.once (λ x l s. let y = n.pairs_below x l in omega arith) p q h k e;
     }
 
+-- an arrival that takes a posted receive
 arrived_numbered : (b : ℕ) (m : Matching) (a : Arrived) (t : PostedRecv → Bool) (o : Option PostedRecv) → find t m.posted ≡ o → Numbered b m
     → ((w : PostedRecv) → o ≡ Some w → after_arrive m a o ≡ record { posted = without_first t m.posted; arrived = m.arrived; pairs = m.pairs ++ record { recv = w; message = a } ∷ [] })
     → Numbered b (after_arrive m a o)
@@ -178,17 +196,20 @@ arrived_numbered b m a t (Some w) f n is =
       once = λ p q h k e. pair_once m.pairs (record { recv = w; message = a }) n.once (λ x l s. n.gone x w l here s) p q h k e;
     })
 
+-- a posted receive is at the bound, and other events leave it
 abbrev pub EventNumber : ℕ → ℕ → Event → Type 0
 EventNumber b c (Post w) = (b ≤ w.id.0) × (w.id.0 < c)
 EventNumber b c (Arrive a) = b ≤ c
 EventNumber b c (Cancel n) = b ≤ c
 EventNumber b c (Forget l) = b ≤ c
 
+-- what an arrival that meets a receive leaves
 arrived_is : (m : Matching) (a : Arrived) (o : Option PostedRecv) (w : PostedRecv) → o ≡ Some w
     → after_arrive m a o ≡ record { posted = without_first (λ w. accepts w a) m.posted; arrived = m.arrived; pairs = m.pairs ++ record { recv = w; message = a } ∷ [] }
 unfolding after_arrive
 arrived_is m a o w h = rw h
 
+-- each event keeps the numbers apart
 step_numbered : (b c : ℕ) (m : Matching) (e : Event) → EventNumber b c e → Numbered b m → Numbered c (after m e)
 unfolding after
 step_numbered b c m (Post w) h n = posted_numbered b c m w (find (accepts w) m.arrived) h.0 h.1 n
@@ -219,6 +240,7 @@ unfolding run
 run_numbered b m [] h n = n
 run_numbered b m (e ∷ es) h n = run_numbered b (after m e) es (λ x k. h x (inr k)) (step_numbered b b m e (h e (inl refl)) n)
 
+-- one event keeps them apart, up to its bound
 pub run_post : (b c : ℕ) (m : Matching) (e : Event) → EventNumber b c e → Numbered b m → Numbered c (run m (e ∷ []))
 unfolding run
 run_post b c m e h n = step_numbered b c m e h n
@@ -232,6 +254,7 @@ received_count rs before d = let e = length-append rs (received_by rs before d) 
 others_numbered : (b c : ℕ) (m : Matching) (es : List Event) → b ≤ c → ((e : Event) → Member e es → EventNumber b b e) → Numbered b m → Numbered c (run m es)
 others_numbered b c m es le h n = numbered_more b c _ le (run_numbered b m es h n)
 
+-- the events of a deed keep them apart, below the count of receives
 events_numbered : (first : ℕ) (heads : Heads) (d : Deed) (before : List Deed) (m : Matching) → Numbered (length (receives before)) m
     → Numbered (length (with_received before d (receives before))) (run m (events_by first heads before d))
 unfolding events_by run with_received received_by

@@ -90,6 +90,7 @@ abbrev pub NewReply : Own → Heads → List Sent → Deed → List Deed → Rep
 NewReply own heads sents d before r =
     NewShake own d before r ⊎ (NewAsk own heads d before r ⊎ (NewCts own heads d before r ⊎ (NewEnd own heads d before r ⊎ NewGiven sents d r)))
 
+-- what answers a first datagram is the handshake
 pub shake_from : (own : Own) (before : List Deed) (d : Deed) (r : Reply) → Member r (handshake_by own before d) → NewShake own d before r
 unfolding handshake_by
 shake_from own before (Took from item) r h =
@@ -103,6 +104,7 @@ shake_from own before (Took from item) r h =
     ]) refl h
 shake_from own before _ r h = elim h [ ]
 
+-- what a window makes owed is a grant of a long message
 pub grant_from : (own : Own) (shape : Shape) (recv : OpId) (size : ℕ) (x : Item) → Member x (grant_for own shape recv size)
     → (send : OpId) × (credits : ℕ) × (shape ≡ LongCts send credits) × (0 < size) × (x ≡ Spelled (Cts send recv size own.life.connid))
 unfolding grant_for
@@ -117,6 +119,7 @@ grant_from own Medium recv size x h = elim h [ ]
 grant_from own (LongRead send iov) recv size x h = elim h [ ]
 grant_from own (Runt send iov runt) recv size x h = elim h [ ]
 
+-- what a filled receive makes owed is the end of a read message
 pub end_from : (own : Own) (shape : Shape) (recv : OpId) (x : Item) → Member x (end_for own shape recv)
     → (send : OpId) × (end_for own shape recv ≡ Spelled (Eor send recv own.life.connid) ∷ []) × (x ≡ Spelled (Eor send recv own.life.connid))
 unfolding end_for
@@ -133,6 +136,7 @@ pub cond_member : {A : Type 0} (b : Bool) (xs : List A) (x : A) → Member x (co
 cond_member true xs x h = (refl, h)
 cond_member false xs x h = elim h [ ]
 
+-- what a deed makes a pair owe: an ask, a grant or an end
 abbrev pub AnyNew : Own → Heads → Deed → List Deed → Pair → Item → Type 0
 AnyNew own heads d before p x =
     ((ask : ReadAsk) × (is_pair (pairs own.limits.first heads before) p.recv.id.0 p.message.life p.message.no.0 ≡ false)
@@ -143,6 +147,7 @@ AnyNew own heads d before p x =
     ⊎ ((is_filled own.limits.first heads (d ∷ before) p ≡ true) × (is_filled own.limits.first heads before p ≡ false)
     × ((send : OpId) × (end_for own (shape_in heads p) (recv_in p) ≡ Spelled (Eor send (recv_in p) own.life.connid) ∷ []) × (x ≡ Spelled (Eor send (recv_in p) own.life.connid)))))
 
+-- what a pair owes by a deed is one of these
 pub items_from : (own : Own) (heads : Heads) (d : Deed) (before : List Deed) (p : Pair) (x : Item) → Member x (pair_items own heads d before p) → AnyNew own heads d before p x
 unfolding pair_items
 items_from own heads d before p x h =
@@ -183,6 +188,7 @@ pairs_from own heads sents d before r h =
       ]
     ]
 
+-- what an ask is given is of the send that was found
 given_to : (sents : List Sent) (from : Life) (ask : ReadAsk) (o : Option Sent) (r : Reply)
     → find (λ (s : Sent). same_life s.to from && s.number == ask.send_id.0) sents ≡ o → Member r (given_of from ask o) → NewGiven sents (Took from (Asks ask)) r
 unfolding given_of
@@ -194,6 +200,7 @@ given_to sents from ask (Some s) r e (inl is) =
     (record { ask = ask; took = refl; sent = s; member = m.0; to_is = same_life-true s.to from t.0; names = eqb-true _ _ t.1; is = refl; gives_is = refl })
 given_to sents from ask (Some s) r e (inr never) = elim never [ ]
 
+-- what a deed gives answers an ask that it takes
 pub given_from : (sents : List Sent) (d : Deed) (r : Reply) → Member r (given_by sents d) → NewGiven sents d r
 unfolding given_by
 given_from sents (Took from (Asks ask)) r h = given_to sents from ask (find (λ (s : Sent). same_life s.to from && s.number == ask.send_id.0) sents) r refl h

@@ -31,10 +31,12 @@ use Rattle.rdm_law.proofs.Owed.{shape_in, recv_in, NewReply, OwedIn, cond_member
 use Rattle.rdm_law.proofs.Clashes.{ClashShake, ClashAsk, ClashEnd, ClashGiven, Clash, clash_back, Shakes, AsksBytes, Grants, Ends, GivesBytes, kind_of, recv_of, clash_kind, clash_recv, item_of_pair}
 use Rattle.rdm_law.proofs.Causes.{owed_ask, owed_end, owed_shake, owed_given}
 
+-- a list that is there if a test holds
 unique_cond : {A : Type 0} (K : A → A → Type 0) (b : Bool) (xs : List A) → Unique K xs → Unique K (cond b xs [])
 unique_cond K true xs u = u
 unique_cond K false xs u = unique_none K
 
+-- a list that is there unless a test holds
 unique_unless : {A : Type 0} (K : A → A → Type 0) (b : Bool) (xs : List A) → Unique K xs → Unique K (cond b [] xs)
 unique_unless K true xs u = unique_none K
 unique_unless K false xs u = u
@@ -46,6 +48,7 @@ pub record Telling (K : Reply → Reply → Type 0) : Type 0 where
   pub recvs : (r s : Reply) → K r s → (kind_of r.item ≡ AsksBytes) ⊎ ((kind_of r.item ≡ Grants) ⊎ (kind_of r.item ≡ Ends)) → recv_of r.item ≡ recv_of s.item
   pub asks : (to : Life) (a b : ReadAsk) → K (reply to (Asks a)) (reply to (Asks b)) → AsksShare a b
 
+-- a deed owes one handshake at most
 shakes_unique : (K : Reply → Reply → Type 0) (own : Own) (before : List Deed) (d : Deed) → Unique K (handshake_by own before d)
 unfolding handshake_by
 shakes_unique K own before (Took from item) =
@@ -53,6 +56,7 @@ shakes_unique K own before (Took from item) =
     (unique_one K (reply from (Spelled (Handshake (own.features ∷ []) own.life.connid))))
 shakes_unique K own before _ = unique_none K
 
+-- a pair owes one grant at most by a deed
 grants_unique : (K : Item → Item → Type 0) (own : Own) (shape : Shape) (recv : OpId) (size : ℕ) → Unique K (grant_for own shape recv size)
 unfolding grant_for
 grants_unique K own (LongCts send credits) recv size =
@@ -62,6 +66,7 @@ grants_unique K own Medium recv size = unique_none K
 grants_unique K own (LongRead send iov) recv size = unique_none K
 grants_unique K own (Runt send iov runt) recv size = unique_none K
 
+-- and one end
 ends_unique : (K : Item → Item → Type 0) (own : Own) (shape : Shape) (recv : OpId) → Unique K (end_for own shape recv)
 unfolding end_for
 ends_unique K own (LongRead send iov) recv = unique_one K (Spelled (Eor send recv own.life.connid))
@@ -70,20 +75,24 @@ ends_unique K own Eager recv = unique_none K
 ends_unique K own Medium recv = unique_none K
 ends_unique K own (LongCts send credits) recv = unique_none K
 
+-- an ask is given its bytes once
 given_of_unique : (K : Reply → Reply → Type 0) (from : Life) (ask : ReadAsk) (o : Option Sent) → Unique K (given_of from ask o)
 unfolding given_of
 given_of_unique K from ask None = unique_none K
 given_of_unique K from ask (Some s) = unique_one K _
 
+-- so a deed gives once
 given_unique : (K : Reply → Reply → Type 0) (sents : List Sent) (d : Deed) → Unique K (given_by sents d)
 unfolding given_by
 given_unique K sents (Took from (Asks ask)) = given_of_unique K from ask (find (λ (s : Sent). same_life s.to from && s.number == ask.send_id.0) sents)
 given_unique K sents _ = unique_none K
 
+-- asks are asks
 asks_kind : (as' : List ReadAsk) (x : Item) → Member x (map Asks as') → kind_of x ≡ AsksBytes
 unfolding kind_of
 asks_kind as' x h = let m = member-map Asks x as' h in sym (ap kind_of m.2)
 
+-- what a pair owes by a deed has no replies of such a relation
 items_unique : (L : Reply → Reply → Type 0) → Telling L → (own : Own) (heads : Heads) (d : Deed) (before : List Deed) (p : Pair) (to : Life)
     → Unique (λ x y. L (reply to x) (reply to y)) (pair_items own heads d before p)
 unfolding pair_items kind_of
@@ -110,6 +119,7 @@ items_unique L t own heads d before p to =
     let g = end_kind y k in
     elim (member-append_cases x asks grants h) [ inl m ↦ (let f = ask_kind x m in cc) | inr m ↦ (let f = grant_kind x m in cc) ])
 
+-- and so have its replies
 pair_unique : (K : Reply → Reply → Type 0) → Telling K → (own : Own) (heads : Heads) (d : Deed) (before : List Deed) (p : Pair) → Unique K (pair_replies own heads d before p)
 unfolding pair_replies
 pair_unique K t own heads d before p =
@@ -125,6 +135,7 @@ reply_of_pair own heads d before p r h =
     let i = item_of_pair own heads d before p m.0 (items_from own heads d before p m.0 m.1) in
     subst (λ (x : Reply). ((kind_of x.item ≡ AsksBytes) ⊎ ((kind_of x.item ≡ Grants) ⊎ (kind_of x.item ≡ Ends))) × (recv_of x.item ≡ p.recv.id.0)) m.2 i
 
+-- replies of two pairs of such a relation are of one receive
 pairs_cross : (K : Reply → Reply → Type 0) → Telling K → (own : Own) (heads : Heads) (d : Deed) (before : List Deed) (p q : Pair) (r s : Reply) → Member r (pair_replies own heads d before p)
     → Member s (pair_replies own heads d before q) → K r s → p.recv.id.0 ≡ q.recv.id.0
 pairs_cross K t own heads d before p q r s h k c =
@@ -163,6 +174,7 @@ new_unique K t own ms sents d before =
       | inr m ↦ elim (pair_kind r m) [ inl a ↦ cc | inr a ↦ elim a [ inl b ↦ cc | inr b ↦ cc ] ]
     ])
 
+-- asks that clash share a byte
 asks_share : (to : Life) (a b : ReadAsk) → Clash (reply to (Asks a)) (reply to (Asks b)) → AsksShare a b
 asks_share to a b (inl c) = (let e = c.is in cc)
 asks_share to a b (inr (inl c)) =
@@ -172,6 +184,7 @@ asks_share to a b (inr (inl c)) =
 asks_share to a b (inr (inr (inl c))) = (let e = c.is in cc)
 asks_share to a b (inr (inr (inr c))) = (let e = c.is in cc)
 
+-- clashes are such a relation
 clash_tells : Telling Clash
 clash_tells =
     record {
@@ -192,10 +205,12 @@ AsksApart (d ∷ before) =
 given_within : (ask : ReadAsk) (bytes : List ℕ) → length (take ask.length (drop ask.at bytes)) ≤ ask.length
 given_within ask bytes = let e = length-take ask.length (drop ask.at bytes) in omega arith
 
+-- a life from which a datagram was taken is known
 took_again : (from : Life) (item : Item) (before : List Deed) → Member (Took from item) before → list_any (is_from from) before ≡ true
 unfolding is_from
 took_again from item before h = member_list_any (is_from from) (Took from item) before h (same_life-refl from)
 
+-- an ask that was taken, by an equal life
 asks_at : (from to : Life) (a : ReadAsk) (before : List Deed) → from ≡ to → Member (Took from (Asks a)) before → Member (Took to (Asks a)) before
 asks_at from to a before e h = subst (λ (x : Life). Member (Took x (Asks a)) before) e h
 
@@ -204,10 +219,12 @@ same_pair : (first : ℕ) (heads : Heads) (d : Deed) (before : List Deed) (p q :
     → p.recv.id.0 ≡ q.recv.id.0 → p ≡ q
 same_pair first heads d before p q h k e = (matching_numbered first heads (d ∷ before)).once p q (pair_still first heads d before p h) k e
 
+-- no new reply clashes with one that is owed already
 abbrev Fresh : Own → Messages → Deed → List Deed → Type 0
 Fresh own ms d before =
     (r s : Reply) → OwedIn own ms r before → NewReply own ms.head (sends own ms before) d before s → Clash r s → ⊥
 
+-- a handshake is owed for the first datagram alone
 fresh_shake : (own : Own) (ms : Messages) (d : Deed) (before : List Deed) (r s : Reply) → OwedIn own ms r before → NewReply own ms.head (sends own ms before) d before s → ClashShake r s → ⊥
 fresh_shake own ms d before r s h (inl n) c =
     let o = owed_shake own ms before r c.words c.connid h c.is in
@@ -219,6 +236,7 @@ fresh_shake own ms d before r s h (inr (inr (inl n))) c = (let e = n.is in let f
 fresh_shake own ms d before r s h (inr (inr (inr (inl n)))) c = (let e = n.is in let f = c.is' in cc)
 fresh_shake own ms d before r s h (inr (inr (inr (inr n)))) c = (let e = n.is in let f = c.is' in cc)
 
+-- asks are owed for a new pair alone
 fresh_ask : (own : Own) (ms : Messages) (d : Deed) (before : List Deed) (r s : Reply) → OwedIn own ms r before → NewReply own ms.head (sends own ms before) d before s → ClashAsk r s → ⊥
 fresh_ask own ms d before r s h (inl n) c = (let e = n.is in let f = c.is' in cc)
 fresh_ask own ms d before r s h (inr (inl n)) c =
@@ -236,6 +254,7 @@ fresh_ask own ms d before r s h (inr (inr (inl n))) c = (let e = n.is in let f =
 fresh_ask own ms d before r s h (inr (inr (inr (inl n)))) c = (let e = n.is in let f = c.is' in cc)
 fresh_ask own ms d before r s h (inr (inr (inr (inr n)))) c = (let e = n.is in let f = c.is' in cc)
 
+-- an end is owed when the pair is filled, and not again
 fresh_end : (own : Own) (ms : Messages) (d : Deed) (before : List Deed) (r s : Reply) → OwedIn own ms r before → NewReply own ms.head (sends own ms before) d before s → ClashEnd r s → ⊥
 fresh_end own ms d before r s h (inl n) c = (let e = n.is in let f = c.is' in cc)
 fresh_end own ms d before r s h (inr (inl n)) c = (let e = n.is in let f = c.is' in cc)
@@ -252,6 +271,7 @@ fresh_end own ms d before r s h (inr (inr (inr (inl n)))) c =
     cc
 fresh_end own ms d before r s h (inr (inr (inr (inr n)))) c = (let e = n.is in let f = c.is' in cc)
 
+-- bytes are given to asks that are apart
 fresh_given : (own : Own) (ms : Messages) (d : Deed) (before : List Deed) (r s : Reply) → AsksApart (d ∷ before) → OwedIn own ms r before
     → NewReply own ms.head (sends own ms before) d before s → ClashGiven r s → ⊥
 fresh_given own ms d before r s apart h (inl n) c = (let e = n.is in let f = c.is' in cc)

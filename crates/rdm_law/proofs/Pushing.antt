@@ -42,6 +42,7 @@ pushed_was own ms (d ∷ before) n p h =
       ]
     ]
 
+-- a piece of packets is of one of them
 piece_packet : (ps : List Packet) (x : Piece) → Member x (pieces_in ps) → (p : Packet) × Member p ps × (packet_piece p ≡ Some x)
 unfolding pieces_in
 piece_packet [] x h = elim h [ ]
@@ -64,6 +65,7 @@ pushed_ends own ms log s x m h =
     let same : w.0 ≡ s = sends_one own ms log w.0 s (push_member own ms w.0 p.0 w.1 log w.3) m w.2 in
     subst (λ (y : Sent). x.offset + length x.bytes ≤ allowed_of own log y) same (part_within_allowed own log w.0 p.0 x t p.2)
 
+-- what was pushed does not cover more than is allowed
 not_covered : (own : Own) (ms : Messages) (log : List Deed) (s : Sent) (n : ℕ) → Member s (sends own ms log) → allowed_of own log s < n
     → covers (pieces_in (pushed_of own ms log s.number)) n ≡ false
 unfolding covers
@@ -80,11 +82,13 @@ not_covered own ms log s n m less =
           omega arith)
     ]) refl
 
+-- so a message that is longer is not pushed
 not_pushed : (s : Sent) (ps : List Packet) → covers (pieces_in ps) (length s.message.bytes) ≡ false → is_pushed s ps ≡ false
 unfolding is_pushed
 not_pushed s [] h = refl
 not_pushed s (p ∷ ps) h = h
 
+-- and its send is not over, while its life is not forgotten
 long_over : (log : List Deed) (ps : List Packet) (s : Sent) → s.kind ≡ LongCts → is_forgotten log s.to ≡ false → is_pushed s ps ≡ false → is_over log ps s ≡ false
 unfolding is_over is_read
 long_over log ps s k f h = rw (h, f, k) refl

@@ -50,11 +50,13 @@ queue own ms (d ∷ before) =
 abbrev pub replies_in : List Placed → List Reply
 replies_in q = map (λ (x : Placed). x.reply) q
 
+-- the replies at places are those
 placed_replies : (n : ℕ) (rs : List Reply) → replies_in (placed n rs) ≡ rs
 unfolding placed
 placed_replies n [] = refl
 placed_replies n (r ∷ rs) = ap (λ (x : List Reply). r ∷ x) (placed_replies (suc n) rs)
 
+-- a push takes the first of the replies
 popped_replies : (d : Deed) (q : List Placed) → replies_in (popped d q) ≡ popped d (replies_in q)
 unfolding popped
 popped_replies Pushed [] = refl
@@ -66,6 +68,7 @@ popped_replies (Took l i) q = refl
 popped_replies Polled q = refl
 popped_replies Nothing q = refl
 
+-- what is owed to forgotten lives goes from the replies
 without_replies : (lives : List Life) (q : List Placed) → replies_in (without lives q) ≡ without_lives lives (replies_in q)
 unfolding without without_lives
 without_replies lives [] = refl
@@ -88,6 +91,7 @@ next_send_none own log packets (s ∷ ss) r h =
       ]) k
     ]) h
 
+-- where no reply is next, there is none
 turned : (rs : List Reply) (others : Option Turn) (p : Progress) → ((r : Reply) → others ≡ Some (Replies r) → ⊥) → p.replies ≡ rs
     → (after_turn (reply_turn (slice_get rs 0) others) p).replies ≡ drop 1 p.replies
 unfolding after_turn reply_turn
@@ -127,14 +131,17 @@ abbrev pub Rising : ℕ → List Placed → ℕ → Type 0
 Rising low [] high = low ≤ high
 Rising low (x ∷ xs) high = (low ≤ x.place) × Rising (suc x.place) xs high
 
+-- places that rise do so from low to high
 rising_ends : (low : ℕ) (q : List Placed) (high : ℕ) → Rising low q high → low ≤ high
 rising_ends low [] high r = r
 rising_ends low (x ∷ q) high r = let a = r.0 in let b = rising_ends (suc x.place) q high r.1 in omega arith
 
+-- they rise from a lower number too
 rising_lower : (low less : ℕ) (q : List Placed) (high : ℕ) → less ≤ low → Rising low q high → Rising less q high
 rising_lower low less [] high le r = omega arith
 rising_lower low less (x ∷ q) high le r = ((let a = r.0 in omega arith), r.1)
 
+-- a filter of them rises
 rising_filter : (t : Placed → Bool) (low : ℕ) (q : List Placed) (high : ℕ) → Rising low q high → Rising low (filter t q) high
 rising_filter t low [] high r = r
 rising_filter t low (x ∷ q) high r =
@@ -143,6 +150,7 @@ rising_filter t low (x ∷ q) high r =
       | false ↦ let a = r.0 in rising_lower (suc x.place) low (filter t q) high (omega arith) (rising_filter t (suc x.place) q high r.1)
     ]
 
+-- places that are counted rise
 rising_placed : (n : ℕ) (rs : List Reply) → Rising n (placed n rs) (n + length rs)
 unfolding placed
 rising_placed n [] = omega arith
@@ -151,10 +159,12 @@ rising_placed n (r ∷ rs) =
     let le : n ≤ n = omega arith in
     (le, subst (λ x. Rising (suc n) (placed (suc n) rs) x) e (rising_placed (suc n) rs))
 
+-- places in a row, each of which rises
 rising_append : (low : ℕ) (xs ys : List Placed) (mid high : ℕ) → Rising low xs mid → Rising mid ys high → Rising low (xs ++ ys) high
 rising_append low [] ys mid high a b = rising_lower mid low ys high a b
 rising_append low (x ∷ xs) ys mid high a b = (a.0, rising_append (suc x.place) xs ys mid high a.1 b)
 
+-- each of them is from low on, and below high
 rising_member : (low : ℕ) (q : List Placed) (high : ℕ) (x : Placed) → Rising low q high → Member x q → (low ≤ x.place) × (x.place < high)
 rising_member low [] high x r h = elim h [ ]
 rising_member low (y ∷ q) high x r (inl is) =
@@ -176,6 +186,7 @@ pub record IsQueue (own : Own) (ms : Messages) (log : List Deed) : Type 0 where
   pub stood : (x : Placed) (k : ℕ) → Answered own ms x k log → slice_get (owed own ms log) x.place ≡ Some x.reply
   pub once : (x y : Placed) (k l : ℕ) → Answered own ms x k log → Answered own ms y l log → x.place ≡ y.place → k ≡ l
 
+-- what a push leaves was there
 popped_member : {A : Type 0} (d : Deed) (x : A) (q : List A) → Member x (popped d q) → Member x q
 unfolding popped
 popped_member Pushed x [] h = h
@@ -187,10 +198,12 @@ popped_member (Took l i) x q h = h
 popped_member Polled x q h = h
 popped_member Nothing x q h = h
 
+-- what a push leaves rises from past what it took
 abbrev PoppedRises : Deed → ℕ → List Placed → ℕ → Type 0
 PoppedRises d low q high =
     (next : ℕ) × (low ≤ next) × Rising next (popped d q) high × ((x : Placed) → d ≡ Pushed → slice_get q 0 ≡ Some x → x.place < next)
 
+-- so it does
 popped_rising : (d : Deed) (low : ℕ) (q : List Placed) (high : ℕ) → Rising low q high → PoppedRises d low q high
 unfolding popped
 popped_rising Pushed low [] high r = (low, omega arith, r, λ x e h. cc)
@@ -203,6 +216,7 @@ popped_rising (Took l i) low q high r = (low, omega arith, r, λ x e h. cc)
 popped_rising Polled low q high r = (low, omega arith, r, λ x e h. cc)
 popped_rising Nothing low q high r = (low, omega arith, r, λ x e h. cc)
 
+-- a reply at a place stands as far into its list
 placed_at : (n : ℕ) (rs : List Reply) (x : Placed) → Member x (placed n rs) → (k : ℕ) × (x.place ≡ n + k) × (slice_get rs k ≡ Some x.reply)
 unfolding placed
 placed_at n [] x h = elim h [ ]
@@ -219,11 +233,13 @@ slice_get_past (x ∷ xs) ys (suc n) k e = slice_get_past xs ys n k (omega arith
 head_member : (q : List Placed) (x : Placed) → slice_get q 0 ≡ Some x → Member x q
 head_member q x h = slice_get-member q 0 x h
 
+-- a push stands before the end of the log
 answered_before : (own : Own) (ms : Messages) (x : Placed) (k : ℕ) (log : List Deed) → Answered own ms x k log → k < length log
 answered_before own ms x k [] h = elim h [ ]
 answered_before own ms x k (d ∷ before) (inl a) = let e = a.1 in omega arith
 answered_before own ms x k (d ∷ before) (inr a) = let e = answered_before own ms x k before a in omega arith
 
+-- a deed keeps what the queue keeps
 queue_step : (own : Own) (ms : Messages) (d : Deed) (before : List Deed) → IsQueue own ms before → IsQueue own ms (d ∷ before)
 unfolding queue owed without
 queue_step own ms d before was =
@@ -291,11 +307,13 @@ waits_owed own ms log r h =
     let m = member-map (λ (x : Placed). x.reply) r (queue own ms log) (subst (λ (x : List Reply). Member r x) (sym (queue_replies own ms log)) h) in
     (m.0, m.1, m.2, (is_queue own ms log).stands m.0 m.1 ∙ ap Some m.2)
 
+-- a turn that is a reply is the first of the queue
 reply_first : (o : Option Reply) (others : Option Turn) (r : Reply) → ((s : Reply) → others ≡ Some (Replies s) → ⊥) → reply_turn o others ≡ Some (Replies r) → o ≡ Some r
 unfolding reply_turn
 reply_first None others r never h = absurd (never r h)
 reply_first (Some s) others r never h = cc
 
+-- the first of the replies is that of the first place
 first_of_map : (q : List Placed) (r : Reply) → slice_get (replies_in q) 0 ≡ Some r → (x : Placed) × (slice_get q 0 ≡ Some x) × (x.reply ≡ r)
 first_of_map [] r h = cc
 first_of_map (x ∷ q) r h = (x, refl, cc)

@@ -24,6 +24,7 @@ PostIs Q (Arrive a) = Unit {0}
 PostIs Q (Cancel n) = Unit {0}
 PostIs Q (Forget l) = Unit {0}
 
+-- a post posts or pairs its receive
 post_keeps : (Q : PostedRecv → Type 0) (m : Matching) (r : PostedRecv) (o : Option Arrived) → Q r → AllPosted Q m → AllPosted Q (after_post m r o)
 unfolding after_post
 post_keeps Q m r None q all =
@@ -43,6 +44,7 @@ post_keeps Q m r (Some a) q all =
       ];
     }
 
+-- an arrival pairs a posted receive
 arrive_keeps : (Q : PostedRecv → Type 0) (m : Matching) (a : Arrived) (o : Option PostedRecv) → ((r : PostedRecv) → o ≡ Some r → Q r)
     → AllPosted Q m → AllPosted Q (after_arrive m a o)
 unfolding after_arrive
@@ -56,6 +58,7 @@ arrive_keeps Q m a (Some r) q all =
       ];
     }
 
+-- so each event keeps what all receives are
 after_keeps : (Q : PostedRecv → Type 0) (m : Matching) (e : Event) → PostIs Q e → AllPosted Q m → AllPosted Q (after m e)
 unfolding after
 after_keeps Q m (Post r) q all = post_keeps Q m r (find (accepts r) m.arrived) q all
@@ -80,13 +83,16 @@ pub receives_more : (d : Deed) (before : List Deed) (r : Receive) → Member r (
 unfolding receives with_received
 receives_more d before r h = member-append_left r (receives before) _ h
 
+-- an accepted receive stays so
 accepted_still : (d : Deed) (before : List Deed) (p : PostedRecv) → IsAccepted before p → IsAccepted (d ∷ before) p
 accepted_still d before p a = record { recv = a.recv; accepted = receives_more d before a.recv a.accepted; posted_is = a.posted_is }
 
+-- the receive of the newest deed is accepted
 newest : (before : List Deed) (req : RecvReq) → Member (receive (length (receives before)) before req) (receives (Did (Recv req) ∷ before))
 unfolding receives with_received received_by
 newest before req = member-append_right (receive (length (receives before)) before req) (receives before) _ (inl refl)
 
+-- what a deed posts, it accepts
 accepted_event : (first : ℕ) (heads : Heads) (d : Deed) (before : List Deed) (x : Event) → Member x (events_by first heads before d) → PostIs (IsAccepted (d ∷ before)) x
 unfolding events_by
 accepted_event first heads (Did (Recv req)) before x (inl a) =
@@ -118,6 +124,7 @@ slice_get_split (y ∷ xs) ys zero x h = inl h
 slice_get_split (y ∷ xs) ys (suc n) x h =
     elim (slice_get_split xs ys n x h) [ inl a ↦ inl a | inr a ↦ inr (a.0, (let e = a.1 in omega arith), a.2) ]
 
+-- the receive that a deed accepts is the next one
 received_place : (before : List Deed) (d : Deed) (rs : List Receive) (k : ℕ) (r : Receive) → slice_get (received_by rs before d) k ≡ Some r
     → (k ≡ 0) × (r.number ≡ length rs) × (r.posted.id.0 ≡ length rs)
 unfolding received_by

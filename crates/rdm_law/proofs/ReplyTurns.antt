@@ -93,6 +93,7 @@ unfolding is_good_ask
 good_apart s from b None h = cc
 good_apart s from b (Some t) h = (and_parts _ _ (and_parts _ _ h).0).1
 
+-- an ask that is taken shares no byte with those of its send that were
 step_apart : (own : Own) (before : List Deed) (d : Deed) → LifeStep own before d → (from : Life) (a b : ReadAsk) → d ≡ Took from (Asks b)
     → Member (Took from (Asks a)) before → a.send_id.0 ≡ b.send_id.0 → AsksShare a b → ⊥
 unfolding is_bad_key

@@ -20,6 +20,7 @@ pair_seen first heads log p m =
     let t = heard_taken log p.message.life p.message.no.0 h.0 h.1 in
     (Spelled (Rtm t.number t.tag t.opt t.form), t.took)
 
+-- what a deed makes owed to a life is owed for a datagram of it
 new_seen : (own : Own) (heads : Heads) (sents : List Sent) (d : Deed) (before : List Deed) (r : Reply) → NewReply own heads sents d before r
     → (item : Item) × Member (Took r.to item) (d ∷ before)
 new_seen own heads sents d before r (inl n) = (n.item, inl n.took)

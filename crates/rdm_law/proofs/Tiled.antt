@@ -90,6 +90,7 @@ starts_at job history i j p s start size answer k d played g tile w a placed fre
           ])
     ]
 
+-- where bytes were granted there is a grant
 grants_some : (gs : List Grant) → 0 < grant_bytes gs → (g : Grant) × Member g gs
 unfolding grant_bytes
 grants_some [] h = absurd (omega arith)
@@ -102,14 +103,17 @@ allowed_step own d log s =
     let e = sum_by-append (λ (g : Grant). g.size) (grants log s.to s.number) (grants_by s.to s.number d) in
     omega arith
 
+-- the bytes of one grant
 one_grant : (recv size : ℕ) → grant_bytes (record { recv = recv; size = size } ∷ []) ≡ size
 unfolding grant_bytes
 one_grant recv size = omega arith
 
+-- no grant has no bytes
 no_grant : grant_bytes [] ≡ 0
 unfolding grant_bytes
 no_grant = refl
 
+-- a grant that was taken, by an equal life
 cts_to : (to i : Life) (send recv : OpId) (size : ℕ) (connid : Connid) (log : List Deed) → to ≡ i → Member (Took to (Spelled (Cts send recv size connid))) log
     → Member (Took i (Spelled (Cts send recv size connid))) log
 cts_to to i send recv size connid log e h = subst (λ (l : Life). Member (Took l (Spelled (Cts send recv size connid))) log) e h
@@ -157,6 +161,7 @@ new_tile job e before i j p s send recv size connid played g tile n t y low high
       handled = t.handled;
     }
 
+-- a deed of the sender keeps all that is allowed in windows that it took
 tile_by : (job : Job) (e : Entry) (before : List Entry) (i j : Life) (p : Pair) (s : Sent) (d : Deed) → Played job (e ∷ before) → Granting job (e ∷ before) i j p s
     → (Granting job before i j p s → Tile job before i j p s) → ((item : Item) → d ≡ Took i item → NewTake job before e j i item)
     → (y : ℕ) → piece_bytes (pieces_in (openings (own_of job j).limits s.message s.kind)) ≤ y → y < allowed_of (own_of job j) (d ∷ life_deeds job before j) s
@@ -178,6 +183,7 @@ tile_by job e before i j p s d played g tile take y low high =
           ]
     ]
 
+-- before anything there are no pairs
 no_pairs : (job : Job) (i : Life) (p : Pair) → Member p (pairs_of job [] i) → ⊥
 unfolding life_deeds port_deeds deeds_at deeds log_of of_life matching
 no_pairs job i p h = elim h [ ]

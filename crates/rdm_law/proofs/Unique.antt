@@ -12,14 +12,17 @@ use Rattle.rdm_law.proofs.Received.{slice_get_split}
 abbrev pub Unique : {A : Type 0} → (A → A → Type 0) → List A → Type 0
 Unique {A} K xs = (i j : ℕ) (x y : A) → slice_get xs i ≡ Some x → slice_get xs j ≡ Some y → K x y → i ≡ j
 
+-- an empty list
 pub unique_none : {A : Type 0} (K : A → A → Type 0) → Unique K []
 unique_none K i j x y h k c = cc
 
+-- a list of one element
 pub unique_one : {A : Type 0} (K : A → A → Type 0) (x : A) → Unique K (x ∷ [])
 unique_one K z zero zero x y h k c = refl
 unique_one K z (suc i) j x y h k c = cc
 unique_one K z zero (suc j) x y h k c = cc
 
+-- one element before a list with which it does not clash
 pub unique_cons : {A : Type 0} (K : A → A → Type 0) → ((x y : A) → K x y → K y x) → (x : A) (xs : List A) → Unique K xs → ((y : A) → Member y xs → K x y → ⊥) → Unique K (x ∷ xs)
 unique_cons K s z zs u n zero zero x y h k c = refl
 unique_cons {A} K s z zs u n zero (suc j) x y h k c =
@@ -47,6 +50,7 @@ unique_append K s xs ys u v n i j x y h k c =
 pub unique_free : {A : Type 0} (K : A → A → Type 0) (xs : List A) → ((x y : A) → Member x xs → K x y → ⊥) → Unique K xs
 unique_free K xs n i j x y h k c = absurd (n x y (slice_get-member xs i x h) c)
 
+-- an element of pairs that lack a receive has another one
 lacks_pair : (n : ℕ) (p : Pair) (ps : List Pair) → LacksPair n ps → Member p ps → p.recv.id.0 ≡ n → ⊥
 lacks_pair n p [] l h e = elim h [ ]
 lacks_pair n p (q ∷ ps) l (inl is) e = l.0 (ap (λ (x : Pair). x.recv.id.0) is ∙ e)
@@ -65,6 +69,7 @@ unique_pairs K s f (p ∷ ps) a u n =
     let r = member-flat_map f y ps k in
     lacks_pair p.recv.id.0 r.0 ps a.0 r.1 (sym (n p r.0 x y (inl refl) (inr r.1) h r.2 c)))
 
+-- what stands at a place of a changed list comes from that place
 slice_get-map : {A B : Type 0} (f : A → B) (xs : List A) (n : ℕ) (y : B) → slice_get (map f xs) n ≡ Some y → (x : A) × (slice_get xs n ≡ Some x) × (f x ≡ y)
 slice_get-map f [] n y h = cc
 slice_get-map f (x ∷ xs) zero y h = (x, refl, cc)

@@ -31,17 +31,21 @@ use Rattle.rdm_law.proofs.Owed.{shape_in}
 abbrev pub Tells : Heads → List Deed → Type 0
 Tells heads log = (source : Life) (n : ℕ) (h : Head) → heard_head log source n ≡ Some h → heads source n ≡ h
 
+-- an account that tells the heads of a log tells those of a shorter one
 pub tells_before : (heads : Heads) (d : Deed) (before : List Deed) → Tells heads (d ∷ before) → Tells heads before
 tells_before heads d before t source n h is = t source n h (heard_still d before source n h is)
 
+-- a second value is enough
 some_else : {A : Type 0} (x : Option A) (a : A) → (y : A) × (or_else x (Some a) ≡ Some y)
 unfolding or_else
 some_else None a = (a, refl)
 some_else (Some b) a = (b, refl)
 
+-- the same of an equal one
 some_or : {A : Type 0} (x y : Option A) (a : A) → y ≡ Some a → (b : A) × (or_else x y ≡ Some b)
 some_or x y a e = let r = some_else x a in (r.0, ap (λ o. or_else x o) e ∙ r.1)
 
+-- a packet that opens a long message has a first part
 long_first : (form : Form) (send : OpId) (credits : ℕ) → shape_of form ≡ S.LongCts send credits → (k : ℕ) × (first_part_in form ≡ Some k)
 unfolding shape_of first_part_in
 long_first (LongCts size s c bytes) send credits h = (length bytes, refl)
@@ -50,6 +54,7 @@ long_first (Medium size offset bytes) send credits h = cc
 long_first (LongRead size s iov) send credits h = cc
 long_first (Runt size s iov runt offset bytes) send credits h = cc
 
+-- so the deed that tells a long message has its first part
 first_by : (source : Life) (n : ℕ) (d : Deed) (h : Head) (send : OpId) (credits : ℕ) → head_by source n d ≡ Some h → h.shape ≡ S.LongCts send credits
     → (k : ℕ) × (first_part_by source n d ≡ Some k)
 unfolding head_by first_part_by head_of
@@ -70,6 +75,7 @@ heard_first (d ∷ before) source n h send credits is shape =
       | inr a ↦ let r = first_by source n d h send credits a.1 shape in some_or (first_part_taken before source n) (first_part_by source n d) r.0 r.1
     ]
 
+-- a first part that was taken stays
 first_still : (d : Deed) (before : List Deed) (source : Life) (n k : ℕ) → first_part_taken before source n ≡ Some k → first_part (d ∷ before) source n ≡ first_part before source n
 unfolding first_part first_part_taken
 first_still d before source n k h =
@@ -99,6 +105,7 @@ pub record IsWindow (limits : EpLimits) (heads : Heads) (log : List Deed) (p : P
   pub shape_is : shape_in heads p ≡ S.LongCts send credits
   pub within : first_part log p.message.life p.message.no.0 + granted + window limits heads log p granted ≤ (heads p.message.life p.message.no.0).length
 
+-- a window with a byte is of a long message, and inside it
 window_shape : (limits : EpLimits) (head : Head) (shape : Shape) (so_far : ℕ) → 0 < window_of limits head shape so_far
     → (send : OpId) × (credits : ℕ) × (shape ≡ S.LongCts send credits) × (so_far + window_of limits head shape so_far ≤ head.length)
 unfolding window_of
@@ -108,6 +115,7 @@ window_shape limits head S.Medium so_far h = absurd (omega arith)
 window_shape limits head (S.LongRead send iov) so_far h = absurd (omega arith)
 window_shape limits head (S.Runt send iov runt) so_far h = absurd (omega arith)
 
+-- a window with a byte is of a pair, all before it has come, and it lies inside the message
 pub is_window : (limits : EpLimits) (heads : Heads) (log : List Deed) (p : Pair) (granted : ℕ) → 0 < window limits heads log p granted → IsWindow limits heads log p granted
 unfolding window
 is_window limits heads log p granted h =

@@ -91,6 +91,7 @@ pub record OwedWindow (own : Own) (ms : Messages) (log : List Deed) (place : ℕ
   pub credits : ℕ
   pub shape_is : shape_in ms.head pair ≡ S.LongCts send credits
 
+-- a grant that a deed makes owed is of the window that it opens
 new_window : (own : Own) (ms : Messages) (d : Deed) (before : List Deed) (place index : ℕ) (r : Reply) (send recv : OpId) (size : ℕ) (connid : Connid)
     → place ≡ length (owed own ms before) + index → slice_get (replies_by own ms.head (sends own ms before) d before) index ≡ Some r
     → r.item ≡ Spelled (Cts send recv size connid) → NewReply own ms.head (sends own ms before) d before r → OwedWindow own ms (d ∷ before) place r send recv size
@@ -237,6 +238,7 @@ older_first own ms d before p start size place start' size' place' tells h n =
     let c = w.reached in
     (omega arith, omega arith)
 
+-- windows of one message are in order of their places
 pub windows_in_order : (own : Own) (ms : Messages) (log : List Deed) (p : Pair) (start size place start' size' place' : ℕ) → Tells ms.head log
     → WindowAt own ms p start size place log → WindowAt own ms p start' size' place' log → InOrder start size place start' size' place'
 windows_in_order own ms [] p start size place start' size' place' tells h k = elim h [ ]

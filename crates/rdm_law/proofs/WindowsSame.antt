@@ -23,6 +23,7 @@ use Rattle.rdm_law.proofs.Owed.{shape_in}
 use Rattle.rdm_law.proofs.ReplyTurns.{owed_same, answered_same}
 use Rattle.rdm_law.proofs.WindowsAt.{NewWindow, WindowAt}
 
+-- a new window is the same by accounts that agree
 new_window_same : (own : Own) (ms ns : Messages) (d : Deed) (before : List Deed) (p : Pair) (start size place : ℕ) → Agree own.limits.first ms ns (d ∷ before)
     → NewWindow own ms d before p start size place → NewWindow own ns d before p start size place
 new_window_same own ms ns d before p start size place a n =

@@ -17,16 +17,19 @@ use Rattle.rdm_model.specs.Heard.{heard_head, is_heard, heard_below, has_entered
 use Rattle.rdm_model.specs.Matches.{arrival, events_by, matching, pairs}
 use Rattle.rdm_model.proofs.Members.{member-append_left, member-append_cases, member-filter, member-map, some_of, or_else_left, find_member, member_find, without_member, same_life-true, same_life-refl}
 
+-- a post adds at most one pair
 post_extends : (m : Matching) (r : PostedRecv) (o : Option Arrived) → (rest : List Pair) × ((after_post m r o).pairs ≡ m.pairs ++ rest)
 unfolding after_post
 post_extends m r None = ([], sym (append-nil m.pairs))
 post_extends m r (Some a) = (record { recv = r; message = a } ∷ [], refl)
 
+-- an arrival adds at most one pair
 arrive_extends : (m : Matching) (a : Arrived) (o : Option PostedRecv) → (rest : List Pair) × ((after_arrive m a o).pairs ≡ m.pairs ++ rest)
 unfolding after_arrive
 arrive_extends m a None = ([], sym (append-nil m.pairs))
 arrive_extends m a (Some r) = (record { recv = r; message = a } ∷ [], refl)
 
+-- an event adds pairs at the end
 after_extends : (m : Matching) (e : Event) → (rest : List Pair) × ((after m e).pairs ≡ m.pairs ++ rest)
 unfolding after
 after_extends m (Post r) = post_extends m r _
@@ -61,6 +64,7 @@ EventIs Q (Arrive a) = Q a
 EventIs Q (Cancel n) = Unit {0}
 EventIs Q (Forget l) = Unit {0}
 
+-- a post pairs what had arrived
 post_keeps : (Q : Arrived → Type 0) (m : Matching) (r : PostedRecv) (o : Option Arrived) → ((a : Arrived) → o ≡ Some a → Q a)
     → AllArrived Q m → AllArrived Q (after_post m r o)
 unfolding after_post
@@ -74,6 +78,7 @@ post_keeps Q m r (Some a) q all =
       ];
     }
 
+-- an arrival brings a message of the kind
 arrive_keeps : (Q : Arrived → Type 0) (m : Matching) (a : Arrived) (o : Option PostedRecv) → Q a → AllArrived Q m → AllArrived Q (after_arrive m a o)
 unfolding after_arrive
 arrive_keeps Q m a None q all =
@@ -93,6 +98,7 @@ arrive_keeps Q m a (Some r) q all =
       ];
     }
 
+-- so does each event
 after_keeps : (Q : Arrived → Type 0) (m : Matching) (e : Event) → EventIs Q e → AllArrived Q m → AllArrived Q (after m e)
 unfolding after
 after_keeps Q m (Post r) q all = post_keeps Q m r (find (accepts r) m.arrived) (λ a h. all.waiting a (find_member (accepts r) a m.arrived h).0) all
@@ -140,6 +146,7 @@ pub pairs_extend : (first : ℕ) (hs : Heads) (d : Deed) (before : List Deed) �
 unfolding matching
 pairs_extend first hs d before = run_extends (events_by first hs before d) (matching first hs before)
 
+-- a test that names a pair still holds of a longer log
 pub is_pair_still : (first : ℕ) (hs : Heads) (d : Deed) (before : List Deed) (n : ℕ) (life : Life) (number : ℕ)
     → is_pair (pairs first hs before) n life number ≡ true → is_pair (pairs first hs (d ∷ before)) n life number ≡ true
 is_pair_still first hs d before n life number h =
@@ -169,6 +176,7 @@ entering_parts first d before source n h =
 abbrev pub IsHeard : Heads → List Deed → Arrived → Type 0
 IsHeard heads log a = ((h : Head) × (heard_head log a.life a.no.0 ≡ Some h)) × (a.tag ≡ (heads a.life a.no.0).tag)
 
+-- the messages that arrive by a deed were heard of
 heard_event : (first : ℕ) (heads : Heads) (d : Deed) (before : List Deed) (x : Event) → Member x (events_by first heads before d) → EventIs (IsHeard heads (d ∷ before)) x
 unfolding events_by
 heard_event first heads (Did (Recv req)) before x (inl a) = subst (EventIs (IsHeard heads (Did (Recv req) ∷ before))) a tt
