@@ -157,5 +157,5 @@ report_lawful law job w report fair s is =
     }
 
 -- what is played in a fair job is lawful
-pub plays_lawfully : PlaysLawfully
+pub plays_lawfully : JointLaw → PlaysLawfully
 plays_lawfully law job report fair played = report_lawful law job (played_world job) report fair (played_sound job fair) played

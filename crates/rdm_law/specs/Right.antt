@@ -11,7 +11,6 @@ use Rattle.rdm_model.specs.Lawful.{Lawful}
 use Rattle.rdm_model.specs.Settled.{waiting_datagrams}
 use Rattle.rdm_model.specs.Reports.{end_in, is_stuck}
 use Rattle.rdm_model.specs.Played.{IsPlayed}
-use Rattle.rdm_law.specs.Law.{JointLaw}
 
 -- how a port ended in a history, with so many datagrams in its stash
 unfoldable pub stashed_end : Job → List Entry → (stashed : ℕ → ℕ) → ℕ → End
@@ -26,6 +25,6 @@ pub record IsLawfulReport (job : Job) (report : Report) : Type 0 where
   pub stashed_wait : (port : ℕ) → stashed port ≤ length (waiting_datagrams port report.history)
   pub ends : report.ends ≡ map (stashed_end job report.history stashed) (below (port_count job))
 
--- Where the law of joint histories holds, what is played in a fair job is lawful.
+-- What is played in a fair job is lawful.
 abbrev pub PlaysLawfully : Type 0
-PlaysLawfully = JointLaw → (job : Job) (report : Report) → IsTrue (is_fair law_ops job) → IsPlayed job report → IsLawfulReport job report
+PlaysLawfully = (job : Job) (report : Report) → IsTrue (is_fair law_ops job) → IsPlayed job report → IsLawfulReport job report
