@@ -1,5 +1,5 @@
 -- What the answers of sends and receives say of them: their ranges lie in their regions, and their messages have numbers left.
-use Rattle.std.proofs.Common.{◌≡◌, ℕ, suc, ◌+◌, ◌<◌, ◌≤◌, Bool, true, false, cond, nat_le, leb-false, ltb-false, List, [], ◌∷◌, ◌++◌, map, length, get_or, option_to_list, Option, Some, None, refl, arith, sym, ◌∙◌, ap, subst}
+use Rattle.std.proofs.Common.{◌≡◌, ℕ, suc, ◌+◌, ◌<◌, ◌≤◌, Bool, true, false, cond, leb-false, ltb-false, List, [], ◌∷◌, ◌++◌, map, length, get_or, option_to_list, Option, Some, None, refl, arith, ◌∙◌, ap, subst}
 use Rattle.std.specs.Prelude.{filter}
 use Rattle.std.proofs.lemmas.List.{map-append}
 use Rattle.rdm_num.specs.Lists.{first_case}

@@ -1,22 +1,16 @@
 -- What a fair job says of its ranks, and of what did and was taken by a log.
-use Rattle.std.proofs.Common.{◌≡◌, ℕ, zero, suc, ◌+◌, ◌-◌, ◌<◌, ◌≤◌, Bool, true, false, cond, nat_lt, nat_le, ltb-true, leb-true, ◌&&◌, List, [], ◌∷◌, length, get_or, Option, Some, None, IsTrue, refl, arith, ◌⊎◌, inl, inr, sym, ◌∙◌, ap, subst}
+use Rattle.std.proofs.Common.{◌≡◌, ℕ, zero, suc, ◌+◌, ◌<◌, ◌≤◌, true, ltb-true, leb-true, List, [], ◌∷◌, length, get_or, Option, Some, IsTrue, refl, arith, subst}
 use Rattle.std.specs.Prelude.{slice_get}
 use Rattle.std.specs.List.{list_all}
-use Rattle.std.proofs.lemmas.Bool.{and_parts, cases_lt}
+use Rattle.std.proofs.lemmas.Bool.{and_parts}
 use Rattle.std.proofs.lemmas.Option.{slice_get_within}
-use Rattle.std.proofs.lemmas.List.{get_or_past}
-use Rattle.rdm_num.specs.Lists.{Member}
-use Rattle.rdm_num.specs.Lives.{life}
 use Rattle.rdm_num.specs.declared.numbers.PortNo.{PortNo}
 use Rattle.rdm_num.specs.declared.numbers.Connid.{Connid}
-use Rattle.rdm_num.specs.declared.numbers.Life.{Life}
-use Rattle.rdm_wire.specs.declared.Datagram.{Datagram}
 use Rattle.rdm_wire.specs.declared.Body.{Body}
 use Rattle.rdm_wire.specs.declared.Body.TheVariants.{Note, Between}
 use Rattle.rdm_model.specs.declared.job.Job.{Job}
 use Rattle.rdm_model.specs.declared.job.Rank.{Rank}
 use Rattle.rdm_model.specs.declared.job.Instr.{Instr}
-use Rattle.rdm_model.specs.declared.job.Instr.TheVariants.{OpenLife, Insert, Reg, Send, Recv, Cancel, Note as NoteOp, Await, Wait, CloseLife}
 use Rattle.rdm_model.specs.declared.answer.Next.{Next as Answer}
 use Rattle.rdm_model.specs.declared.answer.Next.TheVariants.{Did as DidAnswer}
 use Rattle.rdm_model.specs.declared.answer.Handled.{Handled}
@@ -24,18 +18,18 @@ use Rattle.rdm_model.specs.declared.answer.Handled.TheVariants.{Took as TookAnsw
 use Rattle.rdm_model.specs.declared.entry.Entry.{Entry}
 use Rattle.rdm_model.specs.declared.entry.Act.{Act}
 use Rattle.rdm_model.specs.declared.entry.Act.TheVariants.{Next, Push, Handle, Poll}
-use Rattle.rdm_model.specs.Deeds.{Deed, Did, PushedNote, Pushed, TookNote, Took, Polled, Nothing, Item, item_of, deed_by_next, deed_by_push, deed_by_handle, deed_of, deeds, open_after, open_life, is_connid, of_life, of_open_life, deed_count}
-use Rattle.rdm_model.specs.Owns.{Own, rank_of, no_rank, port_count, own_of, life_at}
-use Rattle.rdm_model.specs.Jobs.{is_fair, law_ops, limits_fit, features_fit, rank_fits, instr_fits, is_within}
-use Rattle.rdm_model.specs.Scenes.{Scene, scene, deeds_at}
+use Rattle.rdm_model.specs.Deeds.{Deed, deed_by_next, deed_by_push, deed_by_handle, deed_of, deeds, of_life, deed_count}
+use Rattle.rdm_model.specs.Owns.{rank_of, no_rank, port_count}
+use Rattle.rdm_model.specs.Jobs.{is_fair, law_ops, features_fit, rank_fits, instr_fits, is_within}
+use Rattle.rdm_model.specs.Scenes.{Scene, deeds_at}
 use Rattle.rdm_model.specs.Classes.{class_of}
 use Rattle.rdm_model.specs.Steps.{count, is_next, Does}
-use Rattle.rdm_model.specs.Local.{heard_by, own_scene, Local}
-use Rattle.rdm_law.proofs.Lives.{life_scene, life_of, opened_scene, at_of_life, note_goes, life_local}
-use Rattle.rdm_law.proofs.Fitting.{BodyFits, HandledFits, AllHandledFit, CanGo, item_fits}
-use Rattle.rdm_law.proofs.SmallBytes.{AllTakenFit, TakenFits, bytes_by_fit, all_at}
-use Rattle.rdm_law.proofs.RegionsFit.{DidFits, AllDidFit, MessagesFit}
-use Rattle.rdm_law.proofs.SentFits.{is_did, did_count, DeedsFit}
+use Rattle.rdm_model.specs.Local.{own_scene, Local}
+use Rattle.rdm_law.proofs.Lives.{at_of_life}
+use Rattle.rdm_law.proofs.Fitting.{BodyFits, HandledFits, AllHandledFit, item_fits}
+use Rattle.rdm_law.proofs.SmallBytes.{AllTakenFit, TakenFits, all_at}
+use Rattle.rdm_law.proofs.RegionsFit.{DidFits, AllDidFit}
+use Rattle.rdm_law.proofs.SentFits.{is_did, did_count}
 use Rattle.rdm_law.proofs.OpeningsFit.{LimitsFit, limits_are}
 
 -- what the proofs use of a fair rank, or of none

@@ -1,7 +1,6 @@
 -- A plain life pushes its message once: a message that waits was not heard of yet.
-use Rattle.std.proofs.Common.{◌≡◌, ℕ, ◌+◌, ◌<◌, ◌≤◌, Bool, true, false, is_some, List, [], ◌∷◌, ◌++◌, length, Option, Some, None, IsTrue, refl, arith, ◌⊎◌, inl, inr, sym, ◌∙◌, ap, subst}
+use Rattle.std.proofs.Common.{◌≡◌, ℕ, ◌≤◌, false, is_some, List, [], ◌∷◌, length, Option, Some, None, IsTrue, refl, arith, inl, inr, sym, ◌∙◌, ap, subst}
 use Rattle.rdm_num.specs.Lists.{Member}
-use Rattle.rdm_num.specs.Lives.{life}
 use Rattle.rdm_num.specs.declared.numbers.PortNo.{PortNo}
 use Rattle.rdm_num.specs.declared.numbers.Connid.{Connid}
 use Rattle.rdm_num.specs.declared.numbers.Life.{Life}
@@ -11,49 +10,45 @@ use Rattle.rdm_hdr.specs.declared.Opt.{Opt}
 use Rattle.rdm_pkt.specs.declared.Packet.{Packet}
 use Rattle.rdm_pkt.specs.declared.Packet.TheVariants.{Rtm}
 use Rattle.rdm_pkt.specs.declared.Form.{Form}
-use Rattle.rdm_pkt.specs.declared.Kind.{Kind}
 use Rattle.rdm_pkt.specs.declared.Kind.TheVariants.{Eager}
 use Rattle.rdm_wire.specs.declared.Datagram.{Datagram}
-use Rattle.rdm_wire.specs.declared.Body.{Body}
-use Rattle.rdm_wire.specs.declared.Body.TheVariants.{Note, Between}
+use Rattle.rdm_wire.specs.declared.Body.TheVariants.{Between}
 use Rattle.rdm_wire.specs.declared.Load.{Load}
 use Rattle.rdm_model.specs.declared.job.Job.{Job}
 use Rattle.rdm_model.specs.declared.answer.Handled.TheVariants.{Took as TookAnswer}
 use Rattle.rdm_model.specs.declared.entry.Entry.{Entry}
 use Rattle.rdm_model.specs.declared.entry.Act.{Act}
 use Rattle.rdm_model.specs.declared.entry.Act.TheVariants.{Handle}
-use Rattle.rdm_model.specs.Deeds.{Deed, Took, Item, Spelled, item_of, open_life, of_life}
-use Rattle.rdm_model.specs.Owns.{Own, rank_of, own_of, port_count}
+use Rattle.rdm_model.specs.Deeds.{Deed, Item, Spelled, item_of, of_life}
+use Rattle.rdm_model.specs.Owns.{Own, own_of, port_count}
 use Rattle.rdm_model.specs.Jobs.{is_fair, law_ops}
 use Rattle.rdm_model.specs.Heard.{heard_head, is_heard}
 use Rattle.rdm_model.specs.Scenes.{deeds_at}
-use Rattle.rdm_model.specs.Sends.{Sent, sends}
-use Rattle.rdm_model.specs.Replies.{Reply}
+use Rattle.rdm_model.specs.Sends.{Sent}
 use Rattle.rdm_model.specs.Turns.{Turn, Replies, Sends}
-use Rattle.rdm_model.specs.Going.{Going, Goes, turn_going}
-use Rattle.rdm_model.specs.Local.{heard_by, Local}
+use Rattle.rdm_model.specs.Going.{Goes, turn_going}
+use Rattle.rdm_model.specs.Local.{heard_by}
 use Rattle.rdm_model.specs.Wire.{PushedIn, IsOther, IsUnhandled}
 use Rattle.rdm_model.specs.Worlds.{World}
 use Rattle.rdm_model.proofs.Numbers.{send_below}
 use Rattle.rdm_model.proofs.Sending.{IsSingle, opening_once}
 use Rattle.rdm_law.proofs.Lives.{life_of, TurnedAt}
 use Rattle.rdm_law.proofs.Pushed.{PlacedAt, placed_once, PushedTurn, pushed_turn}
-use Rattle.rdm_law.proofs.Wired.{HandledIn, TakenAs, taken_handled, bears_item}
+use Rattle.rdm_law.proofs.Wired.{HandledIn, taken_handled, bears_item}
 use Rattle.rdm_law.proofs.Turned.{turned_pushed, own_sends, turn_member, turn_one}
 use Rattle.rdm_law.proofs.ReplyTurns.{turned_owed}
-use Rattle.rdm_law.proofs.Known.{HeadTaken, heard_taken, owed_rtm}
+use Rattle.rdm_law.proofs.Known.{heard_taken, owed_rtm}
 use Rattle.rdm_law.proofs.SmallBytes.{bytes_by_fit}
 use Rattle.rdm_law.proofs.RegionsFit.{MessagesFit}
 use Rattle.rdm_law.proofs.SentFits.{SentFits, sent_fits}
 use Rattle.rdm_law.proofs.FairJobs.{fair_job}
-use Rattle.rdm_law.proofs.GoesWell.{LifeFits, life_fits}
-use Rattle.rdm_law.proofs.Delivers.{HadWaited, AllHadWaited, Waits}
-use Rattle.rdm_law.proofs.Sound.{Sound, waiting_in}
+use Rattle.rdm_law.proofs.GoesWell.{life_fits}
+use Rattle.rdm_law.proofs.Delivers.{HadWaited, AllHadWaited}
+use Rattle.rdm_law.proofs.Sound.{waiting_in}
 use Rattle.rdm_law.proofs.OpCounts.{send_count, did_as, did_within, life_within}
-use Rattle.rdm_law.proofs.PlainDeeds.{AreWithPeer}
 use Rattle.rdm_law.proofs.PlainTurns.{plain_sends, plain_kind}
 use Rattle.rdm_law.proofs.PlainGoes.{sends_by_deeds}
-use Rattle.rdm_law.proofs.PlainPorts.{ArePlainHandles, life_with_peer}
+use Rattle.rdm_law.proofs.PlainPorts.{life_with_peer}
 use Rattle.rdm_law.proofs.PlainWorlds.{PlainJob}
 use Rattle.rdm_law.proofs.PlainPlayed.{PlainWorld}
 
@@ -177,19 +172,19 @@ waits_unheard job i j w port c d n fair plain p m has =
     let mine = of_life c (deeds_at job port (w.logs port)) in
     let wait = p.sound.delivers.waits port d m in
     heard_none (heard_head mine i n) (λ h is.
-      let t = heard_taken mine i n h is in
-      let k = taken_handled job port c i (Spelled (Rtm t.number t.tag t.opt t.form)) (w.logs port) (p.sound.local port) t.took in
-      let q = k.0 in
-      let pushed = handled_pushed w.logs port q (w.logs port) (p.sound.delivers.handled port) k.1 in
-      let mq : HasMessage i q = record {
-          to = c;
-          load = k.2.load;
-          src_is = k.2.src_is;
-          body_is = k.2.body_is;
-          number = t.number;
-          tag = t.tag;
-          opt = t.opt;
-          form = t.form;
-          item_is = k.2.item_is;
-        } in
-      unhandled_other d q (w.logs port) wait.fresh k.1 (message_once job i j w q d fair plain p pushed wait.pushed mq has))
+    let t = heard_taken mine i n h is in
+    let k = taken_handled job port c i (Spelled (Rtm t.number t.tag t.opt t.form)) (w.logs port) (p.sound.local port) t.took in
+    let q = k.0 in
+    let pushed = handled_pushed w.logs port q (w.logs port) (p.sound.delivers.handled port) k.1 in
+    let mq : HasMessage i q = record {
+      to = c;
+      load = k.2.load;
+      src_is = k.2.src_is;
+      body_is = k.2.body_is;
+      number = t.number;
+      tag = t.tag;
+      opt = t.opt;
+      form = t.form;
+      item_is = k.2.item_is;
+    } in
+    unhandled_other d q (w.logs port) wait.fresh k.1 (message_once job i j w q d fair plain p pushed wait.pushed mq has))

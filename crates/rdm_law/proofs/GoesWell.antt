@@ -1,49 +1,40 @@
 -- In a fair job, what goes out by a log that is right by itself fits the wire.
-use Rattle.std.proofs.Common.{◌≡◌, ℕ, zero, suc, ◌+◌, ◌-◌, ◌<◌, ◌≤◌, Bool, true, false, cond, nat_lt, nat_le, ltb-true, leb-true, ◌&&◌, List, [], ◌∷◌, length, get_or, Option, Some, None, IsTrue, refl, arith, ◌⊎◌, inl, inr, sym, ◌∙◌, ap, subst}
+use Rattle.std.proofs.Common.{◌≡◌, ℕ, ◌<◌, ltb-true, List, [], ◌∷◌, length, get_or, Option, Some, None, IsTrue, refl, arith, inl, inr, sym, ◌∙◌, subst}
 use Rattle.std.specs.Prelude.{slice_get}
-use Rattle.std.specs.List.{list_all}
-use Rattle.std.proofs.lemmas.Bool.{and_parts, cases_lt}
-use Rattle.std.proofs.lemmas.Option.{slice_get_within}
+use Rattle.std.proofs.lemmas.Bool.{cases_lt}
 use Rattle.std.proofs.lemmas.List.{get_or_past}
-use Rattle.rdm_num.specs.Lists.{Member}
-use Rattle.rdm_num.specs.Lives.{life}
 use Rattle.rdm_num.specs.declared.numbers.PortNo.{PortNo}
 use Rattle.rdm_num.specs.declared.numbers.Connid.{Connid}
 use Rattle.rdm_num.specs.declared.numbers.Life.{Life}
-use Rattle.rdm_wire.specs.declared.Datagram.{Datagram}
 use Rattle.rdm_wire.specs.declared.Body.{Body}
 use Rattle.rdm_wire.specs.declared.Body.TheVariants.{Note, Between}
 use Rattle.rdm_model.specs.declared.job.Job.{Job}
 use Rattle.rdm_model.specs.declared.job.Rank.{Rank}
-use Rattle.rdm_model.specs.declared.job.Instr.{Instr}
-use Rattle.rdm_model.specs.declared.job.Instr.TheVariants.{OpenLife, Insert, Reg, Send, Recv, Cancel, Note as NoteOp, Await, Wait, CloseLife}
+use Rattle.rdm_model.specs.declared.job.Instr.TheVariants.{OpenLife, CloseLife}
 use Rattle.rdm_model.specs.declared.answer.Next.{Next as Answer}
-use Rattle.rdm_model.specs.declared.answer.Next.TheVariants.{Did as DidAnswer}
 use Rattle.rdm_model.specs.declared.answer.Handled.{Handled}
 use Rattle.rdm_model.specs.declared.answer.Handled.TheVariants.{Took as TookAnswer}
 use Rattle.rdm_model.specs.declared.entry.Entry.{Entry}
 use Rattle.rdm_model.specs.declared.entry.Act.{Act}
 use Rattle.rdm_model.specs.declared.entry.Act.TheVariants.{Next, Push, Handle, Poll}
-use Rattle.rdm_model.specs.Deeds.{Deed, Did, PushedNote, Pushed, TookNote, Took, Polled, Nothing, Item, item_of, deed_by_next, deed_by_push, deed_by_handle, deed_of, deeds, open_after, open_life, is_connid, of_life, of_open_life, deed_count}
-use Rattle.rdm_model.specs.Owns.{Own, rank_of, no_rank, port_count, own_of, life_at}
-use Rattle.rdm_model.specs.Jobs.{is_fair, law_ops, limits_fit, features_fit, rank_fits, instr_fits, is_within}
+use Rattle.rdm_model.specs.Deeds.{Deed, Did, Polled, Item, deed_by_next, deed_by_push, deed_by_handle, deed_of, deeds, open_after, open_life, of_life}
+use Rattle.rdm_model.specs.Owns.{Own, rank_of, no_rank, port_count, own_of}
+use Rattle.rdm_model.specs.Jobs.{is_fair, law_ops, instr_fits}
 use Rattle.rdm_model.specs.Scenes.{Scene, scene, deeds_at}
 use Rattle.rdm_model.specs.Notes.{next_note}
 use Rattle.rdm_model.specs.Turns.{Turn, turn}
-use Rattle.rdm_model.specs.Going.{Going, Goes, turn_going, life_going, note_going, going}
-use Rattle.rdm_model.specs.Steps.{count, is_next}
+use Rattle.rdm_model.specs.Going.{Goes, turn_going, life_going, going}
 use Rattle.rdm_model.specs.Local.{heard_by, own_scene, Local}
-use Rattle.rdm_law.proofs.Lives.{life_scene, life_of, opened_scene, at_of_life, note_goes, life_local}
-use Rattle.rdm_law.proofs.Fitting.{BodyFits, HandledFits, AllHandledFit, CanGo, item_fits}
-use Rattle.rdm_law.proofs.SmallBytes.{AllTakenFit, TakenFits, bytes_by_fit, all_at}
+use Rattle.rdm_law.proofs.Lives.{life_scene, life_of, opened_scene, note_goes, life_local}
+use Rattle.rdm_law.proofs.Fitting.{AllHandledFit, CanGo}
+use Rattle.rdm_law.proofs.SmallBytes.{AllTakenFit, bytes_by_fit}
 use Rattle.rdm_law.proofs.RegionsFit.{DidFits, AllDidFit, MessagesFit}
 use Rattle.rdm_law.proofs.AnswersFit.{ranges_fit, numbers_fit}
-use Rattle.rdm_law.proofs.SentFits.{is_did, did_count, DeedsFit}
+use Rattle.rdm_law.proofs.SentFits.{DeedsFit}
 use Rattle.rdm_law.proofs.RepliesFit.{OwnFits, HeadsFit, heads_fit}
-use Rattle.rdm_law.proofs.OpeningsFit.{LimitsFit, limits_are}
 use Rattle.rdm_law.proofs.TurnsFit.{turn_fits}
 use Rattle.rdm_law.proofs.Sound.{GoesWell}
-use Rattle.rdm_law.proofs.FairJobs.{RankFits, JobFits, fair_job, all_did_fit, all_taken_fit, life_did, life_taken, life_count, did_instructions, next_within}
+use Rattle.rdm_law.proofs.FairJobs.{JobFits, fair_job, all_did_fit, all_taken_fit, life_did, life_taken, life_count, did_instructions, next_within}
 
 none_some : (c : Connid) → None ≡ Some c → ⊥
 none_some c h = cc

@@ -1,7 +1,6 @@
 -- How long the headers of a packet are that opens a message, and what the choice of a protocol says of the length.
-use Rattle.std.proofs.Common.{◌≡◌, ℕ, zero, suc, ◌+◌, ◌-◌, ◌<◌, ◌≤◌, min, Bool, true, false, cond, not, nat_lt, nat_le, ltb-true, leb-false, leb-true, ◌&&◌, List, [], ◌∷◌, ◌++◌, length, flat_map, is_some, take, drop, Option, Some, None, refl, arith, ◌⊎◌, inl, inr, sym, ◌∙◌, ap, subst, length-append, length-take, length-drop}
+use Rattle.std.proofs.Common.{◌≡◌, ℕ, zero, suc, ◌+◌, ◌-◌, ◌<◌, ◌≤◌, min, Bool, true, false, cond, nat_lt, nat_le, leb-false, ◌&&◌, List, [], ◌∷◌, ◌++◌, length, is_some, take, drop, Option, Some, None, refl, arith, inl, inr, subst, length-append, length-take, length-drop}
 use Rattle.std.specs.Bool.{then_some}
-use Rattle.std.proofs.lemmas.Bool.{and_parts}
 use Rattle.byteorder.specs.Endian.{little_bytes}
 use Rattle.byteorder.specs.Numbers.{length-bytes_low_first}
 use Rattle.rdm_num.specs.Lists.{Member}

@@ -1,35 +1,30 @@
 -- The packets that open a message of an accepted send fit.
-use Rattle.std.proofs.Common.{◌≡◌, ℕ, zero, suc, ◌+◌, ◌-◌, ◌<◌, ◌≤◌, min, Bool, true, false, cond, nat_lt, nat_le, ltb-true, leb-false, leb-true, lt-ltb, le-leb, eq-eqb, ◌&&◌, List, [], ◌∷◌, ◌++◌, map, length, sum_by, is_some, take, drop, Option, Some, None, refl, arith, ◌⊎◌, inl, inr, sym, ◌∙◌, ap, subst, length-append, length-take, length-drop}
-use Rattle.std.specs.Prelude.{◌==◌, flat_map}
+use Rattle.std.proofs.Common.{◌≡◌, ℕ, ◌+◌, ◌-◌, ◌<◌, ◌≤◌, min, true, false, nat_lt, nat_le, leb-false, leb-true, lt-ltb, le-leb, eq-eqb, ◌&&◌, List, [], ◌∷◌, length, is_some, Option, refl, arith, sym, ◌∙◌, subst}
+use Rattle.std.specs.Prelude.{flat_map}
 use Rattle.std.specs.List.{list_all}
 use Rattle.std.proofs.lemmas.Bool.{and_parts, and_from}
-use Rattle.rdm_num.specs.Lists.{Member}
-use Rattle.rdm_num.specs.Lives.{op_id}
-use Rattle.rdm_num.specs.Pieces.{Piece, pieces}
+use Rattle.rdm_num.specs.Pieces.{Piece}
 use Rattle.rdm_num.specs.declared.numbers.OpId.{OpId}
 use Rattle.rdm_num.specs.declared.lists.IovEntry.{IovEntry}
 use Rattle.rdm_num.specs.declared.limits.EpLimits.{EpLimits}
-use Rattle.rdm_hdr.specs.Fields.{Field, Number, Data, field_fits}
+use Rattle.rdm_hdr.specs.Fields.{Number, Data, field_fits}
 use Rattle.rdm_hdr.specs.declared.Opt.{Opt}
-use Rattle.rdm_pkt.specs.declared.Packet.{Packet}
 use Rattle.rdm_pkt.specs.declared.Packet.TheVariants.{Rtm}
 use Rattle.rdm_pkt.specs.declared.Form.{Form}
 use Rattle.rdm_pkt.specs.declared.Form.TheVariants as F
 use Rattle.rdm_pkt.specs.declared.Kind.{Kind}
-use Rattle.rdm_pkt.specs.declared.Kind.TheVariants.{Eager, Medium, LongCts, LongRead, Runt}
 use Rattle.rdm_pkt.specs.Choice.{eager_room, both_have}
 use Rattle.rdm_pkt.specs.Grammar.{form_fields, last_fields, entry_fields, iov_fits, form_fits, fits, spelling}
-use Rattle.rdm_pkt.specs.Openings.{Message, rtm, medium_form, runt_form, long_cts_form, no_bytes, room_in, openings}
-use Rattle.rdm_model.specs.Jobs.{limits_fit, option_fits, len_max, is_within, is_u32, is_u64}
+use Rattle.rdm_pkt.specs.Openings.{rtm, medium_form, runt_form, long_cts_form, room_in}
+use Rattle.rdm_model.specs.Jobs.{limits_fit, option_fits, len_max, is_within}
 use Rattle.rdm_model.specs.Owns.{Own}
 use Rattle.rdm_model.specs.Sends.{Sent, opt_for}
-use Rattle.rdm_model.proofs.Members.{member-map}
 use Rattle.rdm_law.proofs.Fitting.{AreBytes}
-use Rattle.rdm_law.proofs.SmallBytes.{bytes_front, all_append}
+use Rattle.rdm_law.proofs.SmallBytes.{all_append}
 use Rattle.rdm_law.proofs.SentFits.{SentFits}
 use Rattle.rdm_law.proofs.RepliesFit.{OwnFits}
-use Rattle.rdm_law.proofs.PacketsFit.{EachFits, all_fields, word_field, long_field, data_field, HeadersFit, headers_fit, rtm_from}
-use Rattle.rdm_law.proofs.Headers.{fields_length, common_length, common_short, eager_room_is, sent_length_is, ChosenBy, choice_is, PieceFits, pieces_fit}
+use Rattle.rdm_law.proofs.PacketsFit.{all_fields, word_field, long_field, data_field, HeadersFit, headers_fit, rtm_from}
+use Rattle.rdm_law.proofs.Headers.{fields_length, common_length, common_short, eager_room_is, sent_length_is, ChosenBy, choice_is, PieceFits}
 
 -- what the proofs use of fair limits
 pub record LimitsFit (limits : EpLimits) : Type 0 where

@@ -1,6 +1,6 @@
 -- What goes out next from a plain life.
-use Rattle.std.proofs.Common.{◌≡◌, ℕ, zero, suc, ◌+◌, ◌-◌, ◌<◌, ◌≤◌, Bool, true, false, cond, List, [], ◌∷◌, ◌++◌, map, length, option_to_list, Option, Some, None, refl, arith, ◌⊎◌, inl, inr, sym, ◌∙◌, ap, subst, length-append}
-use Rattle.std.specs.Prelude.{slice_get, filter}
+use Rattle.std.proofs.Common.{◌≡◌, suc, ◌-◌, ◌≤◌, Bool, true, false, cond, List, [], ◌∷◌, map, length, Some, refl, arith, inl, inr, sym, ◌∙◌, ap, subst, length-append}
+use Rattle.std.specs.Prelude.{filter}
 use Rattle.std.proofs.lemmas.Option.{slice_get_within}
 use Rattle.std.proofs.lemmas.List.{length-map}
 use Rattle.rdm_num.specs.Lists.{Member}
@@ -18,11 +18,11 @@ use Rattle.rdm_model.specs.Currents.{current}
 use Rattle.rdm_model.specs.Sends.{Sent, sends_to, sends}
 use Rattle.rdm_model.specs.Replies.{Reply}
 use Rattle.rdm_model.specs.Turns.{Turn, Replies, Sends, progress, turn}
-use Rattle.rdm_model.specs.Going.{Going, Goes, turn_going}
-use Rattle.rdm_model.specs.Local.{heads_by, heard_by}
+use Rattle.rdm_model.specs.Going.{Goes, turn_going}
+use Rattle.rdm_model.specs.Local.{heads_by}
 use Rattle.rdm_model.proofs.Members.{slice_get-member, member-append_right}
 use Rattle.rdm_model.proofs.Numbers.{placed}
-use Rattle.rdm_model.proofs.Turns.{SendTurn, turn_cases, NextOf, next_is}
+use Rattle.rdm_model.proofs.Turns.{SendTurn, turn_cases, next_is}
 use Rattle.rdm_model.proofs.Pushes.{pushed_of, underway}
 use Rattle.rdm_law.proofs.Owed.{owed_in}
 use Rattle.rdm_law.proofs.Queue.{owed, waits_owed}
@@ -30,8 +30,8 @@ use Rattle.rdm_law.proofs.SentFits.{SentFits, option_length}
 use Rattle.rdm_law.proofs.TurnsFit.{reply_no_send}
 use Rattle.rdm_law.proofs.AnswersFit.{sent_life, sent_lives, lives_of_sends}
 use Rattle.rdm_law.proofs.OpCounts.{send_count, did_as}
-use Rattle.rdm_law.proofs.PlainDeeds.{IsPlainPacket, IsPlainLoad, IsWithPeer, AreWithPeer}
-use Rattle.rdm_law.proofs.PlainTurns.{IsPlainGoing, all_eager, plain_owed, PlainSent, plain_sends, plain_kind}
+use Rattle.rdm_law.proofs.PlainDeeds.{IsPlainPacket, IsPlainLoad, AreWithPeer}
+use Rattle.rdm_law.proofs.PlainTurns.{IsPlainGoing, all_eager, plain_owed, plain_sends, plain_kind}
 
 filter_shorter : {A : Type 0} (p : A → Bool) (xs : List A) → length (filter p xs) ≤ length xs
 filter_shorter p [] = omega arith

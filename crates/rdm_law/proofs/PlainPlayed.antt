@@ -1,5 +1,5 @@
 -- A job of two plain ranks, and the one that sends a short message: in each world that is reached the lives are plain.
-use Rattle.std.proofs.Common.{◌≡◌, ℕ, zero, suc, ◌++◌, ◌+◌, ◌-◌, ◌<◌, ◌≤◌, Bool, nat_lt, le-leb, List, [], ◌∷◌, length, sum_by, get_or, is_some, Option, Some, None, IsTrue, refl, arith, ◌⊎◌, inl, inr, sym, ◌∙◌, ap, subst}
+use Rattle.std.proofs.Common.{◌≡◌, ℕ, zero, suc, ◌++◌, ◌≤◌, nat_lt, le-leb, List, [], ◌∷◌, get_or, is_some, Some, None, IsTrue, refl, arith, inl, inr, sym, ◌∙◌, subst}
 use Rattle.std.specs.List.{list_all}
 use Rattle.std.proofs.lemmas.Bool.{cases_eq}
 use Rattle.rdm_num.specs.Lists.{Member}
@@ -7,7 +7,6 @@ use Rattle.rdm_num.specs.declared.numbers.Connid.{Connid}
 use Rattle.rdm_num.specs.declared.numbers.Life.{Life}
 use Rattle.rdm_num.specs.declared.request.SendReq.{SendReq}
 use Rattle.rdm_num.specs.declared.request.RecvReq.{RecvReq}
-use Rattle.rdm_num.specs.declared.limits.EpLimits.{EpLimits}
 use Rattle.rdm_pkt.specs.Choice.{eager_room}
 use Rattle.rdm_wire.specs.declared.Datagram.{Datagram}
 use Rattle.rdm_model.specs.declared.job.Job.{Job}
@@ -16,20 +15,20 @@ use Rattle.rdm_model.specs.declared.job.Choice.{Choice}
 use Rattle.rdm_model.specs.declared.job.Instr.{Instr}
 use Rattle.rdm_model.specs.declared.job.Instr.TheVariants.{OpenLife, Insert, Reg, Send, Recv, Wait}
 use Rattle.rdm_model.specs.declared.entry.Entry.{Entry}
-use Rattle.rdm_model.specs.Deeds.{Deed, deeds, open_life, of_life, of_open_life}
+use Rattle.rdm_model.specs.Deeds.{deeds, open_life, of_life, of_open_life}
 use Rattle.rdm_model.specs.Owns.{Own, rank_of, no_rank, own_of, life_at, port_count}
 use Rattle.rdm_model.specs.Jobs.{is_fair, law_ops, open_count, choice_rank}
-use Rattle.rdm_model.specs.Scenes.{Scene, scene, deeds_at}
+use Rattle.rdm_model.specs.Scenes.{scene, deeds_at}
 use Rattle.rdm_model.specs.Local.{own_scene, Local}
-use Rattle.rdm_model.specs.Worlds.{World, new_world, scene_in, after_choice, after_choices}
-use Rattle.rdm_model.specs.Played.{rounds, played_world}
+use Rattle.rdm_model.specs.Worlds.{World, new_world, scene_in, after_choices}
+use Rattle.rdm_model.specs.Played.{rounds}
 use Rattle.rdm_law.proofs.Lives.{life_of, life_local}
 use Rattle.rdm_law.proofs.GoesWell.{none_opens}
-use Rattle.rdm_law.proofs.Headers.{common_length, common_short, eager_room_is}
-use Rattle.rdm_law.proofs.Sound.{Sound, waiting_in}
+use Rattle.rdm_law.proofs.Headers.{common_short, eager_room_is}
+use Rattle.rdm_law.proofs.Sound.{Sound}
 use Rattle.rdm_law.proofs.SoundSteps.{new_sound}
 use Rattle.rdm_law.proofs.PlaysLawfully.{sound_keeps}
-use Rattle.rdm_law.proofs.PlayedSteps.{Keeps, rounds_keep, choices_keep, played_keeps}
+use Rattle.rdm_law.proofs.PlayedSteps.{Keeps, rounds_keep, choices_keep}
 use Rattle.rdm_law.proofs.OpCounts.{send_count}
 use Rattle.rdm_law.proofs.PlainDeeds.{FitsOnePacket, IsPlainOp, IsPlain, plain_life}
 use Rattle.rdm_law.proofs.PlainPorts.{PlainRank, IsPlainBody, ArePlainHandles, open_is, life_with_peer}
@@ -123,12 +122,12 @@ pub record SendsOnce (job : Job) : Type 0 where
   pub short : send.len ≤ 190
   pub mtu : 256 ≤ job.limits.mtu
   pub ranks_are : job.ranks
-    ≡ record {
-      features = 25;
-      ops = OpenLife sender ∷ Insert (record { port = record { 0 = 1 }; connid = receiver }) ∷ Reg text ∷ Send send ∷ Wait sent_count ∷ [];
-    }
-    ∷ record { features = 25; ops = OpenLife receiver ∷ Reg zeros ∷ Recv recv ∷ Wait received_count ∷ [] }
-    ∷ []
+      ≡ record {
+        features = 25;
+        ops = OpenLife sender ∷ Insert (record { port = record { 0 = 1 }; connid = receiver }) ∷ Reg text ∷ Send send ∷ Wait sent_count ∷ [];
+      }
+      ∷ record { features = 25; ops = OpenLife receiver ∷ Reg zeros ∷ Recv recv ∷ Wait received_count ∷ [] }
+      ∷ []
 
 -- the lives of the two ranks
 abbrev pub sender_life : {job : Job} → SendsOnce job → Life
@@ -147,63 +146,63 @@ sending_rank : (own : Own) (peer : Life) (sender : Connid) (text : List ℕ) (re
     → PlainRank own peer (OpenLife sender ∷ Insert peer ∷ Reg text ∷ Send req ∷ Wait count ∷ [])
 unfolding open_count send_count
 sending_rank own peer sender text req count mine fits = record {
-    plain = λ instr m. elim m [
-      | inl a ↦ subst (IsPlainOp own peer) a tt
-      | inr b ↦ elim b [
-        | inl a ↦ subst (IsPlainOp own peer) a refl
-        | inr c ↦ elim c [
-          | inl a ↦ subst (IsPlainOp own peer) a tt
-          | inr d ↦ elim d [
-            | inl a ↦ subst (IsPlainOp own peer) a fits
-            | inr e ↦ elim e [ inl a ↦ subst (IsPlainOp own peer) a tt | inr never ↦ elim never [ ] ]
-          ]
+  plain = λ instr m. elim m [
+    | inl a ↦ subst (IsPlainOp own peer) a tt
+    | inr b ↦ elim b [
+      | inl a ↦ subst (IsPlainOp own peer) a refl
+      | inr c ↦ elim c [
+        | inl a ↦ subst (IsPlainOp own peer) a tt
+        | inr d ↦ elim d [
+          | inl a ↦ subst (IsPlainOp own peer) a fits
+          | inr e ↦ elim e [ inl a ↦ subst (IsPlainOp own peer) a tt | inr never ↦ elim never [ ] ]
         ]
       ]
-    ];
-    opens = λ c m. elim m [
-      | inl a ↦ (let same : sender ≡ c = cc in sym same ∙ sym mine)
-      | inr b ↦ elim b [
+    ]
+  ];
+  opens = λ c m. elim m [
+    | inl a ↦ (let same : sender ≡ c = cc in sym same ∙ sym mine)
+    | inr b ↦ elim b [
+      | inl a ↦ cc
+      | inr c ↦ elim c [
         | inl a ↦ cc
-        | inr c ↦ elim c [
+        | inr d ↦ elim d [
           | inl a ↦ cc
-          | inr d ↦ elim d [
-            | inl a ↦ cc
-            | inr e ↦ elim e [ inl a ↦ cc | inr never ↦ elim never [ ] ]
-          ]
+          | inr e ↦ elim e [ inl a ↦ cc | inr never ↦ elim never [ ] ]
         ]
       ]
-    ];
-    one_open = omega arith;
-    one_send = omega arith;
-  }
+    ]
+  ];
+  one_open = omega arith;
+  one_send = omega arith;
+}
 
 receiving_rank : (own : Own) (peer : Life) (receiver : Connid) (zeros : List ℕ) (req : RecvReq) (count : ℕ) → own.life.connid ≡ receiver
     → PlainRank own peer (OpenLife receiver ∷ Reg zeros ∷ Recv req ∷ Wait count ∷ [])
 unfolding open_count send_count
 receiving_rank own peer receiver zeros req count mine = record {
-    plain = λ instr m. elim m [
+  plain = λ instr m. elim m [
+    | inl a ↦ subst (IsPlainOp own peer) a tt
+    | inr b ↦ elim b [
       | inl a ↦ subst (IsPlainOp own peer) a tt
-      | inr b ↦ elim b [
+      | inr c ↦ elim c [
         | inl a ↦ subst (IsPlainOp own peer) a tt
-        | inr c ↦ elim c [
-          | inl a ↦ subst (IsPlainOp own peer) a tt
-          | inr d ↦ elim d [ inl a ↦ subst (IsPlainOp own peer) a tt | inr never ↦ elim never [ ] ]
-        ]
+        | inr d ↦ elim d [ inl a ↦ subst (IsPlainOp own peer) a tt | inr never ↦ elim never [ ] ]
       ]
-    ];
-    opens = λ c m. elim m [
-      | inl a ↦ (let same : receiver ≡ c = cc in sym same ∙ sym mine)
-      | inr b ↦ elim b [
+    ]
+  ];
+  opens = λ c m. elim m [
+    | inl a ↦ (let same : receiver ≡ c = cc in sym same ∙ sym mine)
+    | inr b ↦ elim b [
+      | inl a ↦ cc
+      | inr e ↦ elim e [
         | inl a ↦ cc
-        | inr e ↦ elim e [
-          | inl a ↦ cc
-          | inr d ↦ elim d [ inl a ↦ cc | inr never ↦ elim never [ ] ]
-        ]
+        | inr d ↦ elim d [ inl a ↦ cc | inr never ↦ elim never [ ] ]
       ]
-    ];
-    one_open = omega arith;
-    one_send = omega arith;
-  }
+    ]
+  ];
+  one_open = omega arith;
+  one_send = omega arith;
+}
 
 past_two : (a b : Rank) (port : ℕ) → (port ≡ 0 → ⊥) → (port ≡ 1 → ⊥) → (get_or (a ∷ b ∷ []) port no_rank).ops ≡ []
 past_two a b zero h k = absurd (h refl)

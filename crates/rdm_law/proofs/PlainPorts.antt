@@ -1,5 +1,5 @@
 -- The log of a plain rank: what it took of the other life and did of its program makes its life plain, and what goes out of it too.
-use Rattle.std.proofs.Common.{◌≡◌, ℕ, ◌+◌, ◌<◌, ◌≤◌, true, List, [], ◌∷◌, length, sum_by, Option, Some, None, refl, arith, ◌⊎◌, inl, inr, sym, ◌∙◌, ap, subst}
+use Rattle.std.proofs.Common.{◌≡◌, ℕ, ◌+◌, ◌≤◌, List, [], ◌∷◌, sum_by, Option, Some, refl, arith, ◌⊎◌, inl, inr, sym, ◌∙◌, ap, subst}
 use Rattle.std.specs.Prelude.{slice_get}
 use Rattle.rdm_num.specs.Lists.{Member}
 use Rattle.rdm_num.specs.Lives.{life}
@@ -11,7 +11,6 @@ use Rattle.rdm_pkt.specs.Reading.{packet_in}
 use Rattle.rdm_wire.specs.declared.Datagram.{Datagram}
 use Rattle.rdm_wire.specs.declared.Body.{Body}
 use Rattle.rdm_wire.specs.declared.Body.TheVariants.{Note, Between}
-use Rattle.rdm_wire.specs.declared.Load.{Load}
 use Rattle.rdm_wire.specs.declared.Load.TheVariants.{Packet as PacketLoad, Ask, Given}
 use Rattle.rdm_model.specs.declared.job.Job.{Job}
 use Rattle.rdm_model.specs.declared.job.Instr.{Instr}
@@ -23,7 +22,7 @@ use Rattle.rdm_model.specs.declared.answer.Handled.TheVariants.{Took as TookAnsw
 use Rattle.rdm_model.specs.declared.entry.Entry.{Entry}
 use Rattle.rdm_model.specs.declared.entry.Act.{Act}
 use Rattle.rdm_model.specs.declared.entry.Act.TheVariants.{Next, Push, Handle, Poll}
-use Rattle.rdm_model.specs.Deeds.{Deed, Did, PushedNote, Pushed, TookNote, Took, Polled, Nothing, Item, packet_item, item_of, deed_by_next, deed_by_push, deed_by_handle, deed_of, deeds, open_after, open_life, is_connid, of_life, deed_count}
+use Rattle.rdm_model.specs.Deeds.{Deed, Did, PushedNote, Pushed, TookNote, Took, Polled, Nothing, packet_item, item_of, deed_by_next, deed_by_push, deed_by_handle, deed_of, deeds, open_after, open_life, of_life, deed_count}
 use Rattle.rdm_model.specs.Owns.{Own, rank_of, own_of}
 use Rattle.rdm_model.specs.Jobs.{open_count}
 use Rattle.rdm_model.specs.Scenes.{deeds_at}
@@ -189,7 +188,7 @@ unfolding deed_of
 act_with_peer own i j port ops (Next index op answer) mine apart rank none h =
     next_with_peer own j (slice_get ops index) answer
     (did_with_peer own j ops (deed_by_next (slice_get ops index) answer) rank
-      (did_next (λ instr. Member instr ops) (slice_get ops index) answer (λ instr k. slice_get-member ops index instr k)) none)
+    (did_next (λ instr. Member instr ops) (slice_get ops index) answer (λ instr k. slice_get-member ops index instr k)) none)
 act_with_peer own i j port ops (Push d) mine apart rank none h = push_with_peer own j d.body
 act_with_peer own i j port ops (Handle d answer) mine apart rank none h = took_peer own i j port d d.body answer mine apart h.0 h.1
 act_with_peer own i j port ops (Poll c) mine apart rank none h = tt
@@ -208,7 +207,7 @@ life_with_peer job i j (e ∷ before) apart rank l h =
     let most = rank.one_open in
     at_of_life (AreWithPeer own j) i.connid d (deeds ops before)
     (λ is.
-      let once = open_counts (deeds ops before) i.connid is in
-      let none : did_as open_count d ≤ 0 = none_more (deeds ops before) d (sum_by open_count ops) once all most in
-      (was, act_with_peer own i j i.port.0 ops e.act refl apart rank none h.1))
+    let once = open_counts (deeds ops before) i.connid is in
+    let none : did_as open_count d ≤ 0 = none_more (deeds ops before) d (sum_by open_count ops) once all most in
+    (was, act_with_peer own i j i.port.0 ops e.act refl apart rank none h.1))
     (λ other. was)

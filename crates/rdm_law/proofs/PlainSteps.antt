@@ -1,5 +1,5 @@
 -- Each choice keeps a world of two plain ranks plain.
-use Rattle.std.proofs.Common.{◌≡◌, ℕ, ◌+◌, ◌%◌, max, Bool, nat_le, not, ◌&&◌, ◌||◌, List, [], ◌∷◌, ◌++◌, length, remove, slice_get, Option, Some, None, IsTrue, refl, ◌⊎◌, inl, inr, sym, ◌∙◌, ap, subst}
+use Rattle.std.proofs.Common.{◌≡◌, ℕ, ◌%◌, max, nat_le, not, ◌&&◌, ◌||◌, List, ◌∷◌, ◌++◌, length, slice_get, Option, Some, None, IsTrue, refl, inl, inr, sym, subst}
 use Rattle.rdm_num.specs.Lists.{Member}
 use Rattle.rdm_num.specs.declared.numbers.Life.{Life}
 use Rattle.rdm_num.specs.declared.completion.Completion.{Completion}
@@ -13,15 +13,15 @@ use Rattle.rdm_model.specs.declared.entry.Act.{Act}
 use Rattle.rdm_model.specs.declared.entry.Act.TheVariants.{Next, Push, Handle, Poll}
 use Rattle.rdm_model.specs.Jobs.{is_fair, law_ops}
 use Rattle.rdm_model.specs.Scenes.{deeds_at}
-use Rattle.rdm_model.specs.Answers.{op_of, answer_of, is_entry}
+use Rattle.rdm_model.specs.Answers.{answer_of, is_entry}
 use Rattle.rdm_model.specs.Classes.{class_of}
 use Rattle.rdm_model.specs.Going.{Going, GoesNote, Goes, going}
 use Rattle.rdm_model.specs.Takes.{handled_answer, is_again_early}
 use Rattle.rdm_model.specs.Settled.{is_worn, is_worn_by, instruction_left}
-use Rattle.rdm_model.specs.Local.{own_scene, Local}
+use Rattle.rdm_model.specs.Local.{own_scene}
 use Rattle.rdm_model.specs.Worlds.{World, new_world, put_at, scene_in, with_entry, next_act, step_next, datagram_of, with_push, step_push, after_fetch, with_handle, after_handle_at, after_pick, step_handle, with_poll, next_completion, after_choice}
-use Rattle.rdm_law.proofs.Apart.{put_at_case, Removed, removed, member_seam}
-use Rattle.rdm_law.proofs.DeliverSteps.{IsQuiet, one_more, one_more_cases, one_less, one_less_was}
+use Rattle.rdm_law.proofs.Apart.{put_at_case, removed, member_seam}
+use Rattle.rdm_law.proofs.DeliverSteps.{IsQuiet, one_more, one_more_cases, one_less_was}
 use Rattle.rdm_law.proofs.Sound.{Sound, waiting_in, chosen, entry_of}
 use Rattle.rdm_law.proofs.SoundSteps.{queue_more}
 use Rattle.rdm_law.proofs.SoundHandles.{fetch_waits, stash_less, stash_was}
@@ -52,9 +52,9 @@ quiet_handle i j first port (Poll c) q = tt
 quiet_plain : (job : Job) (i j : Life) (first : ℕ) (w : World) (port : ℕ) (act : Act) → IsQuiet act → HasPlain i j first w → HasPlain i j first (with_entry job w port act)
 unfolding with_entry
 quiet_plain job i j first w port act q h = record {
-    handled = handled_plain i j first w.logs port (entry_of job port (w.logs port) act) h.handled (quiet_handle i j first port act q);
-    waiting = h.waiting;
-  }
+  handled = handled_plain i j first w.logs port (entry_of job port (w.logs port) act) h.handled (quiet_handle i j first port act q);
+  waiting = h.waiting;
+}
 
 next_plain : (job : Job) (i j : Life) (first : ℕ) (w : World) (port : ℕ) (o : Option Instr) → HasPlain i j first w → HasPlain i j first (step_next job w port o)
 unfolding step_next next_act
@@ -99,9 +99,9 @@ goes_plain job i j w port (Some (Goes to item)) fair plain s is h =
 fetch_plain : (job : Job) (i j : Life) (first : ℕ) (w : World) (port : ℕ) → HasPlain i j first w → HasPlain i j first (after_fetch job w port)
 unfolding after_fetch
 fetch_plain job i j first w port h = record {
-    handled = h.handled;
-    waiting = λ p d m. h.waiting p d (subst (λ (ds : List Datagram). Member d ds) (fetch_waits job w port p) m);
-  }
+  handled = h.handled;
+  waiting = λ p d m. h.waiting p d (subst (λ (ds : List Datagram). Member d ds) (fetch_waits job w port p) m);
+}
 
 handle_plain : (job : Job) (i j : Life) (first : ℕ) (w : World) (port place : ℕ) (o : Option Datagram) → slice_get (w.stashes port) place ≡ o → HasPlain i j first w
     → HasPlain i j first (with_handle job w port place o)
@@ -110,15 +110,15 @@ handle_plain job i j first w port place None is h = h
 handle_plain job i j first w port place (Some d) is h =
     chosen (HasPlain i j first) (is_again_early class_of (scene_in job w port) d || is_worn_by job (w.logs port) d) w _ (λ yes. h)
     (λ no.
-      let answer : Handled = handled_answer class_of (scene_in job w port) d in
-      let r = removed (w.stashes port) place d is in
-      let was = stash_was w port place d r in
-      record {
-        handled = handled_plain i j first w.logs port (entry_of job port (w.logs port) (Handle d answer)) h.handled
+    let answer : Handled = handled_answer class_of (scene_in job w port) d in
+    let r = removed (w.stashes port) place d is in
+    let was = stash_was w port place d r in
+    record {
+      handled = handled_plain i j first w.logs port (entry_of job port (w.logs port) (Handle d answer)) h.handled
           (h.waiting port d (subst (λ (ds : List Datagram). Member d ds) (sym was) (member_seam d r.front (r.back ++ w.queues port))));
-        waiting = λ p q m.
+      waiting = λ p q m.
           h.waiting p q (one_less_was (waiting_in w) port r.front d (r.back ++ w.queues port) q p was (subst (λ (ds : List Datagram). Member q ds) (stash_less w port place d r p) m)).0;
-      })
+    })
 
 -- each choice
 pub choice_plain : (job : Job) (i j : Life) (w : World) (c : Choice) → IsTrue (is_fair law_ops job) → PlainJob job i j → Sound job w → HasPlain i j job.limits.first w

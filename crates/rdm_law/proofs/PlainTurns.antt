@@ -1,12 +1,9 @@
 -- What goes out of a plain life: its one message in one packet, and one handshake, both to the other life.
-use Rattle.std.proofs.Common.{◌≡◌, ℕ, zero, suc, ◌+◌, ◌-◌, ◌<◌, ◌≤◌, min, Bool, true, false, cond, nat_lt, nat_le, ◌&&◌, List, [], ◌∷◌, ◌++◌, map, length, is_some, unwrap_or, Option, Some, None, refl, arith, ◌⊎◌, inl, inr, sym, ◌∙◌, ap, subst, length-append}
-use Rattle.std.specs.Prelude.{◌==◌, slice_get}
-use Rattle.std.specs.Bool.{then_some}
-use Rattle.std.proofs.lemmas.Option.{slice_get_within}
+use Rattle.std.proofs.Common.{◌≡◌, ℕ, Bool, true, nat_le, ◌&&◌, List, [], ◌∷◌, length, is_some, unwrap_or, Option, Some, None, refl, inl, inr, sym, ◌∙◌, ap, subst}
+use Rattle.std.specs.Prelude.{◌==◌}
 use Rattle.rdm_num.specs.Lists.{Member}
 use Rattle.rdm_num.specs.Lives.{same_life}
 use Rattle.rdm_num.specs.declared.numbers.Life.{Life}
-use Rattle.rdm_num.specs.declared.numbers.MsgNo.{MsgNo}
 use Rattle.rdm_num.specs.declared.numbers.OpId.{OpId}
 use Rattle.rdm_num.specs.declared.head.Head.{Head}
 use Rattle.rdm_num.specs.declared.head.Shape.{Shape}
@@ -14,38 +11,25 @@ use Rattle.rdm_num.specs.declared.head.Shape.TheVariants as S
 use Rattle.rdm_num.specs.declared.request.SendReq.{SendReq}
 use Rattle.rdm_num.specs.declared.limits.EpLimits.{EpLimits}
 use Rattle.rdm_wire.specs.declared.ReadAsk.{ReadAsk}
-use Rattle.rdm_hdr.specs.declared.Opt.{Opt}
-use Rattle.rdm_pkt.specs.declared.Packet.{Packet}
-use Rattle.rdm_pkt.specs.declared.Packet.TheVariants.{Rtm, Cts, CtsData, Eor, Handshake}
+use Rattle.rdm_pkt.specs.declared.Packet.TheVariants.{Rtm, Eor}
 use Rattle.rdm_pkt.specs.declared.Form.TheVariants as F
-use Rattle.rdm_pkt.specs.declared.Kind.{Kind}
-use Rattle.rdm_pkt.specs.declared.Kind.TheVariants.{Eager, LongCts}
+use Rattle.rdm_pkt.specs.declared.Kind.TheVariants.{Eager}
 use Rattle.rdm_pkt.specs.Heads.{head_of, shape_of}
-use Rattle.rdm_pkt.specs.Openings.{Message, rtm, openings}
 use Rattle.rdm_pkt.specs.Choice.{choose, eager_room}
-use Rattle.rdm_match.specs.Matcher.{Pair}
-use Rattle.rdm_model.specs.declared.job.Instr.{Instr}
 use Rattle.rdm_model.specs.declared.job.Instr.TheVariants.{Send}
-use Rattle.rdm_model.specs.Deeds.{Deed, Did, Took, Item, Spelled, Asks, Gives, deed_count}
+use Rattle.rdm_model.specs.Deeds.{Deed, Did, Took, Item, Spelled, Asks}
 use Rattle.rdm_model.specs.Owns.{Own, Messages, Heads, no_head}
-use Rattle.rdm_model.specs.Currents.{current}
 use Rattle.rdm_model.specs.Heard.{head_by, heard_head}
 use Rattle.rdm_model.specs.Regions.{regions}
 use Rattle.rdm_model.specs.Sends.{Sent, sends_to, new_sent, range_of, sends}
 use Rattle.rdm_model.specs.Replies.{Reply, asks_for, end_for}
-use Rattle.rdm_model.specs.Turns.{Turn, Replies, Sends, progress, turn}
-use Rattle.rdm_model.specs.Going.{Going, Goes, turn_going}
-use Rattle.rdm_model.specs.Local.{heads_by, heard_by}
-use Rattle.rdm_model.proofs.Members.{or_else_cases, slice_get-member, member-append_right}
-use Rattle.rdm_model.proofs.Numbers.{NewSent, sends_keep, placed}
-use Rattle.rdm_model.proofs.Turns.{SendTurn, turn_cases, GrantedNext, NextOf, Underway, next_is}
-use Rattle.rdm_model.proofs.Pushes.{pushed_of, underway}
-use Rattle.rdm_law.proofs.Owed.{NewShake, NewAsk, NewCts, NewEnd, NewGiven, NewReply, OwedIn, owed_in, shape_in, recv_in}
-use Rattle.rdm_law.proofs.Queue.{owed, waits_owed}
+use Rattle.rdm_model.specs.Local.{heads_by}
+use Rattle.rdm_model.proofs.Members.{or_else_cases}
+use Rattle.rdm_model.proofs.Numbers.{sends_keep}
+use Rattle.rdm_law.proofs.Owed.{NewReply, OwedIn, shape_in, recv_in}
 use Rattle.rdm_law.proofs.SmallBytes.{some_then}
 use Rattle.rdm_law.proofs.SentFits.{SentFits}
-use Rattle.rdm_law.proofs.AnswersFit.{sent_life, sent_lives, lives_of_sends}
-use Rattle.rdm_law.proofs.PlainDeeds.{FitsOnePacket, IsPlainOp, IsPlainPacket, IsPlainLoad, IsWithPeer, AreWithPeer, current_peer}
+use Rattle.rdm_law.proofs.PlainDeeds.{FitsOnePacket, IsPlainLoad, IsWithPeer, AreWithPeer, current_peer}
 
 plain_head : (first : ℕ) (source : Life) (n : ℕ) (from : Life) (item : Item) (h : Head) → IsPlainLoad first item → head_by source n (Took from item) ≡ Some h → h.shape ≡ S.Eager
 unfolding head_by head_of shape_of

@@ -1,8 +1,7 @@
 -- What waits for a port of a plain world is built for the endpoint that is open there.
-use Rattle.std.proofs.Common.{◌≡◌, ℕ, false, List, [], ◌∷◌, ◌++◌, Option, Some, None, IsTrue, refl, ◌⊎◌, inl, inr, sym, ◌∙◌, ap, subst}
+use Rattle.std.proofs.Common.{◌≡◌, ℕ, false, List, ◌++◌, Option, Some, None, IsTrue, refl, inl, inr, sym, ◌∙◌, ap, subst}
 use Rattle.rdm_num.specs.Lists.{Member}
 use Rattle.rdm_num.specs.Lives.{life}
-use Rattle.rdm_num.specs.declared.numbers.PortNo.{PortNo}
 use Rattle.rdm_num.specs.declared.numbers.Connid.{Connid}
 use Rattle.rdm_num.specs.declared.numbers.Life.{Life}
 use Rattle.rdm_num.specs.declared.numbers.MsgNo.{MsgNo}
@@ -15,21 +14,19 @@ use Rattle.rdm_pkt.specs.Reading.{packet_in}
 use Rattle.rdm_wire.specs.declared.Datagram.{Datagram}
 use Rattle.rdm_wire.specs.declared.Body.{Body}
 use Rattle.rdm_wire.specs.declared.Body.TheVariants.{Note, Between}
-use Rattle.rdm_wire.specs.declared.Load.{Load}
 use Rattle.rdm_wire.specs.declared.Load.TheVariants.{Packet as PacketLoad, Ask, Given}
 use Rattle.rdm_model.specs.declared.job.Job.{Job}
-use Rattle.rdm_model.specs.Deeds.{Deed, Item, Spelled, packet_item, item_of, open_life, of_life, of_open_life}
+use Rattle.rdm_model.specs.Deeds.{Deed, Spelled, packet_item, item_of, open_life, of_open_life}
 use Rattle.rdm_model.specs.Owns.{Own, own_of, life_at}
 use Rattle.rdm_model.specs.Jobs.{is_fair, law_ops}
 use Rattle.rdm_model.specs.Heard.{heard_head, is_heard}
-use Rattle.rdm_model.specs.Scenes.{Scene, scene, deeds_at}
+use Rattle.rdm_model.specs.Scenes.{scene, deeds_at}
 use Rattle.rdm_model.specs.Local.{own_scene}
 use Rattle.rdm_model.specs.Worlds.{World, scene_in}
 use Rattle.rdm_law.proofs.Sound.{waiting_in}
 use Rattle.rdm_law.proofs.PlainDeeds.{IsPlainPacket, IsPlainItem}
-use Rattle.rdm_law.proofs.PlainPorts.{IsBetween, IsPlainBody}
+use Rattle.rdm_law.proofs.PlainPorts.{IsPlainBody}
 use Rattle.rdm_law.proofs.PlainWorlds.{PlainJob, swapped, swapped_body, swapped_handles}
-use Rattle.rdm_law.proofs.PlainSteps.{HasPlain}
 use Rattle.rdm_law.proofs.PlainPlayed.{PlainWorld}
 use Rattle.rdm_law.proofs.FirstOnce.{HasMessage, waits_unheard}
 
@@ -41,12 +38,12 @@ IsBuiltBody own log d (Between from to load) = IsPlainItem own log (life d.src f
 -- either life may be named first
 swapped_world : (job : Job) (i j : Life) (w : World) → PlainWorld job i j w → PlainWorld job j i w
 swapped_world job i j w p = record {
-    sound = p.sound;
-    has = record {
-      handled = λ port. swapped_handles i j job.limits.first port (w.logs port) (p.has.handled port);
-      waiting = λ port d m. (let h = p.has.waiting port d m in (swapped_body i j job.limits.first d d.body h.0, h.1));
-    };
-  }
+  sound = p.sound;
+  has = record {
+    handled = λ port. swapped_handles i j job.limits.first port (w.logs port) (p.has.handled port);
+    waiting = λ port d m. (let h = p.has.waiting port d m in (swapped_body i j job.limits.first d d.body h.0, h.1));
+  };
+}
 
 -- what the open life of a port has not heard of
 open_unheard : (job : Job) (i j : Life) (w : World) (port n : ℕ) (d : Datagram) (o : Option Connid) → IsTrue (is_fair law_ops job) → PlainJob job i j → PlainWorld job i j w

@@ -1,42 +1,39 @@
 -- Two plain ranks: every world that is reached has plain lives, and between them go their first messages and handshakes alone.
-use Rattle.std.proofs.Common.{◌≡◌, ℕ, ◌+◌, ◌<◌, ◌≤◌, ◌%◌, max, Bool, true, false, cond, nat_le, not, ◌&&◌, ◌||◌, List, [], ◌∷◌, ◌++◌, length, remove, slice_get, Option, Some, None, IsTrue, refl, arith, ◌⊎◌, inl, inr, sym, ◌∙◌, ap, subst}
+use Rattle.std.proofs.Common.{◌≡◌, ℕ, List, [], ◌∷◌, Some, None, IsTrue, refl, arith, inl, inr, sym, ◌∙◌, ap, subst}
 use Rattle.std.proofs.lemmas.Bool.{cases_eq}
 use Rattle.rdm_num.specs.Lists.{Member}
 use Rattle.rdm_num.specs.Lives.{life}
 use Rattle.rdm_num.specs.declared.numbers.PortNo.{PortNo}
 use Rattle.rdm_num.specs.declared.numbers.Connid.{Connid}
 use Rattle.rdm_num.specs.declared.numbers.Life.{Life}
-use Rattle.rdm_pkt.specs.declared.Packet.{Packet}
 use Rattle.rdm_pkt.specs.Grammar.{spelling}
-use Rattle.rdm_pkt.specs.Reading.{packet_in}
 use Rattle.rdm_pkt.proofs.ReadRtm.{packet_is_read}
 use Rattle.rdm_wire.specs.declared.Datagram.{Datagram}
 use Rattle.rdm_wire.specs.declared.Body.{Body}
 use Rattle.rdm_wire.specs.declared.Body.TheVariants.{Note, Between}
-use Rattle.rdm_wire.specs.declared.Load.{Load}
 use Rattle.rdm_wire.specs.declared.Load.TheVariants.{Packet as PacketLoad, Ask, Given}
 use Rattle.rdm_model.specs.declared.job.Job.{Job}
 use Rattle.rdm_model.specs.declared.job.Instr.{Instr}
 use Rattle.rdm_model.specs.declared.entry.Entry.{Entry}
 use Rattle.rdm_model.specs.declared.entry.Act.{Act}
 use Rattle.rdm_model.specs.declared.entry.Act.TheVariants.{Next, Push, Handle, Poll}
-use Rattle.rdm_model.specs.Deeds.{Deed, Item, Spelled, Asks, Gives, Garbled, deeds, open_life, of_life, deed_count}
-use Rattle.rdm_model.specs.Owns.{Own, rank_of, own_of, life_at, port_count}
+use Rattle.rdm_model.specs.Deeds.{Item, Spelled, Asks, Gives, Garbled, deeds, open_life, of_life}
+use Rattle.rdm_model.specs.Owns.{rank_of, own_of, life_at, port_count}
 use Rattle.rdm_model.specs.Jobs.{is_fair, law_ops}
 use Rattle.rdm_model.specs.Scenes.{Scene, scene, deeds_at}
 use Rattle.rdm_model.specs.Sends.{Sent, sends}
-use Rattle.rdm_model.specs.Going.{Going, Goes, going}
-use Rattle.rdm_model.specs.Local.{heads_by, heard_by, own_scene, Local}
+use Rattle.rdm_model.specs.Going.{Goes, going}
+use Rattle.rdm_model.specs.Local.{heard_by, own_scene, Local}
 use Rattle.rdm_model.specs.Worlds.{load_of}
-use Rattle.rdm_law.proofs.Lives.{life_scene, life_of, opened_scene, life_local}
+use Rattle.rdm_law.proofs.Lives.{opened_scene}
 use Rattle.rdm_law.proofs.Fitting.{AllHandledFit, CanGo}
 use Rattle.rdm_law.proofs.SmallBytes.{bytes_by_fit}
 use Rattle.rdm_law.proofs.RegionsFit.{MessagesFit}
 use Rattle.rdm_law.proofs.SentFits.{SentFits, sent_fits}
 use Rattle.rdm_law.proofs.FairJobs.{JobFits, fair_job}
-use Rattle.rdm_law.proofs.GoesWell.{LifeFits, life_fits, life_goes, closed_goes, none_opens, goes_well}
+use Rattle.rdm_law.proofs.GoesWell.{life_fits, life_goes, closed_goes, none_opens, goes_well}
 use Rattle.rdm_law.proofs.OpCounts.{send_count, did_as, did_within, life_within}
-use Rattle.rdm_law.proofs.PlainDeeds.{IsPlain, IsPlainPacket, IsPlainLoad, AreWithPeer, plain_life}
+use Rattle.rdm_law.proofs.PlainDeeds.{IsPlainLoad}
 use Rattle.rdm_law.proofs.PlainTurns.{IsPlainGoing}
 use Rattle.rdm_law.proofs.PlainGoes.{plain_turn, sends_by_deeds}
 use Rattle.rdm_law.proofs.PlainPorts.{PlainRank, IsBetween, IsPlainBody, IsPlainHandle, ArePlainHandles, open_is, life_with_peer}
@@ -138,7 +135,7 @@ opened_goes job i j port log to item c d fair plain l fit h is goes src dst =
         | inl at_j ↦
             swapped_body j i job.limits.first d (Between c to.connid (load_of item))
             (open_goes job j i log to item c d fair (swapped job i j plain) (subst L at_j l) fit
-              (swapped_handles i j job.limits.first j.port.0 log (subst H at_j h)) (subst O at_j is) (subst G at_j goes) (of_port j d port at_j src) dst)
+            (swapped_handles i j job.limits.first j.port.0 log (subst H at_j h)) (subst O at_j is) (subst G at_j goes) (of_port j d port at_j src) dst)
         | inr not_j ↦
             let none : (rank_of job port).ops ≡ [] = plain.others port not_i not_j in
             let P : List Instr → Type 0 = λ ops. open_life (deeds ops log) ≡ Some c in
@@ -156,7 +153,7 @@ pub any_goes : (job : Job) (i j : Life) (port : ℕ) (log : List Entry) (to : Li
 unfolding own_scene scene own_of life_at
 any_goes job i j port log to item d fair plain l fit h goes src dst =
     (elim (open_life (deeds_at job port log)) as (λ o. open_life (deeds_at job port log) ≡ o
-      → IsPlainBody i j job.limits.first d (Between (life_at port o).connid to.connid (load_of item))) [
+    → IsPlainBody i j job.limits.first d (Between (life_at port o).connid to.connid (load_of item))) [
       | None ↦ λ is. absurd (closed_goes (own_scene job port (deeds_at job port log)) to item is goes)
       | Some c ↦ λ is. opened_goes job i j port log to item c d fair plain l fit h is goes src dst
     ]) refl

@@ -1,6 +1,6 @@
 -- What goes out next from a life can go.
-use Rattle.std.proofs.Common.{◌≡◌, ℕ, zero, suc, ◌+◌, ◌-◌, ◌<◌, ◌≤◌, min, Bool, true, false, cond, nat_lt, ltb-true, ◌&&◌, ◌||◌, List, [], ◌∷◌, ◌++◌, map, length, is_some, take, drop, Option, Some, None, refl, arith, true≢false, ◌⊎◌, inl, inr, sym, ◌∙◌, ap, subst, length-append, length-take, length-drop}
-use Rattle.std.specs.Prelude.{slice_get, flat_map}
+use Rattle.std.proofs.Common.{◌≡◌, ℕ, ◌+◌, ◌-◌, ◌<◌, min, Bool, true, false, cond, nat_lt, ltb-true, ◌||◌, List, [], ◌∷◌, ◌++◌, length, is_some, take, drop, Some, refl, arith, true≢false, inl, inr, sym, ◌∙◌, ap, subst, length-append, length-take, length-drop}
+use Rattle.std.specs.Prelude.{flat_map}
 use Rattle.std.proofs.lemmas.Bool.{and_parts, cases_lt}
 use Rattle.rdm_num.specs.Lists.{Member}
 use Rattle.rdm_num.specs.Lives.{op_id}
@@ -8,37 +8,36 @@ use Rattle.rdm_num.specs.Pieces.{Piece, pieces, covers, piece_bytes}
 use Rattle.rdm_num.specs.declared.numbers.OpId.{OpId}
 use Rattle.rdm_num.specs.declared.numbers.Life.{Life}
 use Rattle.rdm_num.specs.declared.lists.IovEntry.{IovEntry}
-use Rattle.rdm_hdr.specs.Fields.{Field, Number, Data, field_fits}
+use Rattle.rdm_hdr.specs.Fields.{Number, Data, field_fits}
 use Rattle.rdm_pkt.specs.declared.Packet.{Packet}
-use Rattle.rdm_pkt.specs.declared.Packet.TheVariants.{Rtm, Cts, CtsData}
+use Rattle.rdm_pkt.specs.declared.Packet.TheVariants.{Cts, CtsData}
 use Rattle.rdm_pkt.specs.declared.Form.TheVariants as F
 use Rattle.rdm_pkt.specs.declared.Kind.{Kind}
 use Rattle.rdm_pkt.specs.declared.Kind.TheVariants.{Eager, Medium, LongCts, LongRead, Runt}
 use Rattle.rdm_pkt.specs.Grammar.{form_fields, last_fields, entry_fields, head_fields, layout, fits}
 use Rattle.rdm_num.specs.declared.numbers.Connid.{Connid}
-use Rattle.rdm_pkt.specs.Openings.{Message, rtm, medium_form, runt_form, long_cts_form, no_bytes, room_in, openings}
+use Rattle.rdm_pkt.specs.Openings.{rtm, medium_form, runt_form, long_cts_form, no_bytes, room_in, openings}
 use Rattle.rdm_model.specs.Deeds.{Deed, Took, Item, Spelled}
-use Rattle.rdm_model.specs.Jobs.{len_max}
 use Rattle.rdm_model.specs.Owns.{Own, Messages}
 use Rattle.rdm_model.specs.Sends.{Sent, sends}
 use Rattle.rdm_model.specs.Grants.{Grant, grants, grant_bytes, data_room}
 use Rattle.rdm_model.specs.Replies.{Reply}
 use Rattle.rdm_model.specs.Turns.{Turn, Replies, Sends, pieces_in, is_read, is_pushed, is_over, progress, turn}
-use Rattle.rdm_model.specs.Going.{Going, Goes, turn_going}
+use Rattle.rdm_model.specs.Going.{Goes, turn_going}
 use Rattle.rdm_model.proofs.Members.{member-map, member-append_right, slice_get-member}
 use Rattle.rdm_model.proofs.Rows.{row_covers}
 use Rattle.rdm_model.proofs.Opens.{some_opening}
-use Rattle.rdm_model.proofs.Turns.{SendTurn, turn_cases, GrantedNext, NextOf, Underway, next_is}
+use Rattle.rdm_model.proofs.Turns.{SendTurn, turn_cases, GrantedNext, Underway, next_is}
 use Rattle.rdm_model.proofs.Pushes.{pushed_of, underway}
 use Rattle.rdm_model.proofs.Sending.{grant_taken}
-use Rattle.rdm_law.proofs.Fitting.{AreBytes, CanGo}
+use Rattle.rdm_law.proofs.Fitting.{CanGo}
 use Rattle.rdm_law.proofs.SmallBytes.{AllTakenFit, TakenFits, bytes_front, bytes_rest, layout_fits, all_parts}
 use Rattle.rdm_law.proofs.RegionsFit.{MessagesFit}
 use Rattle.rdm_law.proofs.SentFits.{SentFits, DeedsFit, sent_fits}
 use Rattle.rdm_law.proofs.RepliesFit.{OwnFits, HeadsFit, replies_fit}
 use Rattle.rdm_law.proofs.PacketsFit.{data_fits}
 use Rattle.rdm_law.proofs.Headers.{fields_length, PieceFits, pieces_fit, common_length, common_short}
-use Rattle.rdm_law.proofs.OpeningsFit.{LimitsFit, chosen_kind, Chosen, longer, room_is, eager_fits, segment_fits, first_fits, read_fits, runt_fits, size_below}
+use Rattle.rdm_law.proofs.OpeningsFit.{LimitsFit, chosen_kind, longer, room_is, eager_fits, segment_fits, first_fits, read_fits, runt_fits, size_below}
 
 only_one : {A : Type 0} (P : A → Type 0) (x y : A) → Member y (x ∷ []) → P x → P y
 only_one P x y (inl is) h = subst P is h

@@ -1,7 +1,7 @@
 -- What waits by the logs waits in the history too.
-use Rattle.std.proofs.Common.{◌≡◌, ℕ, ◌+◌, ◌≤◌, Bool, true, false, cond, not, ◌&&◌, eqb-true, eq-eqb, List, [], ◌∷◌, ◌++◌, length, refl, arith, ◌⊎◌, inl, inr, sym, ◌∙◌, ap, subst, length-append}
-use Rattle.std.specs.Prelude.{◌==◌, filter}
-use Rattle.std.proofs.lemmas.Bool.{and_parts, cases_eq}
+use Rattle.std.proofs.Common.{◌≡◌, ℕ, ◌≤◌, Bool, true, false, cond, not, ◌&&◌, eqb-true, eq-eqb, List, [], ◌∷◌, ◌++◌, length, refl, arith, ◌⊎◌, inl, inr, sym, ap, subst, length-append}
+use Rattle.std.specs.Prelude.{◌==◌}
+use Rattle.std.proofs.lemmas.Bool.{and_parts}
 use Rattle.rdm_num.specs.Lists.{Member}
 use Rattle.rdm_num.specs.declared.numbers.PortNo.{PortNo}
 use Rattle.rdm_num.specs.declared.numbers.DatagramNo.{DatagramNo}
@@ -14,7 +14,7 @@ use Rattle.rdm_model.specs.Wire.{PushedIn, IsOther, IsUnhandled}
 use Rattle.rdm_model.specs.Joint.{IsJoint}
 use Rattle.rdm_model.specs.Settled.{same_datagram, waiting_after, waiting_datagrams}
 use Rattle.rdm_model.proofs.Members.{member-append_left, member-append_right, filter-member}
-use Rattle.rdm_law.proofs.Apart.{AreApart, DiffersFrom, member_without}
+use Rattle.rdm_law.proofs.Apart.{AreApart, member_without}
 use Rattle.rdm_law.proofs.Delivers.{Delivers, AllHadWaited}
 use Rattle.rdm_law.proofs.JointDelivered.{log_of_case, unhandled_by_all}
 
