@@ -34,7 +34,8 @@ use Rattle.rdm_model.specs.Classes.{is_number, is_early_end, is_mismatch}
 use Rattle.rdm_model.specs.Lawful.{life_deeds}
 use Rattle.rdm_model.proofs.Members.{list_any_member, same_life-true, slice_get-member}
 use Rattle.rdm_model.proofs.Numbers.{made, sent_is_of}
-use Rattle.rdm_law.proofs.Queue.{owed, waits_owed}
+use Rattle.rdm_law.proofs.Queue.{owed}
+use Rattle.rdm_law.proofs.Answered.{waits_owed}
 use Rattle.rdm_law.proofs.Owed.{OwedIn, owed_in}
 use Rattle.rdm_law.proofs.Causes.{owed_given}
 use Rattle.rdm_law.proofs.Clashes.{Clash}

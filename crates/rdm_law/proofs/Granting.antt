@@ -35,7 +35,8 @@ use Rattle.rdm_law.proofs.Pushed.{PlacedAt, placed_once}
 use Rattle.rdm_law.proofs.Known.{Known, account, sends_of}
 use Rattle.rdm_law.proofs.Named.{pairs_of, pair_known, IsOfSend, went_reply, head_shape, long_send, one_send, send_number}
 use Rattle.rdm_law.proofs.Distinct.{matching_distinct}
-use Rattle.rdm_law.proofs.Queue.{owed, Placed, Answered, answered_owed, answered_once}
+use Rattle.rdm_law.proofs.Queue.{owed, Placed}
+use Rattle.rdm_law.proofs.Answered.{Answered, answered_owed, answered_once}
 use Rattle.rdm_law.proofs.Owed.{shape_in, recv_in}
 use Rattle.rdm_law.proofs.ReplyTurns.{turned_answered}
 use Rattle.rdm_law.proofs.WindowsAt.{WindowAt, window_member, owed_window, windows_in_order}

@@ -25,7 +25,8 @@ use Rattle.rdm_model.proofs.Numbers.{placed}
 use Rattle.rdm_model.proofs.Turns.{SendTurn, turn_cases, next_is}
 use Rattle.rdm_model.proofs.Pushes.{pushed_of, underway}
 use Rattle.rdm_law.proofs.Owed.{owed_in}
-use Rattle.rdm_law.proofs.Queue.{owed, waits_owed}
+use Rattle.rdm_law.proofs.Queue.{owed}
+use Rattle.rdm_law.proofs.Answered.{waits_owed}
 use Rattle.rdm_law.proofs.SentFits.{SentFits, option_length}
 use Rattle.rdm_law.proofs.TurnsFit.{reply_no_send}
 use Rattle.rdm_law.proofs.AnswersFit.{sent_life, sent_lives, lives_of_sends}

@@ -32,7 +32,8 @@ use Rattle.rdm_model.specs.Local.{heads_by}
 use Rattle.rdm_model.proofs.Members.{or_else_cases, slice_get-member}
 use Rattle.rdm_law.proofs.Numbered.{matching_numbered}
 use Rattle.rdm_law.proofs.Owed.{NewReply, OwedIn, owed_in, shape_in, recv_in}
-use Rattle.rdm_law.proofs.Queue.{owed, waits_owed}
+use Rattle.rdm_law.proofs.Queue.{owed}
+use Rattle.rdm_law.proofs.Answered.{waits_owed}
 use Rattle.rdm_law.proofs.Fitting.{CanGo}
 use Rattle.rdm_law.proofs.SmallBytes.{AllTakenFit, TakenFits, rtm_fits, some_then, bytes_front, bytes_rest}
 use Rattle.rdm_law.proofs.RegionsFit.{MessagesFit}

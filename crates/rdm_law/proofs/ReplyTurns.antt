@@ -25,7 +25,8 @@ use Rattle.rdm_model.proofs.Grows.{agree_grows}
 use Rattle.rdm_law.proofs.Lives.{LifeLocal, LifeStep, TurnedAt, life_scene, not-false}
 use Rattle.rdm_law.proofs.Classed.{taken_parts}
 use Rattle.rdm_law.proofs.Asks.{AsksShare}
-use Rattle.rdm_law.proofs.Queue.{owed, queue, Placed, Answered, answered_owed, answered_once, turn_reply, waits_owed, waits_unanswered}
+use Rattle.rdm_law.proofs.Queue.{owed, queue, Placed}
+use Rattle.rdm_law.proofs.Answered.{Answered, answered_owed, answered_once, turn_reply, waits_owed, waits_unanswered}
 use Rattle.rdm_law.proofs.Owed.{OwedIn, owed_in}
 use Rattle.rdm_law.proofs.Clashes.{Clash}
 use Rattle.rdm_law.proofs.OwedOnce.{AsksApart, owed_unique}

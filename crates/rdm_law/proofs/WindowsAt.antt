@@ -17,7 +17,8 @@ use Rattle.rdm_model.specs.Replies.{Reply, replies_by}
 use Rattle.rdm_model.proofs.Members.{slice_get-append, slice_get-member}
 use Rattle.rdm_model.proofs.Matches.{member_is_pair, is_pair_still, pair_still}
 use Rattle.rdm_law.proofs.Received.{slice_get_split}
-use Rattle.rdm_law.proofs.Queue.{owed, slice_get_past}
+use Rattle.rdm_law.proofs.Queue.{owed}
+use Rattle.rdm_law.proofs.Answered.{slice_get_past}
 use Rattle.rdm_law.proofs.Owed.{shape_in, recv_in, NewReply, new_from}
 use Rattle.rdm_law.proofs.Clashes.{kind_of, recv_of}
 use Rattle.rdm_law.proofs.OwedOnce.{Telling, new_unique}

@@ -18,7 +18,8 @@ use Rattle.rdm_model.proofs.SameMatches.{pairs_same}
 use Rattle.rdm_model.proofs.SameRegions.{Agree, agree_before, sends_same}
 use Rattle.rdm_model.proofs.SameReplies.{replies_by_same, window_same, granted_bytes_same}
 use Rattle.rdm_model.proofs.Grows.{agree_grows}
-use Rattle.rdm_law.proofs.Queue.{owed, Placed, Answered}
+use Rattle.rdm_law.proofs.Queue.{owed, Placed}
+use Rattle.rdm_law.proofs.Answered.{Answered}
 use Rattle.rdm_law.proofs.Owed.{shape_in}
 use Rattle.rdm_law.proofs.ReplyTurns.{owed_same, answered_same}
 use Rattle.rdm_law.proofs.WindowsAt.{NewWindow, WindowAt}
