@@ -1,18 +1,14 @@
 -- Each reply that is owed stands at a place of its own, and is pushed once at most.
-use Rattle.std.proofs.Common.{◌≡◌, ℕ, zero, suc, ◌+◌, ◌<◌, ◌≤◌, Bool, true, false, cond, not, List, [], ◌∷◌, ◌++◌, map, length, drop, Option, Some, None, refl, arith, ◌⊎◌, inl, inr, sym, ◌∙◌, ap, subst}
+use Rattle.std.proofs.Common.{◌≡◌, ℕ, zero, suc, ◌+◌, ◌<◌, ◌≤◌, Bool, true, false, cond, List, [], ◌∷◌, ◌++◌, length, Option, Some, None, refl, arith, ◌⊎◌, inl, inr, sym, ◌∙◌, ap, subst}
 use Rattle.std.specs.Prelude.{filter, slice_get}
-use Rattle.std.specs.List.{list_any}
-use Rattle.std.proofs.lemmas.List.{length-append, map-append}
+use Rattle.std.proofs.lemmas.List.{length-append}
 use Rattle.rdm_num.specs.Lists.{Member}
-use Rattle.rdm_num.specs.Lives.{same_life}
-use Rattle.rdm_num.specs.declared.numbers.Life.{Life}
-use Rattle.rdm_pkt.specs.declared.Packet.{Packet}
 use Rattle.rdm_model.specs.Deeds.{Deed, Did, PushedNote, Pushed, TookNote, Took, Polled, Nothing}
 use Rattle.rdm_model.specs.Owns.{Own, Messages}
 use Rattle.rdm_model.specs.Currents.{forgotten_by}
-use Rattle.rdm_model.specs.Sends.{Sent, sends}
-use Rattle.rdm_model.specs.Replies.{Reply, replies_by, without_forgotten, without_lives}
-use Rattle.rdm_model.specs.Turns.{Progress, Turn, Replies, Sends, progress, after_deed, after_push, after_turn, next_turn, next_send, reply_turn, send_turn, is_over, next_packet, turn}
+use Rattle.rdm_model.specs.Sends.{sends}
+use Rattle.rdm_model.specs.Replies.{Reply, replies_by}
+use Rattle.rdm_model.specs.Turns.{Turn, Replies, progress, next_turn, next_send, reply_turn, turn}
 use Rattle.rdm_model.proofs.Members.{member-append_cases, member-filter, member-map, slice_get-append, slice_get-member}
 use Rattle.rdm_law.proofs.Queue.{owed, Placed, placed, popped, without, queue, replies_in, queue_replies, next_send_none}
 

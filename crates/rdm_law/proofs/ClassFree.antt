@@ -1,8 +1,6 @@
 -- What arrives passes each test that asks more than lives.
 use Rattle.std.proofs.Common.{◌≡◌, ℕ, false, List, refl}
 use Rattle.rdm_num.specs.declared.numbers.Life.{Life}
-use Rattle.rdm_num.specs.declared.numbers.OpId.{OpId}
-use Rattle.rdm_num.specs.declared.numbers.Connid.{Connid}
 use Rattle.rdm_pkt.specs.declared.Packet.TheVariants.{Rtm, Cts, CtsData, Eor, Handshake}
 use Rattle.rdm_wire.specs.declared.Datagram.{Datagram}
 use Rattle.rdm_model.specs.declared.job.Job.{Job}

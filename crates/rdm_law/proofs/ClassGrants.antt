@@ -1,6 +1,6 @@
 -- A grant or granted bytes that arrive agree with what was granted.
-use Rattle.std.proofs.Common.{◌≡◌, ℕ, zero, suc, ◌+◌, ◌-◌, ◌<◌, ◌≤◌, Bool, true, false, cond, List, [], ◌∷◌, ◌++◌, length, Option, Some, None, refl, arith, ◌⊎◌, inl, inr, sym, ◌∙◌, ap, subst}
-use Rattle.std.specs.Prelude.{◌==◌, ◌||◌, not, nat_lt, slice_get}
+use Rattle.std.proofs.Common.{◌≡◌, ℕ, ◌+◌, ◌-◌, ◌<◌, ◌≤◌, Bool, true, false, List, length, Option, Some, None, refl, arith, inl, inr, sym, ◌∙◌, ap, subst}
+use Rattle.std.specs.Prelude.{◌==◌, ◌||◌, not, nat_lt}
 use Rattle.std.specs.List.{list_any}
 use Rattle.std.proofs.lemmas.Bool.{cases_lt, eq-eqb, not-true, le-ltb}
 use Rattle.rdm_num.specs.Lists.{Member}
@@ -11,44 +11,40 @@ use Rattle.rdm_num.specs.declared.numbers.Life.{Life}
 use Rattle.rdm_num.specs.declared.numbers.OpId.{OpId}
 use Rattle.rdm_num.specs.declared.head.Head.{Head}
 use Rattle.rdm_pkt.specs.declared.Kind.{Kind}
-use Rattle.rdm_pkt.specs.declared.Kind.TheVariants.{Eager, Medium, LongCts, LongRead, Runt}
-use Rattle.rdm_pkt.specs.declared.Packet.TheVariants.{Rtm, Cts, CtsData, Eor, Handshake}
-use Rattle.rdm_pkt.specs.Openings.{openings, message_head}
+use Rattle.rdm_pkt.specs.declared.Kind.TheVariants.{LongCts}
+use Rattle.rdm_pkt.specs.declared.Packet.TheVariants.{Cts, CtsData}
+use Rattle.rdm_pkt.specs.Openings.{openings}
 use Rattle.rdm_wire.specs.declared.Datagram.{Datagram}
 use Rattle.rdm_match.specs.Matcher.{Pair}
 use Rattle.rdm_model.specs.declared.job.Job.{Job}
 use Rattle.rdm_model.specs.declared.entry.Entry.{Entry}
-use Rattle.rdm_model.specs.Deeds.{Deed, Took, Item, Spelled, log_of}
-use Rattle.rdm_model.specs.Owns.{Own, Messages, own_of}
+use Rattle.rdm_model.specs.Deeds.{Deed, Spelled}
+use Rattle.rdm_model.specs.Owns.{own_of}
 use Rattle.rdm_model.specs.Currents.{is_forgotten}
-use Rattle.rdm_model.specs.Matches.{pairs}
-use Rattle.rdm_model.specs.Grants.{Grant, grants, grant_bytes, first_part, granted_bytes}
-use Rattle.rdm_model.specs.Sends.{Sent, sends}
-use Rattle.rdm_model.specs.Turns.{pieces_in, progress, live_sends}
+use Rattle.rdm_model.specs.Grants.{Grant, grants}
+use Rattle.rdm_model.specs.Sends.{Sent}
+use Rattle.rdm_model.specs.Turns.{pieces_in}
 use Rattle.rdm_model.specs.Scenes.{Scene}
 use Rattle.rdm_model.specs.Named.{live_send, live_pair, is_long, is_long_send, is_no_op}
 use Rattle.rdm_model.specs.Classes.{passes_grants, allowed_bytes, is_wrong_grant, is_mismatch}
 use Rattle.rdm_model.specs.Lawful.{life_deeds}
 use Rattle.rdm_model.proofs.Members.{list_any_member}
-use Rattle.rdm_model.proofs.Pushes.{pushed_of}
-use Rattle.rdm_law.proofs.Lives.{life_scene}
-use Rattle.rdm_law.proofs.Wired.{Played, TakenTurn}
-use Rattle.rdm_law.proofs.Known.{Known, account, sends_of}
-use Rattle.rdm_law.proofs.Named.{pairs_of, send_number, one_send, head_length}
-use Rattle.rdm_law.proofs.Chains.{GrantKnown, grants_known, DataWent, data_went, data_known, pair_one}
+use Rattle.rdm_law.proofs.Wired.{Played}
+use Rattle.rdm_law.proofs.Known.{account, sends_of}
+use Rattle.rdm_law.proofs.Named.{send_number, head_length}
+use Rattle.rdm_law.proofs.Chains.{GrantKnown, grants_known, data_went, data_known, pair_one}
 use Rattle.rdm_law.proofs.Arrives.{Arrives, arriving_scene}
 use Rattle.rdm_law.proofs.ClassKeys.{not_forgotten_here}
 use Rattle.rdm_law.proofs.LiveSends.{live_send_is}
 use Rattle.rdm_law.proofs.Landed.{live_pair_parts}
 use Rattle.rdm_law.proofs.Distinct.{matching_distinct}
-use Rattle.rdm_law.proofs.Queue.{Placed}
 use Rattle.rdm_law.proofs.Owed.{recv_in}
 use Rattle.rdm_law.proofs.Windows.{reach}
-use Rattle.rdm_law.proofs.WindowsAt.{WindowAt, window_in}
+use Rattle.rdm_law.proofs.WindowsAt.{window_in}
 use Rattle.rdm_law.proofs.Granted.{Granting, allowed_of, own_tells}
 use Rattle.rdm_law.proofs.FirstPart.{first_part_opened}
-use Rattle.rdm_law.proofs.Granting.{TakenWindow, CtsWent, cts_went}
-use Rattle.rdm_law.proofs.Tiled.{Tile, starts_at, tiled}
+use Rattle.rdm_law.proofs.Granting.{cts_went}
+use Rattle.rdm_law.proofs.Tiled.{starts_at, tiled}
 use Rattle.rdm_law.proofs.Pushing.{long_live}
 
 -- a grant that arrives: its send, of which it grants what comes next
@@ -70,7 +66,7 @@ grant_here job history j i send recv size connid d a =
     let ms = account job history i in
     let log = life_deeds job history i in
     let start = starts_at job history i j w.pair w.sent w.start size w.answer a.taken.place d a.played w.granting (tiled job history i j w.pair w.sent a.played w.granting)
-        w.window' w.answered a.taken.placed a.fresh in
+    w.window' w.answered a.taken.placed a.fresh in
     let in' = window_in own ms log w.pair w.start size w.answer.place (own_tells own.limits.first log) w.window' in
     let l = in'.within in
     let head : (ms.head w.pair.message.life w.pair.message.no.0).length ≡ length w.sent.message.bytes =
@@ -120,10 +116,10 @@ none_any gs recv h =
     (elim (list_any (λ (g : Grant). not (g.recv == recv)) gs) as (λ b. list_any (λ (g : Grant). not (g.recv == recv)) gs ≡ b → b ≡ false) [
       | false ↦ λ e. refl
       | true ↦ λ e. (
-        let m = list_any_member (λ (g : Grant). not (g.recv == recv)) gs e in
-        let t = eq-eqb m.0.recv recv (h m.0 m.1) in
-        let f = not-true (m.0.recv == recv) m.2 in
-        cc)
+          let m = list_any_member (λ (g : Grant). not (g.recv == recv)) gs e in
+          let t = eq-eqb m.0.recv recv (h m.0 m.1) in
+          let f = not-true (m.0.recv == recv) m.2 in
+          cc)
     ]) refl
 
 -- each grant of the send names the receive of its pair
@@ -159,7 +155,7 @@ cts_agrees job history j i send recv size connid d ports port_log a =
     let live = grant_live job history j i send recv size connid d ports port_log a g in
     let r : recv.0 ≡ g.pair.recv.id.0 = ap (λ (x : OpId). x.0) g.recv_is in
     let none = none_any (grants (life_deeds job history j) g.sent.to g.sent.number) recv.0
-        (λ x m. grants_name job history i j g.pair g.sent x a.played g.granting m ∙ sym r) in
+    (λ x m. grants_name job history i j g.pair g.sent x a.played g.granting m ∙ sym r) in
     ap (λ o. is_wrong_grant s recv.0 size o) live ∙ grant_right s g.sent recv.0 size g.within none
 
 -- what is allowed of a send was granted

@@ -1,6 +1,6 @@
 -- Each message meets one receive at most.
-use Rattle.std.proofs.Common.{◌≡◌, ℕ, zero, suc, ◌+◌, ◌-◌, ◌<◌, Bool, true, false, cond, List, [], ◌∷◌, ◌++◌, map, length, Option, Some, None, refl, arith, ◌⊎◌, inl, inr, sym, ◌∙◌, ap, subst}
-use Rattle.std.specs.Prelude.{find, filter, nat_le}
+use Rattle.std.proofs.Common.{◌≡◌, ℕ, ◌+◌, ◌-◌, true, List, [], ◌∷◌, ◌++◌, map, length, Option, Some, None, refl, ◌⊎◌, inl, inr, sym, ◌∙◌, ap, subst}
+use Rattle.std.specs.Prelude.{find, nat_le}
 use Rattle.std.proofs.lemmas.Bool.{and_parts, and_from, not-true}
 use Rattle.rdm_num.specs.Lists.{Member, each_below, without_first, below}
 use Rattle.rdm_num.specs.declared.numbers.Life.{Life}
@@ -15,20 +15,11 @@ use Rattle.rdm_model.specs.Heard.{heard_head, is_heard, heard_below, has_entered
 use Rattle.rdm_model.specs.Matches.{arrival, events_by, matching}
 use Rattle.rdm_model.proofs.Members.{member-append_cases, member-filter, each_below_more, some_of, is_some_from, find_member, without_member}
 use Rattle.rdm_model.proofs.Matches.{heard_still, entering_parts}
+use Rattle.rdm_law.proofs.Others.{AllOther, other_member, all_push, all_filter, all_without, first_other, NumbersApart, lacks_number, below_apart, apart_filter, numbers_apart}
 
 -- a set of messages, by sender and number
 abbrev pub Known : Type 1
 Known = Life → ℕ → Type 0
-
--- the message is none of the list
-abbrev pub Other : Arrived → List Arrived → Type 0
-Other a [] = Unit {0}
-Other a (b ∷ bs) = (b.life ≡ a.life → b.no.0 ≡ a.no.0 → ⊥) × Other a bs
-
--- each message of the list stands in it once
-abbrev pub AllOther : List Arrived → Type 0
-AllOther [] = Unit {0}
-AllOther (a ∷ as') = Other a as' × AllOther as'
 
 -- messages that wait and those that were paired are of the set, each of them once
 pub record Distinct (K : Known) (m : Matching) : Type 0 where
@@ -37,54 +28,6 @@ pub record Distinct (K : Known) (m : Matching) : Type 0 where
   pub pairs_known : (p : Pair) → Member p m.pairs → K p.message.life p.message.no.0
   pub gone : (p : Pair) (a : Arrived) → Member p m.pairs → Member a m.arrived → p.message.life ≡ a.life → p.message.no.0 ≡ a.no.0 → ⊥
   pub once : (p q : Pair) → Member p m.pairs → Member q m.pairs → p.message.life ≡ q.message.life → p.message.no.0 ≡ q.message.no.0 → p ≡ q
-
--- an element of the list is another message
-other_member : (a b : Arrived) (bs : List Arrived) → Other a bs → Member b bs → b.life ≡ a.life → b.no.0 ≡ a.no.0 → ⊥
-other_member a b [] o h s n = elim h [ ]
-other_member a b (c ∷ bs) o (inl is) s n = o.0 (ap (λ (x : Arrived). x.life) is ∙ s) (ap (λ (x : Arrived). x.no.0) is ∙ n)
-other_member a b (c ∷ bs) o (inr h) s n = other_member a b bs o.1 h s n
-
--- another message may be added
-other_push : (a b : Arrived) (bs : List Arrived) → Other a bs → (b.life ≡ a.life → b.no.0 ≡ a.no.0 → ⊥) → Other a (bs ++ b ∷ [])
-other_push a b [] o h = (h, tt)
-other_push a b (c ∷ bs) o h = (o.0, other_push a b bs o.1 h)
-
--- and so to a list of which each stands in it once
-all_push : (a : Arrived) (bs : List Arrived) → AllOther bs → ((b : Arrived) → Member b bs → b.life ≡ a.life → b.no.0 ≡ a.no.0 → ⊥) → AllOther (bs ++ a ∷ [])
-all_push a [] o h = (tt, tt)
-all_push a (b ∷ bs) o h = (other_push b a bs o.0 (λ s n. h b (inl refl) (sym s) (sym n)), all_push a bs o.1 (λ c k. h c (inr k)))
-
--- a filter has no more messages
-other_filter : (t : Arrived → Bool) (a : Arrived) (bs : List Arrived) → Other a bs → Other a (filter t bs)
-other_filter t a [] o = tt
-other_filter t a (b ∷ bs) o = elim (t b) as (λ x. Other a (cond x (b ∷ filter t bs) (filter t bs))) [ true ↦ (o.0, other_filter t a bs o.1) | false ↦ other_filter t a bs o.1 ]
-
--- and each of them once
-all_filter : (t : Arrived → Bool) (bs : List Arrived) → AllOther bs → AllOther (filter t bs)
-all_filter t [] o = tt
-all_filter t (b ∷ bs) o = elim (t b) as (λ x. AllOther (cond x (b ∷ filter t bs) (filter t bs))) [ true ↦ (other_filter t b bs o.0, all_filter t bs o.1) | false ↦ all_filter t bs o.1 ]
-
--- nor has a list without one of its elements
-other_without : (t : Arrived → Bool) (a : Arrived) (bs : List Arrived) → Other a bs → Other a (without_first t bs)
-unfolding without_first
-other_without t a [] o = tt
-other_without t a (b ∷ bs) o = elim (t b) as (λ x. Other a (cond x bs (b ∷ without_first t bs))) [ true ↦ o.1 | false ↦ (o.0, other_without t a bs o.1) ]
-
--- and each of them once
-all_without : (t : Arrived → Bool) (bs : List Arrived) → AllOther bs → AllOther (without_first t bs)
-unfolding without_first
-all_without t [] o = tt
-all_without t (b ∷ bs) o = elim (t b) as (λ x. AllOther (cond x bs (b ∷ without_first t bs))) [ true ↦ o.1 | false ↦ (other_without t b bs o.0, all_without t bs o.1) ]
-
--- the list without its first element that passes lacks that one
-first_other : (t : Arrived → Bool) (a : Arrived) (bs : List Arrived) → AllOther bs → find t bs ≡ Some a → Other a (without_first t bs)
-unfolding without_first
-first_other t a [] o h = tt
-first_other t a (b ∷ bs) o h =
-    (elim (t b) as (λ x. cond x (Some b) (find t bs) ≡ Some a → Other a (cond x bs (b ∷ without_first t bs))) [
-      | true ↦ λ k. let e : b ≡ a = cc in subst (λ (x : Arrived). Other x bs) e o.0
-      | false ↦ λ k. (λ s n. other_member b a bs o.0 (find_member t a bs k).0 (sym s) (sym n), first_other t a bs o.1 k)
-    ]) h
 
 -- pairs of one message stay one pair, with a new pair of another message
 pair_once : (ps : List Pair) (new : Pair) → ((p q : Pair) → Member p ps → Member q ps → p.message.life ≡ q.message.life → p.message.no.0 ≡ q.message.no.0 → p ≡ q)
@@ -205,68 +148,6 @@ forgets_distinct K (l ∷ ls) m d =
       gone = λ p a h k s n. d.gone p a h (member-filter _ a m.arrived k).0 s n;
       once = d.once;
     })
-
--- no number of the list is that one
-abbrev LacksNumber : ℕ → List ℕ → Type 0
-LacksNumber n [] = Unit {0}
-LacksNumber n (k ∷ ks) = (k ≡ n → ⊥) × LacksNumber n ks
-
--- each number stands in the list once
-abbrev NumbersApart : List ℕ → Type 0
-NumbersApart [] = Unit {0}
-NumbersApart (k ∷ ks) = LacksNumber k ks × NumbersApart ks
-
--- an element of the list is another number
-lacks_number : (n k : ℕ) (ks : List ℕ) → LacksNumber n ks → Member k ks → k ≡ n → ⊥
-lacks_number n k [] l h e = elim h [ ]
-lacks_number n k (j ∷ ks) l (inl is) e = l.0 (is ∙ e)
-lacks_number n k (j ∷ ks) l (inr h) e = lacks_number n k ks l.1 h e
-
--- another number may be added
-lacks_push : (n k : ℕ) (ks : List ℕ) → LacksNumber n ks → (k ≡ n → ⊥) → LacksNumber n (ks ++ k ∷ [])
-lacks_push n k [] l h = (h, tt)
-lacks_push n k (j ∷ ks) l h = (l.0, lacks_push n k ks l.1 h)
-
--- and so to numbers that are apart
-apart_push : (k : ℕ) (ks : List ℕ) → NumbersApart ks → ((j : ℕ) → Member j ks → j ≡ k → ⊥) → NumbersApart (ks ++ k ∷ [])
-apart_push k [] l h = (tt, tt)
-apart_push k (j ∷ ks) l h = (lacks_push j k ks l.0 (λ e. h j (inl refl) (sym e)), apart_push k ks l.1 (λ i m. h i (inr m)))
-
--- the numbers below n are below it
-below_member : (n k : ℕ) → Member k (below n) → k < n
-unfolding below
-below_member zero k h = elim h [ ]
-below_member (suc n) k h =
-    elim (member-append_cases k (below n) _ h) [
-      | inl a ↦ let l = below_member n k a in omega arith
-      | inr a ↦ elim a [ inl is ↦ omega arith | inr never ↦ elim never [ ] ]
-    ]
-
--- each of them once
-below_apart : (n : ℕ) → NumbersApart (below n)
-unfolding below
-below_apart zero = tt
-below_apart (suc n) = apart_push n (below n) (below_apart n) (λ j h e. let l = below_member n j h in omega arith)
-
--- a filter lacks no less
-lacks_filter : (p : ℕ → Bool) (n : ℕ) (ks : List ℕ) → LacksNumber n ks → LacksNumber n (filter p ks)
-lacks_filter p n [] l = tt
-lacks_filter p n (k ∷ ks) l = elim (p k) as (λ x. LacksNumber n (cond x (k ∷ filter p ks) (filter p ks))) [ true ↦ (l.0, lacks_filter p n ks l.1) | false ↦ lacks_filter p n ks l.1 ]
-
--- and its numbers stay apart
-apart_filter : (p : ℕ → Bool) (ks : List ℕ) → NumbersApart ks → NumbersApart (filter p ks)
-apart_filter p [] l = tt
-apart_filter p (k ∷ ks) l = elim (p k) as (λ x. NumbersApart (cond x (k ∷ filter p ks) (filter p ks))) [ true ↦ (lacks_filter p k ks l.0, apart_filter p ks l.1) | false ↦ apart_filter p ks l.1 ]
-
--- numbers that are moved on lack the number moved on
-numbers_lack : (first n : ℕ) (ks : List ℕ) → LacksNumber n ks → LacksNumber (first + n) (map (λ k. first + k) ks)
-numbers_lack first n [] l = tt
-numbers_lack first n (k ∷ ks) l = ((λ e. l.0 (omega arith)), numbers_lack first n ks l.1)
-
--- and stay apart
-numbers_apart : (first : ℕ) (ks : List ℕ) → NumbersApart ks → NumbersApart (map (λ k. first + k) ks)
-numbers_apart first [] l = tt
-numbers_apart first (k ∷ ks) l = (numbers_lack first k ks l.0, numbers_apart first ks l.1)
 
 -- the numbers that enter by a deed are apart
 entering_apart : (first : ℕ) (d : Deed) (before : List Deed) (source : Life) → NumbersApart (entering first d before source)

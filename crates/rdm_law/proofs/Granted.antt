@@ -1,61 +1,44 @@
 -- A long message between two lives: what its sender may push, and that its receiver opens a window only where all before it was pushed.
-use Rattle.std.proofs.Common.{◌≡◌, ℕ, zero, suc, ◌+◌, ◌-◌, ◌<◌, ◌≤◌, Bool, true, false, cond, List, [], ◌∷◌, ◌++◌, length, take, Option, Some, None, refl, arith, ◌⊎◌, inl, inr, sym, ◌∙◌, ap, subst}
-use Rattle.std.specs.Prelude.{◌==◌, is_some, filter_map, option_to_list, unwrap_or, ◌&&◌}
+use Rattle.std.proofs.Common.{◌≡◌, ℕ, ◌+◌, ◌<◌, ◌≤◌, true, List, [], ◌∷◌, length, Some, None, refl, arith, ◌⊎◌, inl, inr, sym, ◌∙◌, ap, subst}
+use Rattle.std.specs.Prelude.{is_some, filter_map, option_to_list}
 use Rattle.std.specs.List.{cons_option}
-use Rattle.std.proofs.lemmas.Bool.{cases_lt, and_parts, eqb-true}
-use Rattle.rdm_num.specs.Lists.{Member, each_below, or_else}
-use Rattle.rdm_num.specs.Lives.{same_life, op_id}
+use Rattle.std.proofs.lemmas.Bool.{cases_lt}
+use Rattle.rdm_num.specs.Lists.{Member}
 use Rattle.rdm_num.specs.Pieces.{Piece, byte_in, byte_at, covers, piece_bytes}
-use Rattle.rdm_num.specs.declared.numbers.Connid.{Connid}
 use Rattle.rdm_num.specs.declared.numbers.Life.{Life}
-use Rattle.rdm_num.specs.declared.numbers.MsgNo.{MsgNo}
-use Rattle.rdm_num.specs.declared.numbers.OpId.{OpId}
-use Rattle.rdm_num.specs.declared.limits.EpLimits.{EpLimits}
-use Rattle.rdm_num.specs.declared.head.Head.{Head}
-use Rattle.rdm_num.specs.declared.head.Shape.{Shape}
-use Rattle.rdm_num.specs.declared.head.Shape.TheVariants as S
-use Rattle.rdm_hdr.specs.declared.Opt.{Opt}
 use Rattle.rdm_pkt.specs.declared.Packet.{Packet}
-use Rattle.rdm_pkt.specs.declared.Packet.TheVariants.{Rtm, Cts, CtsData, Eor, Handshake}
-use Rattle.rdm_pkt.specs.declared.Form.{Form}
-use Rattle.rdm_pkt.specs.declared.Form.TheVariants as F
 use Rattle.rdm_pkt.specs.declared.Kind.{Kind}
 use Rattle.rdm_pkt.specs.declared.Kind.TheVariants.{Eager, Medium, LongCts, LongRead, Runt}
-use Rattle.rdm_pkt.specs.Heads.{piece_of}
-use Rattle.rdm_pkt.specs.Openings.{Message, openings, rtm, message_head}
-use Rattle.rdm_match.specs.Matcher.{Pair, is_pair}
+use Rattle.rdm_pkt.specs.Openings.{openings, message_head}
+use Rattle.rdm_match.specs.Matcher.{Pair}
 use Rattle.rdm_model.specs.declared.job.Job.{Job}
 use Rattle.rdm_model.specs.declared.entry.Entry.{Entry}
-use Rattle.rdm_model.specs.Deeds.{Deed, Took, Item, Spelled}
-use Rattle.rdm_model.specs.Owns.{Own, Messages, Heads, own_of}
-use Rattle.rdm_model.specs.Heard.{heard_head}
+use Rattle.rdm_model.specs.Deeds.{Deed}
+use Rattle.rdm_model.specs.Owns.{Own, Messages, own_of}
 use Rattle.rdm_model.specs.Matches.{pairs}
 use Rattle.rdm_model.specs.Parts.{carried_by, carried_pieces}
-use Rattle.rdm_model.specs.Grants.{first_part, first_part_in, first_part_by, first_part_taken, granted_bytes, Grant, grants, grant_bytes}
-use Rattle.rdm_model.specs.Sends.{Sent, sends}
-use Rattle.rdm_model.specs.Turns.{Turn, Sends, packet_piece, pieces_in, is_read}
+use Rattle.rdm_model.specs.Grants.{granted_bytes, grants, grant_bytes}
+use Rattle.rdm_model.specs.Sends.{Sent}
+use Rattle.rdm_model.specs.Turns.{Sends, packet_piece, pieces_in, is_read}
 use Rattle.rdm_model.specs.Lawful.{life_deeds}
-use Rattle.rdm_model.specs.Local.{heads_by, heard_by}
-use Rattle.rdm_model.proofs.Cuts.{Part, InRow}
-use Rattle.rdm_model.proofs.Rows.{byte_in_before, byte_in_after}
-use Rattle.rdm_model.proofs.Opens.{opening_is, openings_in_row}
+use Rattle.rdm_model.specs.Local.{heard_by}
+use Rattle.rdm_model.proofs.Cuts.{InRow}
+use Rattle.rdm_model.proofs.Rows.{byte_in_after}
+use Rattle.rdm_model.proofs.Opens.{openings_in_row}
 use Rattle.rdm_model.proofs.Sending.{DataPush}
-use Rattle.rdm_model.proofs.Members.{each_below_at, some_of, or_else_cases, slice_get-member, member-append_left, same_life-true}
-use Rattle.rdm_model.proofs.Matches.{pair_heard}
+use Rattle.rdm_model.proofs.Members.{each_below_at, some_of}
 use Rattle.rdm_model.proofs.SameReceives.{covers_more}
 use Rattle.rdm_model.proofs.Grows.{heads_by_heard}
 use Rattle.rdm_law.proofs.Lives.{TurnedAt}
 use Rattle.rdm_law.proofs.Turned.{turn_is}
-use Rattle.rdm_law.proofs.Wired.{Played, taken_pushed}
-use Rattle.rdm_law.proofs.Known.{Known, known_one, sends_of, account, opened}
-use Rattle.rdm_law.proofs.Named.{pairs_of, head_shape}
-use Rattle.rdm_law.proofs.Chains.{GrantKnown, AskKnown, given_known}
-use Rattle.rdm_law.proofs.Pieces.{SentPiece, GivenPiece, PieceOf}
+use Rattle.rdm_law.proofs.Wired.{Played}
+use Rattle.rdm_law.proofs.Known.{Known, known_one, sends_of, account}
+use Rattle.rdm_law.proofs.Named.{pairs_of}
+use Rattle.rdm_law.proofs.Chains.{given_known}
 use Rattle.rdm_law.proofs.Sent.{carried_part}
 use Rattle.rdm_law.proofs.Whole.{byte_of_piece}
-use Rattle.rdm_law.proofs.Owed.{shape_in}
-use Rattle.rdm_law.proofs.Windows.{Tells, heard_first, is_window}
-use Rattle.rdm_law.proofs.WindowsAt.{NewWindow, WindowAt}
+use Rattle.rdm_law.proofs.Windows.{Tells, is_window}
+use Rattle.rdm_law.proofs.WindowsAt.{WindowAt}
 
 -- how many bytes of a send its openings and the grants that were taken allow
 abbrev pub allowed_of : Own → List Deed → Sent → ℕ

@@ -1,48 +1,47 @@
 -- The windows whose grants a sender took have all bytes that it may push beyond its opening.
-use Rattle.std.proofs.Common.{◌≡◌, ℕ, zero, suc, ◌+◌, ◌-◌, ◌<◌, ◌≤◌, Bool, true, false, cond, List, [], ◌∷◌, ◌++◌, length, Option, Some, None, refl, arith, ◌⊎◌, inl, inr, sym, ◌∙◌, ap, subst}
+use Rattle.std.proofs.Common.{◌≡◌, ℕ, ◌+◌, ◌<◌, ◌≤◌, true, false, cond, List, [], ◌∷◌, Some, refl, ◌⊎◌, inl, inr, sym, ◌∙◌, ap, subst}
 use Rattle.std.specs.Prelude.{◌==◌, ◌&&◌, slice_get}
-use Rattle.std.proofs.lemmas.Bool.{cases_lt, and_parts, and_from, eqb-true, eq-eqb}
-use Rattle.std.proofs.lemmas.List.{append-nil}
+use Rattle.std.proofs.lemmas.Bool.{and_parts, eqb-true}
 use Rattle.rdm_num.specs.Lists.{Member}
 use Rattle.rdm_num.specs.Lives.{same_life, op_id}
 use Rattle.rdm_num.specs.declared.numbers.Connid.{Connid}
 use Rattle.rdm_num.specs.declared.numbers.Life.{Life}
 use Rattle.rdm_num.specs.declared.numbers.OpId.{OpId}
-use Rattle.rdm_pkt.specs.declared.Packet.TheVariants.{Rtm, Cts, CtsData, Eor, Handshake}
+use Rattle.rdm_pkt.specs.declared.Packet.TheVariants.{Cts}
 use Rattle.rdm_num.specs.declared.head.Head.{Head}
 use Rattle.rdm_num.specs.declared.head.Shape.TheVariants as S
-use Rattle.rdm_pkt.specs.Openings.{openings, message_head, shape_by}
+use Rattle.rdm_pkt.specs.Openings.{message_head, shape_by}
 use Rattle.rdm_match.specs.Matcher.{Pair}
 use Rattle.rdm_wire.specs.declared.Datagram.{Datagram}
 use Rattle.rdm_model.specs.declared.job.Job.{Job}
 use Rattle.rdm_model.specs.declared.entry.Entry.{Entry}
-use Rattle.rdm_model.specs.Deeds.{Deed, Did, PushedNote, Pushed, TookNote, Took, Polled, Nothing, Item, Spelled, Asks, Gives, Garbled, deed_of, log_of, open_life}
-use Rattle.rdm_model.specs.Owns.{Own, Messages, Heads, own_of, rank_of}
+use Rattle.rdm_model.specs.Deeds.{Deed, Took, Spelled, deed_of, log_of}
+use Rattle.rdm_model.specs.Owns.{own_of, rank_of}
 use Rattle.rdm_model.specs.Matches.{pairs}
-use Rattle.rdm_model.specs.Grants.{Grant, grants, grants_by, grant_bytes}
+use Rattle.rdm_model.specs.Grants.{grants_by}
 use Rattle.rdm_model.specs.Sends.{Sent, sends}
-use Rattle.rdm_model.specs.Lawful.{life_deeds, port_deeds}
+use Rattle.rdm_model.specs.Lawful.{life_deeds}
 use Rattle.rdm_model.specs.Local.{heard_by}
-use Rattle.rdm_model.proofs.Members.{same_life-true, same_life-refl}
+use Rattle.rdm_model.proofs.Members.{same_life-true}
 use Rattle.rdm_model.proofs.Matches.{pair_still}
 use Rattle.rdm_model.proofs.SameMatches.{pairs_same}
 use Rattle.rdm_model.proofs.SameRegions.{sends_same}
 use Rattle.rdm_model.proofs.Grows.{agree_grows}
 use Rattle.rdm_model.proofs.Pushes.{member_later}
 use Rattle.rdm_law.proofs.Logs.{at_log_of}
-use Rattle.rdm_law.proofs.Wired.{Played, played_before, HandledBy, TakenTurn, taken_other}
-use Rattle.rdm_law.proofs.Pushed.{PlacedAt, placed_once}
+use Rattle.rdm_law.proofs.Wired.{Played, HandledBy, TakenTurn}
+use Rattle.rdm_law.proofs.Pushed.{PlacedAt}
 use Rattle.rdm_law.proofs.Known.{Known, account, sends_of}
 use Rattle.rdm_law.proofs.Named.{pairs_of, pair_known, IsOfSend, went_reply, head_shape, long_send, one_send, send_number}
 use Rattle.rdm_law.proofs.Distinct.{matching_distinct}
 use Rattle.rdm_law.proofs.Queue.{owed, Placed}
-use Rattle.rdm_law.proofs.Answered.{Answered, answered_owed, answered_once}
+use Rattle.rdm_law.proofs.Answered.{Answered, answered_owed}
 use Rattle.rdm_law.proofs.Owed.{shape_in, recv_in}
 use Rattle.rdm_law.proofs.ReplyTurns.{turned_answered}
-use Rattle.rdm_law.proofs.WindowsAt.{WindowAt, window_member, owed_window, windows_in_order}
+use Rattle.rdm_law.proofs.WindowsAt.{WindowAt, window_member, owed_window}
 use Rattle.rdm_law.proofs.WindowsSame.{window_stays, answered_stays}
-use Rattle.rdm_law.proofs.Granted.{Granting, allowed_of, own_tells, start_within}
-use Rattle.rdm_law.proofs.Handled.{at_life, NewTake, new_take}
+use Rattle.rdm_law.proofs.Granted.{Granting}
+use Rattle.rdm_law.proofs.Handled.{at_life}
 
 -- a place lies in a window of a pair's message whose grant was pushed, and taken by the message's life
 pub record TakenWindow (job : Job) (history : List Entry) (i j : Life) (p : Pair) (y : ℕ) : Type 0 where

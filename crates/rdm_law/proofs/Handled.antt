@@ -1,5 +1,5 @@
 -- The deed of a life by the newest entry, and the datagram that it takes.
-use Rattle.std.proofs.Common.{◌≡◌, ℕ, Bool, true, false, cond, List, [], ◌∷◌, Option, Some, None, refl, ◌⊎◌, inl, inr, sym, ◌∙◌, ap, subst}
+use Rattle.std.proofs.Common.{◌≡◌, ℕ, List, ◌∷◌, Some, inl, inr, sym, ◌∙◌, ap, subst}
 use Rattle.std.proofs.lemmas.Bool.{cases_eq}
 use Rattle.rdm_num.specs.declared.numbers.PortNo.{PortNo}
 use Rattle.rdm_num.specs.declared.numbers.Connid.{Connid}
@@ -9,9 +9,8 @@ use Rattle.rdm_model.specs.declared.job.Job.{Job}
 use Rattle.rdm_model.specs.declared.entry.Entry.{Entry}
 use Rattle.rdm_model.specs.declared.entry.Act.{Act}
 use Rattle.rdm_model.specs.declared.entry.Act.TheVariants.{Handle}
-use Rattle.rdm_model.specs.declared.answer.Entered.{Entered}
 use Rattle.rdm_model.specs.declared.answer.Handled.TheVariants.{Took as TookAnswer}
-use Rattle.rdm_model.specs.Deeds.{Deed, Took, Item, deed_of, deeds, log_of, open_life, is_connid, of_life}
+use Rattle.rdm_model.specs.Deeds.{Deed, Took, Item, deed_of, deeds, log_of, open_life, of_life}
 use Rattle.rdm_model.specs.Owns.{rank_of}
 use Rattle.rdm_model.specs.Scenes.{deeds_at}
 use Rattle.rdm_model.specs.Classes.{class_of}

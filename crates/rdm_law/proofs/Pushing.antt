@@ -1,21 +1,18 @@
 -- What was pushed of a long send ends within what is allowed, so it is not over while a grant is on its way.
-use Rattle.std.proofs.Common.{◌≡◌, ℕ, zero, suc, ◌+◌, ◌-◌, ◌<◌, ◌≤◌, Bool, true, false, cond, List, [], ◌∷◌, ◌++◌, length, Option, Some, None, refl, arith, ◌⊎◌, inl, inr, sym, ◌∙◌, ap, subst}
-use Rattle.std.specs.Prelude.{is_some, filter_map, ◌||◌}
+use Rattle.std.proofs.Common.{◌≡◌, ℕ, ◌+◌, ◌<◌, ◌≤◌, true, false, List, [], ◌∷◌, length, Some, None, refl, arith, inl, inr, ◌∙◌, ap, subst}
+use Rattle.std.specs.Prelude.{is_some, filter_map}
 use Rattle.std.specs.List.{cons_option}
-use Rattle.std.proofs.lemmas.Bool.{cases_lt}
-use Rattle.rdm_num.specs.Lists.{Member, each_below}
-use Rattle.rdm_num.specs.Pieces.{Piece, byte_in, byte_at, covers, piece_bytes}
+use Rattle.rdm_num.specs.Lists.{Member}
+use Rattle.rdm_num.specs.Pieces.{Piece, byte_at, covers}
 use Rattle.rdm_pkt.specs.declared.Packet.{Packet}
-use Rattle.rdm_pkt.specs.declared.Kind.{Kind}
-use Rattle.rdm_pkt.specs.declared.Kind.TheVariants.{Eager, Medium, LongCts, LongRead, Runt}
-use Rattle.rdm_pkt.specs.Openings.{openings}
-use Rattle.rdm_model.specs.Deeds.{Deed, Pushed}
+use Rattle.rdm_pkt.specs.declared.Kind.TheVariants.{LongCts}
+use Rattle.rdm_model.specs.Deeds.{Deed}
 use Rattle.rdm_model.specs.Owns.{Own, Messages}
 use Rattle.rdm_model.specs.Currents.{is_forgotten}
 use Rattle.rdm_model.specs.Sends.{Sent, sends}
-use Rattle.rdm_model.specs.Turns.{Turn, Sends, progress, packet_piece, pieces_in, is_read, is_pushed, is_over}
+use Rattle.rdm_model.specs.Turns.{Sends, progress, packet_piece, pieces_in, is_read, is_pushed, is_over}
 use Rattle.rdm_model.proofs.Members.{member-append_cases, each_below_at, some_of}
-use Rattle.rdm_model.proofs.Pushes.{pushed_of, PushesOf, pushed_step}
+use Rattle.rdm_model.proofs.Pushes.{pushed_of, pushed_step}
 use Rattle.rdm_model.proofs.Served.{PushedAt}
 use Rattle.rdm_model.proofs.Sending.{push_is}
 use Rattle.rdm_model.proofs.Numbers.{sends_one}

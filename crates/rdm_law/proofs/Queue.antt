@@ -1,9 +1,8 @@
 -- The queue of replies, each with its place among all that was ever owed.
-use Rattle.std.proofs.Common.{◌≡◌, ℕ, zero, suc, ◌+◌, ◌<◌, ◌≤◌, Bool, true, false, cond, not, List, [], ◌∷◌, ◌++◌, map, length, drop, Option, Some, None, refl, arith, ◌⊎◌, inl, inr, sym, ◌∙◌, ap, subst}
+use Rattle.std.proofs.Common.{◌≡◌, ℕ, suc, true, false, cond, not, List, [], ◌∷◌, ◌++◌, map, length, drop, Option, Some, None, refl, sym, ◌∙◌, ap}
 use Rattle.std.specs.Prelude.{filter, slice_get}
 use Rattle.std.specs.List.{list_any}
-use Rattle.std.proofs.lemmas.List.{length-append, map-append}
-use Rattle.rdm_num.specs.Lists.{Member}
+use Rattle.std.proofs.lemmas.List.{map-append}
 use Rattle.rdm_num.specs.Lives.{same_life}
 use Rattle.rdm_num.specs.declared.numbers.Life.{Life}
 use Rattle.rdm_pkt.specs.declared.Packet.{Packet}
@@ -12,8 +11,7 @@ use Rattle.rdm_model.specs.Owns.{Own, Messages}
 use Rattle.rdm_model.specs.Currents.{forgotten_by}
 use Rattle.rdm_model.specs.Sends.{Sent, sends}
 use Rattle.rdm_model.specs.Replies.{Reply, replies_by, without_forgotten, without_lives}
-use Rattle.rdm_model.specs.Turns.{Progress, Turn, Replies, Sends, progress, after_deed, after_push, after_turn, next_turn, next_send, reply_turn, send_turn, is_over, next_packet, turn}
-use Rattle.rdm_model.proofs.Members.{member-append_cases, member-filter, member-map, slice_get-append, slice_get-member}
+use Rattle.rdm_model.specs.Turns.{Progress, Turn, Replies, Sends, progress, after_deed, after_push, after_turn, next_turn, next_send, reply_turn, send_turn, is_over, next_packet}
 
 -- all that a life ever owed for what it took, in order
 unfoldable pub owed : Own → Messages → List Deed → List Reply

@@ -1,5 +1,5 @@
 -- What a life owes to another is owed for a datagram that it took from it.
-use Rattle.std.proofs.Common.{◌≡◌, ℕ, List, [], ◌∷◌, Option, Some, None, refl, ◌⊎◌, inl, inr, sym, ◌∙◌, ap, subst}
+use Rattle.std.proofs.Common.{ℕ, List, [], ◌∷◌, inl, inr, subst}
 use Rattle.rdm_num.specs.Lists.{Member}
 use Rattle.rdm_num.specs.declared.numbers.Life.{Life}
 use Rattle.rdm_pkt.specs.declared.Packet.TheVariants.{Rtm}

@@ -1,57 +1,42 @@
 -- A grant that arrives starts where what its sender may push ends.
-use Rattle.std.proofs.Common.{◌≡◌, ℕ, zero, suc, ◌+◌, ◌-◌, ◌<◌, ◌≤◌, Bool, true, false, cond, List, [], ◌∷◌, ◌++◌, length, Option, Some, None, refl, arith, ◌⊎◌, inl, inr, sym, ◌∙◌, ap, subst}
-use Rattle.std.specs.Prelude.{◌==◌, ◌&&◌, slice_get}
-use Rattle.std.proofs.lemmas.Bool.{cases_lt, and_parts, and_from, eqb-true, eq-eqb}
+use Rattle.std.proofs.Common.{◌≡◌, ℕ, ◌+◌, ◌<◌, ◌≤◌, List, [], ◌∷◌, refl, arith, inl, inr, ◌∙◌, ap, subst}
+use Rattle.std.proofs.lemmas.Bool.{cases_lt}
 use Rattle.std.proofs.lemmas.List.Sums.{sum_by-append}
 use Rattle.rdm_num.specs.Lists.{Member}
-use Rattle.rdm_num.specs.Lives.{same_life, op_id}
+use Rattle.rdm_num.specs.Lives.{op_id}
 use Rattle.rdm_num.specs.declared.numbers.Connid.{Connid}
 use Rattle.rdm_num.specs.declared.numbers.Life.{Life}
 use Rattle.rdm_num.specs.declared.numbers.OpId.{OpId}
-use Rattle.rdm_pkt.specs.declared.Packet.TheVariants.{Rtm, Cts, CtsData, Eor, Handshake}
-use Rattle.rdm_num.specs.declared.head.Head.{Head}
-use Rattle.rdm_num.specs.declared.head.Shape.TheVariants as S
-use Rattle.rdm_pkt.specs.Openings.{openings, message_head, shape_by}
+use Rattle.rdm_pkt.specs.declared.Packet.TheVariants.{Cts}
+use Rattle.rdm_pkt.specs.Openings.{openings}
 use Rattle.rdm_match.specs.Matcher.{Pair}
 use Rattle.rdm_wire.specs.declared.Datagram.{Datagram}
 use Rattle.rdm_model.specs.declared.job.Job.{Job}
 use Rattle.rdm_model.specs.declared.entry.Entry.{Entry}
-use Rattle.rdm_model.specs.Deeds.{Deed, Did, PushedNote, Pushed, TookNote, Took, Polled, Nothing, Item, Spelled, Asks, Gives, Garbled, deed_of, deeds, log_of, of_life, open_life}
-use Rattle.rdm_model.specs.Owns.{Own, Messages, Heads, own_of, rank_of}
-use Rattle.rdm_model.specs.Matches.{pairs, matching}
+use Rattle.rdm_model.specs.Deeds.{Deed, Took, Item, Spelled, deed_of, deeds, log_of, of_life}
+use Rattle.rdm_model.specs.Owns.{Own, own_of, rank_of}
+use Rattle.rdm_model.specs.Matches.{matching}
 use Rattle.rdm_model.specs.Scenes.{deeds_at}
 use Rattle.rdm_model.specs.Wire.{IsUnhandled}
 use Rattle.rdm_model.specs.Grants.{Grant, grants, grants_by, grant_bytes}
-use Rattle.rdm_model.specs.Sends.{Sent, sends}
+use Rattle.rdm_model.specs.Sends.{Sent}
 use Rattle.rdm_model.specs.Lawful.{life_deeds, port_deeds}
-use Rattle.rdm_model.specs.Local.{heard_by}
-use Rattle.rdm_model.proofs.Members.{same_life-true, same_life-refl}
-use Rattle.rdm_model.proofs.Matches.{pair_still}
-use Rattle.rdm_model.proofs.SameMatches.{pairs_same}
-use Rattle.rdm_model.proofs.SameRegions.{sends_same}
-use Rattle.rdm_model.proofs.Grows.{agree_grows}
-use Rattle.rdm_model.proofs.Pushes.{member_later}
-use Rattle.rdm_law.proofs.Logs.{at_log_of}
-use Rattle.rdm_law.proofs.Wired.{Played, played_before, HandledBy, TakenTurn, taken_other}
+use Rattle.rdm_law.proofs.Wired.{Played, played_before, taken_other}
 use Rattle.rdm_law.proofs.Pushed.{PlacedAt, placed_once}
-use Rattle.rdm_law.proofs.Known.{Known, account, sends_of}
-use Rattle.rdm_law.proofs.Named.{pairs_of, pair_known, IsOfSend, went_reply, head_shape, long_send, one_send, send_number}
-use Rattle.rdm_law.proofs.Distinct.{matching_distinct}
-use Rattle.rdm_law.proofs.Queue.{owed, Placed}
-use Rattle.rdm_law.proofs.Answered.{Answered, answered_owed, answered_once}
-use Rattle.rdm_law.proofs.Owed.{shape_in, recv_in}
-use Rattle.rdm_law.proofs.ReplyTurns.{turned_answered}
-use Rattle.rdm_law.proofs.WindowsAt.{WindowAt, window_member, owed_window, windows_in_order}
-use Rattle.rdm_law.proofs.WindowsSame.{window_stays, answered_stays}
+use Rattle.rdm_law.proofs.Known.{account}
+use Rattle.rdm_law.proofs.Named.{pairs_of}
+use Rattle.rdm_law.proofs.Queue.{Placed}
+use Rattle.rdm_law.proofs.Answered.{Answered, answered_once}
+use Rattle.rdm_law.proofs.WindowsAt.{WindowAt, windows_in_order}
 use Rattle.rdm_law.proofs.Granted.{Granting, allowed_of, own_tells, start_within}
 use Rattle.rdm_law.proofs.Handled.{at_life, NewTake, new_take}
 use Rattle.rdm_model.specs.Turns.{pieces_in}
 use Rattle.rdm_num.specs.Pieces.{piece_bytes}
 use Rattle.rdm_model.proofs.Sending.{grant_taken}
-use Rattle.rdm_law.proofs.Wired.{Taken, taken_pushed}
+use Rattle.rdm_law.proofs.Wired.{taken_pushed}
 use Rattle.rdm_law.proofs.FirstPart.{first_part_opened}
 use Rattle.rdm_law.proofs.WindowsAt.{window_in, window_from}
-use Rattle.rdm_law.proofs.Granting.{TakenWindow, taken_window_longer, GrantOrNone, grant_or_none, CtsWent, cts_went, granting_earlier, window_longer, answered_longer, placed_longer}
+use Rattle.rdm_law.proofs.Granting.{TakenWindow, taken_window_longer, grant_or_none, cts_went, granting_earlier, window_longer, answered_longer, placed_longer}
 
 -- all bytes that a sender may push beyond its opening lie in windows whose grants it took
 abbrev pub Tile : Job → List Entry → Life → Life → Pair → Sent → Type 0

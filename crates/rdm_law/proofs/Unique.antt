@@ -4,7 +4,7 @@ use Rattle.std.specs.Prelude.{slice_get, flat_map}
 use Rattle.rdm_num.specs.Lists.{Member}
 use Rattle.rdm_match.specs.Matcher.{Pair}
 use Rattle.rdm_model.proofs.Lists.{member-flat_map}
-use Rattle.rdm_model.proofs.Members.{member-append_cases, slice_get-member}
+use Rattle.rdm_model.proofs.Members.{slice_get-member}
 use Rattle.rdm_law.proofs.Numbered.{PairsApart, LacksPair}
 use Rattle.rdm_law.proofs.Received.{slice_get_split}
 

@@ -21,7 +21,7 @@ use Rattle.rdm_law.proofs.Queue.{owed}
 use Rattle.rdm_law.proofs.Answered.{slice_get_past}
 use Rattle.rdm_law.proofs.Owed.{shape_in, recv_in, NewReply, new_from}
 use Rattle.rdm_law.proofs.Clashes.{kind_of, recv_of}
-use Rattle.rdm_law.proofs.OwedOnce.{Telling, new_unique}
+use Rattle.rdm_law.proofs.NewReplies.{Telling, new_unique}
 use Rattle.rdm_law.proofs.Windows.{Tells, tells_before, first_stays, is_window, reach, reach_more}
 
 -- two grants of one receive

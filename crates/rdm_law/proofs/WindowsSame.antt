@@ -1,14 +1,11 @@
 -- Windows are the same by accounts that agree, and stay as a log grows.
-use Rattle.std.proofs.Common.{◌≡◌, ℕ, zero, suc, ◌+◌, ◌<◌, ◌≤◌, List, [], ◌∷◌, ◌++◌, length, Option, Some, None, refl, arith, ◌⊎◌, inl, inr, sym, ◌∙◌, ap, subst}
+use Rattle.std.proofs.Common.{◌≡◌, ℕ, ◌+◌, List, [], ◌∷◌, length, Some, inl, inr, sym, ◌∙◌, ap, subst}
 use Rattle.std.specs.Prelude.{slice_get}
 use Rattle.rdm_num.specs.Lists.{Member}
 use Rattle.rdm_num.specs.declared.head.Head.{Head}
-use Rattle.rdm_num.specs.declared.head.Shape.{Shape}
-use Rattle.rdm_num.specs.declared.head.Shape.TheVariants as S
 use Rattle.rdm_match.specs.Matcher.{Pair}
 use Rattle.rdm_model.specs.Deeds.{Deed}
-use Rattle.rdm_model.specs.Owns.{Own, Messages, Heads}
-use Rattle.rdm_model.specs.Matches.{pairs}
+use Rattle.rdm_model.specs.Owns.{Own, Messages}
 use Rattle.rdm_model.specs.Grants.{first_part, window, granted_bytes}
 use Rattle.rdm_model.specs.Sends.{Sent, sends}
 use Rattle.rdm_model.specs.Replies.{Reply, replies_by}
@@ -18,9 +15,8 @@ use Rattle.rdm_model.proofs.SameMatches.{pairs_same}
 use Rattle.rdm_model.proofs.SameRegions.{Agree, agree_before, sends_same}
 use Rattle.rdm_model.proofs.SameReplies.{replies_by_same, window_same, granted_bytes_same}
 use Rattle.rdm_model.proofs.Grows.{agree_grows}
-use Rattle.rdm_law.proofs.Queue.{owed, Placed}
+use Rattle.rdm_law.proofs.Queue.{Placed}
 use Rattle.rdm_law.proofs.Answered.{Answered}
-use Rattle.rdm_law.proofs.Owed.{shape_in}
 use Rattle.rdm_law.proofs.ReplyTurns.{owed_same, answered_same}
 use Rattle.rdm_law.proofs.WindowsAt.{NewWindow, WindowAt}
 
