@@ -65,11 +65,11 @@ packet_push own ms (d ∷ before) n p m =
         | inl b ↦ later (packet_push own ms before n p b)
         | inr b ↦ elim b [
           | inl same ↦ record {
-              sent = a.0.of.sent;
-              number_is = a.1;
-              place = length before;
-              pushed = inl (a.0.by, a.0.now ∙ ap Some (a.0.of.is ∙ ap (λ (x : Packet). Sends a.0.of.sent x) same), refl);
-            }
+            sent = a.0.of.sent;
+            number_is = a.1;
+            place = length before;
+            pushed = inl (a.0.by, a.0.now ∙ ap Some (a.0.of.is ∙ ap (λ (x : Packet). Sends a.0.of.sent x) same), refl);
+          }
           | inr never ↦ elim never [ ]
         ]
       ]

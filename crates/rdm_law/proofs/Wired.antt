@@ -164,7 +164,7 @@ taken_handled job port c from item (e ∷ before) l m =
     (λ other k. let r = taken_handled job port c from item before l.0 k in (r.0, inr r.1, r.2)) m
 
 -- a take in a port's log is one by that port
-handled_by : (port : ℕ) (d : Datagram) (history : List Entry) → HandledIn d (log_of port history) → HandledBy port d history
+pub handled_by : (port : ℕ) (d : Datagram) (history : List Entry) → HandledIn d (log_of port history) → HandledBy port d history
 unfolding log_of
 handled_by port d [] h = elim h [ ]
 handled_by port d (e ∷ before) h =
@@ -177,7 +177,7 @@ pushed_longer : (port : ℕ) (d : Datagram) (e : Entry) (before : List Entry) �
 pushed_longer port d e before h = at_log_of (λ log. PushedIn d log) port e before (λ s. inr h) (λ s. h)
 
 -- what was taken is for its port and was pushed by its source
-comes_of : (port : ℕ) (d : Datagram) (history : List Entry) → Wire history → HandledBy port d history → (d.dst.0 ≡ port) × PushedIn d (log_of d.src.0 history)
+pub comes_of : (port : ℕ) (d : Datagram) (history : List Entry) → Wire history → HandledBy port d history → (d.dst.0 ≡ port) × PushedIn d (log_of d.src.0 history)
 comes_of port d [] w h = elim h [ ]
 comes_of port d (e ∷ before) w (inl h) =
     let c : Comes before e (Handle d (TookAnswer h.0)) = (let P : Act → Type 0 = λ act. Comes before e act in subst P h.1 w.1) in
