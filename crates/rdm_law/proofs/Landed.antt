@@ -28,7 +28,7 @@ use Rattle.rdm_model.specs.Named.{live_pair, has_shape, is_long_shape, is_read_s
 use Rattle.rdm_model.specs.Classes.{is_taken, is_taken_pair, repeats, is_overlap}
 use Rattle.rdm_model.specs.Lawful.{IsApart}
 use Rattle.rdm_model.specs.Local.{heard_by}
-use Rattle.rdm_model.proofs.Members.{each_below_at, find_member, same_life-true}
+use Rattle.rdm_model.proofs.Members.{or_false, each_below_at, find_member, same_life-true}
 use Rattle.rdm_model.proofs.Matches.{is_pair_member}
 use Rattle.rdm_model.proofs.Rows.{byte_in_some, overlap_parts}
 use Rattle.rdm_law.proofs.Lives.{LifeStep, life_scene, not-false}
@@ -147,11 +147,6 @@ opening_missing s from n (LongRead size send iov) x h e = cc
 and_false : (a b : Bool) → (a && b) ≡ false → (a ≡ false) ⊎ ((a ≡ true) × (b ≡ false))
 and_false true b h = inr (refl, h)
 and_false false b h = inl refl
-
--- where neither of two tests holds
-or_false : (a b : Bool) → (a || b) ≡ false → (a ≡ false) × (b ≡ false)
-or_false true b h = cc
-or_false false b h = (refl, h)
 
 -- a packet that opens a message and is taken has new bytes
 rtm_new : (s : Scene) (from : Life) (n : ℕ) (tag : Option ℕ) (opt : Opt) (number : MsgNo) (form : Form) (x : Piece) → number.0 ≡ n

@@ -99,7 +99,7 @@ turned [] (Some (Sends s q)) p never e = e ∙ sym (ap (λ (x : List Reply). dro
 turned (r ∷ rs) others p never e = refl
 
 -- a push takes the first reply, whatever is next
-pushed_replies : (own : Own) (ms : Messages) (before : List Deed) (d : Deed) (p : Progress) → (after_push own ms before d p).replies ≡ popped d p.replies
+pub pushed_replies : (own : Own) (ms : Messages) (before : List Deed) (d : Deed) (p : Progress) → (after_push own ms before d p).replies ≡ popped d p.replies
 unfolding after_push popped next_turn
 pushed_replies own ms before Pushed p =
     turned p.replies (next_send own before p.packets (sends own ms before)) p (next_send_none own before p.packets (sends own ms before)) refl

@@ -1,6 +1,6 @@
 -- Elements of lists, options and lives.
 use Rattle.std.proofs.Common.{◌≡◌, ℕ, zero, suc, ◌<◌, Bool, true, false, cond, List, [], ◌∷◌, ◌++◌, map, Option, Some, None, refl, arith, ◌⊎◌, inl, inr, sym, ◌∙◌, ap}
-use Rattle.std.specs.Prelude.{slice_get, is_some, find, filter}
+use Rattle.std.specs.Prelude.{slice_get, is_some, find, filter, ◌||◌}
 use Rattle.std.specs.Bool.{then_some}
 use Rattle.std.specs.List.{list_any}
 use Rattle.std.proofs.lemmas.Bool.{cases_eq, and_parts, and_from, or_cases, or_left, or_right, eqb-true, eq-eqb}
@@ -195,3 +195,8 @@ pub some-or_else_right : {A : Type 0} (x y : Option A) → is_some y ≡ true �
 unfolding or_else
 some-or_else_right None y h = h
 some-or_else_right (Some a) y h = refl
+
+-- where not one of two tests holds, neither does
+pub or_false : (a b : Bool) → (a || b) ≡ false → (a ≡ false) × (b ≡ false)
+or_false true b h = cc
+or_false false b h = (refl, h)
