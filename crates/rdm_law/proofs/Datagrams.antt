@@ -1,7 +1,6 @@
 -- Each turn of a life went in a datagram that its port pushed.
-use Rattle.std.proofs.Common.{◌≡◌, ℕ, zero, suc, ◌+◌, ◌<◌, ◌≤◌, max, Bool, true, false, List, [], ◌∷◌, ◌++◌, length, Option, Some, None, refl, arith, ◌⊎◌, inl, inr, sym, ◌∙◌, ap, subst}
+use Rattle.std.proofs.Common.{◌≡◌, ℕ, ◌<◌, ◌≤◌, List, [], ◌∷◌, Option, Some, refl, arith, inl, inr, ◌∙◌, ap, subst}
 use Rattle.std.specs.Prelude.{slice_get}
-use Rattle.rdm_num.specs.Lists.{Member}
 use Rattle.rdm_num.specs.declared.numbers.Life.{Life}
 use Rattle.rdm_num.specs.declared.numbers.Connid.{Connid}
 use Rattle.rdm_num.specs.declared.numbers.PortNo.{PortNo}
@@ -19,18 +18,16 @@ use Rattle.rdm_model.specs.declared.answer.Next.{Next as Answer}
 use Rattle.rdm_model.specs.declared.answer.Next.TheVariants.{Did as DidAnswer}
 use Rattle.rdm_model.specs.declared.answer.Handled.{Handled}
 use Rattle.rdm_model.specs.declared.answer.Handled.TheVariants.{Took as TookAnswer}
-use Rattle.rdm_model.specs.Deeds.{Deed, Pushed, Item, deed_of, deed_by_next, deed_by_push, deed_by_handle, deeds, log_of, of_life, open_life}
-use Rattle.rdm_model.specs.Owns.{Own, Messages, rank_of, port_count, own_of}
+use Rattle.rdm_model.specs.Deeds.{Pushed, Item, deed_of, deed_by_next, deed_by_push, deed_by_handle, deeds, of_life}
+use Rattle.rdm_model.specs.Owns.{rank_of, port_count, own_of}
 use Rattle.rdm_model.specs.Turns.{Turn, turn}
-use Rattle.rdm_model.specs.Going.{Going, Goes, turn_going, Bears, IsNext}
+use Rattle.rdm_model.specs.Going.{Goes, turn_going, Bears, IsNext}
 use Rattle.rdm_model.specs.Classes.{class_of}
 use Rattle.rdm_model.specs.Scenes.{Scene, deeds_at}
 use Rattle.rdm_model.specs.Steps.{clock, stamp_after, Does}
 use Rattle.rdm_model.specs.Local.{heard_by, own_scene, Local}
 use Rattle.rdm_model.specs.Wire.{PushedIn}
-use Rattle.rdm_model.specs.Lawful.{life_deeds, port_deeds}
 use Rattle.rdm_law.proofs.Lives.{TurnedAt, life_of, life_scene, at_of_life, opened_scene, push_is, IsPush}
-use Rattle.rdm_law.proofs.Wired.{Played}
 
 -- the datagram of a life's push to another
 pub record Carrying (job : Job) (port : ℕ) (c : Connid) (to : Life) (item : Item) (log : List Entry) : Type 0 where

@@ -1,38 +1,32 @@
 -- What went between standing lives was taken, or waits.
-use Rattle.std.proofs.Common.{◌≡◌, ℕ, zero, suc, ◌+◌, ◌<◌, ◌≤◌, Bool, true, false, cond, not, ◌&&◌, ◌||◌, List, [], ◌∷◌, ◌++◌, length, Option, Some, None, refl, arith, ◌⊎◌, inl, inr, sym, ◌∙◌, ap, subst}
-use Rattle.std.specs.Prelude.{slice_get, ◌==◌}
-use Rattle.std.specs.List.{list_any}
-use Rattle.std.proofs.lemmas.Bool.{and_from, or_left, or_right, or_parts, eq-eqb, cases_eq}
+use Rattle.std.proofs.Common.{◌≡◌, ℕ, Bool, true, cond, List, [], ◌∷◌, refl, ◌⊎◌, inl, inr, sym, ◌∙◌, ap, subst}
+use Rattle.std.specs.Prelude.{◌==◌}
+use Rattle.std.proofs.lemmas.Bool.{and_from, or_right, eq-eqb, cases_eq}
 use Rattle.rdm_num.specs.Lists.{Member}
 use Rattle.rdm_num.specs.Lives.{same_life, life}
 use Rattle.rdm_num.specs.declared.numbers.Life.{Life}
-use Rattle.rdm_num.specs.declared.numbers.Connid.{Connid}
 use Rattle.rdm_num.specs.declared.numbers.PortNo.{PortNo}
 use Rattle.rdm_num.specs.declared.numbers.DatagramNo.{DatagramNo}
 use Rattle.rdm_wire.specs.declared.Datagram.{Datagram}
-use Rattle.rdm_wire.specs.declared.Body.{Body}
-use Rattle.rdm_wire.specs.declared.Body.TheVariants.{Note, Between}
+use Rattle.rdm_wire.specs.declared.Body.TheVariants.{Between}
 use Rattle.rdm_wire.specs.declared.Load.{Load}
 use Rattle.rdm_model.specs.declared.job.Job.{Job}
 use Rattle.rdm_model.specs.declared.entry.Entry.{Entry}
 use Rattle.rdm_model.specs.declared.entry.Act.{Act}
 use Rattle.rdm_model.specs.declared.entry.Act.TheVariants.{Next, Push, Handle, Poll}
 use Rattle.rdm_model.specs.declared.answer.Handled.{Handled}
-use Rattle.rdm_model.specs.declared.answer.Handled.TheVariants.{Took as TookAnswer, Dropped}
-use Rattle.rdm_model.specs.Deeds.{Deed, Took, Item, item_of, deed_of, deed_by_handle, deeds, log_of, of_life, open_life}
-use Rattle.rdm_model.specs.Owns.{rank_of, port_count, own_of}
+use Rattle.rdm_model.specs.declared.answer.Handled.TheVariants.{Dropped}
+use Rattle.rdm_model.specs.Deeds.{Deed, log_of}
 use Rattle.rdm_model.specs.Classes.{class_of}
 use Rattle.rdm_model.specs.Scenes.{Scene, deeds_at}
 use Rattle.rdm_model.specs.Steps.{Does, Fits}
 use Rattle.rdm_model.specs.Local.{own_scene, Local}
 use Rattle.rdm_model.specs.Wire.{PushedIn, IsOther, IsUnhandled, Comes, Wire}
-use Rattle.rdm_model.specs.Lawful.{life_deeds, port_deeds}
+use Rattle.rdm_model.specs.Lawful.{life_deeds}
 use Rattle.rdm_model.specs.Standing.{goes, is_between, drops_between}
 use Rattle.rdm_model.proofs.Members.{same_life-refl}
 use Rattle.rdm_law.proofs.Logs.{at_log_of}
-use Rattle.rdm_law.proofs.Lives.{is_connid-true}
-use Rattle.rdm_law.proofs.Pushed.{of_life_newest}
-use Rattle.rdm_law.proofs.Wired.{Played, played_before, took_to}
+use Rattle.rdm_law.proofs.Wired.{Played}
 use Rattle.rdm_law.proofs.Handled.{at_life}
 use Rattle.rdm_law.proofs.Delivers.{IsNumbered, AreNumbered, pushed_once}
 
@@ -41,7 +35,7 @@ abbrev pub HandledOnce : Datagram → List Entry → Type 0
 HandledOnce d [] = ⊥
 HandledOnce d (e ∷ before) = ((q : Datagram) × (answer : Handled) × (e.act ≡ Handle q answer) × (q.src ≡ d.src) × (q.number ≡ d.number)) ⊎ HandledOnce d before
 
-same_port : (p q : PortNo) → p.0 ≡ q.0 → p ≡ q
+pub same_port : (p q : PortNo) → p.0 ≡ q.0 → p ≡ q
 same_port p q h = ap (λ (n : ℕ). let x : PortNo = record { 0 = n } in x) h
 
 same_number : (p q : DatagramNo) → p.0 ≡ q.0 → p ≡ q
@@ -113,7 +107,7 @@ local_newest job port e before is l =
     let here : Local job port (e ∷ log_of port before) = subst P is l in
     here.2
 
-local_at : (job : Job) (port : ℕ) (e : Entry) (before : List Entry) → Local job port (log_of port (e ∷ before)) → e.port.0 ≡ port
+pub local_at : (job : Job) (port : ℕ) (e : Entry) (before : List Entry) → Local job port (log_of port (e ∷ before)) → e.port.0 ≡ port
     → Fits job class_of (own_scene job port (deeds_at job port (log_of port before))) (log_of port before) e
 unfolding log_of
 local_at job port e before l p = (local_newest job port e before (eq-eqb e.port.0 port p) l)
@@ -123,7 +117,7 @@ pub deed_stays : (job : Job) (e : Entry) (before : List Entry) (l : Life) (x : D
 deed_stays job e before l x m = at_life (λ log. Member x log) job l e before (λ p o. inr m) m
 
 -- what is dropped between the lives
-dropped_between : (i j : Life) (d : Datagram) (load : Load) (act : Act) (why : _) → act ≡ Handle d (Dropped why) → d.src.0 ≡ j.port.0 → d.dst ≡ i.port → d.body ≡ Between j.connid i.connid load → drops_between i j act ≡ true
+pub dropped_between : (i j : Life) (d : Datagram) (load : Load) (act : Act) (why : _) → act ≡ Handle d (Dropped why) → d.src.0 ≡ j.port.0 → d.dst ≡ i.port → d.body ≡ Between j.connid i.connid load → drops_between i j act ≡ true
 unfolding drops_between is_between goes
 dropped_between i j d load act why a s t b =
     let x : ◌≡◌ {A = Life} (life d.src j.connid) j = ap (λ (p : PortNo). let y : Life = record { port = p; connid = j.connid } in y) (same_port d.src j.port s) in

@@ -1,11 +1,11 @@
 -- At a settled end a standing life has nothing left to push.
-use Rattle.std.proofs.Common.{◌≡◌, ℕ, zero, suc, ◌+◌, ◌-◌, ◌<◌, ◌≤◌, Bool, true, false, cond, not, ◌&&◌, ◌||◌, List, [], ◌∷◌, ◌++◌, length, get_or, Option, Some, None, refl, arith, ◌⊎◌, inl, inr, sym, ◌∙◌, ap, subst}
-use Rattle.std.specs.Prelude.{slice_get, is_some, is_none, nat_le}
+use Rattle.std.proofs.Common.{◌≡◌, ℕ, zero, suc, ◌<◌, ◌≤◌, Bool, true, false, cond, ◌||◌, List, [], ◌∷◌, Option, Some, None, refl, arith, ◌⊎◌, inl, inr, sym, ◌∙◌, ap, subst}
+use Rattle.std.specs.Prelude.{slice_get, is_none}
 use Rattle.std.specs.List.{list_all}
-use Rattle.std.proofs.lemmas.Bool.{and_parts, or_cases, lt-leb, cases_lt, cases_Bool}
+use Rattle.std.proofs.lemmas.Bool.{and_parts, or_cases, lt-leb, cases_lt}
 use Rattle.std.proofs.lemmas.List.{get_or_past}
 use Rattle.std.proofs.lemmas.List.Folds.{list_all-append}
-use Rattle.rdm_num.specs.Lists.{Member, or_else, below}
+use Rattle.rdm_num.specs.Lists.{Member, below}
 use Rattle.rdm_num.specs.declared.numbers.Life.{Life}
 use Rattle.rdm_num.specs.declared.numbers.Connid.{Connid}
 use Rattle.rdm_pkt.specs.declared.Packet.{Packet}
@@ -16,9 +16,8 @@ use Rattle.rdm_model.specs.declared.job.Instr.{Instr}
 use Rattle.rdm_model.specs.declared.entry.Entry.{Entry}
 use Rattle.rdm_model.specs.declared.entry.Act.{Act}
 use Rattle.rdm_model.specs.declared.entry.Act.TheVariants.{Next, Push, Handle, Poll}
-use Rattle.rdm_model.specs.declared.answer.Next.{Next as Answer}
 use Rattle.rdm_model.specs.declared.answer.Handled.{Handled}
-use Rattle.rdm_model.specs.declared.answer.Handled.TheVariants.{Took as TookAnswer, Dropped}
+use Rattle.rdm_model.specs.declared.answer.Handled.TheVariants.{Took as TookAnswer}
 use Rattle.rdm_wire.specs.declared.Body.TheVariants.{Note, Between}
 use Rattle.rdm_wire.specs.declared.Body.{Body}
 use Rattle.rdm_num.specs.declared.numbers.PortNo.{PortNo}
@@ -27,18 +26,18 @@ use Rattle.rdm_model.specs.Owns.{Own, Messages, no_rank, rank_of, port_count, ow
 use Rattle.rdm_model.specs.Notes.{OwedNote, next_note}
 use Rattle.rdm_model.specs.Scenes.{Scene, deeds_at}
 use Rattle.rdm_model.specs.Going.{Going, turn_going, life_going, note_going, going}
-use Rattle.rdm_model.specs.Steps.{last_stamp, clock, Classing}
+use Rattle.rdm_model.specs.Steps.{last_stamp, clock}
 use Rattle.rdm_model.specs.Classes.{lives_class}
 use Rattle.rdm_model.specs.Local.{own_scene}
 use Rattle.rdm_model.specs.Lawful.{port_deeds, life_deeds, sent_scene}
 use Rattle.rdm_model.specs.Replies.{Reply}
 use Rattle.rdm_model.specs.Sends.{Sent, sends}
-use Rattle.rdm_model.specs.Turns.{Progress, Turn, Replies, Sends, next_packet, is_over, send_turn, next_send, reply_turn, next_turn, progress, turn}
+use Rattle.rdm_model.specs.Turns.{Turn, Replies, Sends, next_packet, is_over, send_turn, next_send, reply_turn, next_turn, progress, turn}
 use Rattle.rdm_model.specs.Settled.{waiting_datagrams, is_worn, is_worn_by, left_at, is_no_entry, next_completion_is_none, is_quiet, is_quiet_in, is_settled}
 use Rattle.rdm_model.specs.Takes.{is_again_early}
-use Rattle.rdm_law.proofs.Lives.{life_of, life_scene, opened_scene}
+use Rattle.rdm_law.proofs.Lives.{life_scene, opened_scene}
 use Rattle.rdm_law.proofs.Wired.{Played}
-use Rattle.rdm_law.proofs.Known.{account, sends_of}
+use Rattle.rdm_law.proofs.Known.{account}
 use Rattle.rdm_law.proofs.Agreed.{going_agreed}
 
 -- each number below n passes

@@ -1,37 +1,19 @@
 -- Each turn of a life went in a datagram that its port pushed, and what was pushed of a send were turns.
-use Rattle.std.proofs.Common.{◌≡◌, ℕ, zero, suc, ◌+◌, ◌<◌, ◌≤◌, Bool, true, false, List, [], ◌∷◌, ◌++◌, length, Option, Some, None, refl, arith, ◌⊎◌, inl, inr, sym, ◌∙◌, ap, subst}
+use Rattle.std.proofs.Common.{◌≡◌, ℕ, List, [], ◌∷◌, length, Some, refl, inl, inr, ◌∙◌, ap, subst}
 use Rattle.rdm_num.specs.Lists.{Member}
-use Rattle.rdm_num.specs.declared.numbers.Life.{Life}
-use Rattle.rdm_num.specs.declared.numbers.Connid.{Connid}
-use Rattle.rdm_num.specs.declared.numbers.PortNo.{PortNo}
 use Rattle.rdm_pkt.specs.declared.Packet.{Packet}
-use Rattle.rdm_wire.specs.declared.Datagram.{Datagram}
-use Rattle.rdm_wire.specs.declared.Body.{Body}
-use Rattle.rdm_wire.specs.declared.Body.TheVariants.{Note, Between}
-use Rattle.rdm_wire.specs.declared.Load.{Load}
-use Rattle.rdm_model.specs.declared.job.Job.{Job}
-use Rattle.rdm_model.specs.declared.entry.Entry.{Entry}
-use Rattle.rdm_model.specs.declared.entry.Act.{Act}
-use Rattle.rdm_model.specs.declared.entry.Act.TheVariants.{Push}
-use Rattle.rdm_model.specs.Deeds.{Deed, Pushed, Item, deed_of, deed_by_push, deeds, log_of, of_life, open_life}
-use Rattle.rdm_model.specs.Owns.{Own, Messages, rank_of, own_of}
-use Rattle.rdm_model.specs.Sends.{Sent, sends}
-use Rattle.rdm_model.specs.Turns.{Turn, Sends, Replies, turn, progress}
-use Rattle.rdm_model.specs.Going.{Going, Goes, turn_going, Bears}
-use Rattle.rdm_model.specs.Scenes.{deeds_at}
-use Rattle.rdm_model.specs.Local.{heard_by, Local}
-use Rattle.rdm_model.specs.Wire.{PushedIn}
-use Rattle.rdm_model.specs.Lawful.{life_deeds, port_deeds}
+use Rattle.rdm_model.specs.Deeds.{Deed}
+use Rattle.rdm_model.specs.Owns.{Own, Messages}
+use Rattle.rdm_model.specs.Sends.{Sent}
+use Rattle.rdm_model.specs.Turns.{Turn, Sends, progress}
+use Rattle.rdm_model.specs.Local.{heard_by}
 use Rattle.rdm_model.proofs.Members.{member-append_cases}
 use Rattle.rdm_model.proofs.SameRegions.{Agree, agree_before}
 use Rattle.rdm_model.proofs.SameTurns.{turn_same}
 use Rattle.rdm_model.proofs.Grows.{agree_grows}
-use Rattle.rdm_model.proofs.Pushes.{pushed_of, PushesOf, pushed_step}
+use Rattle.rdm_model.proofs.Pushes.{pushed_of, pushed_step}
 use Rattle.rdm_model.proofs.Served.{PushedAt}
-use Rattle.rdm_law.proofs.Lives.{TurnedAt, life_of, at_of_life}
-use Rattle.rdm_law.proofs.Pushed.{PlacedAt}
-use Rattle.rdm_law.proofs.Wired.{Played}
-use Rattle.rdm_law.proofs.Turned.{pushed_same}
+use Rattle.rdm_law.proofs.Lives.{TurnedAt}
 
 -- a push by one account is one by another that agrees with it
 pushed_back : (own : Own) (ms ns : Messages) (t : Turn) (k : ℕ) (log : List Deed) → Agree own.limits.first ms ns log → PushedAt own ns t k log → PushedAt own ms t k log

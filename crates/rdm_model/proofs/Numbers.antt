@@ -108,7 +108,7 @@ pub send_below : (own : Own) (ms : Messages) (log : List Deed) (s : Sent) → Me
 send_below own ms log s m = slice_get_within (sends own ms log) s.number s (send_at own ms log s m)
 
 -- a message of a new send has the next number to its life
-new_placed : (own : Own) (before : List Deed) (sents : List Sent) (n : ℕ) (req : SendReq) (to : Life) (bytes : List ℕ) (s : Sent)
+pub new_placed : (own : Own) (before : List Deed) (sents : List Sent) (n : ℕ) (req : SendReq) (to : Life) (bytes : List ℕ) (s : Sent)
     → s ≡ new_sent own before n (length (sends_to sents to)) req to bytes
     → (s.to ≡ to) × (s.message.no.0 ≡ own.limits.first + length (sends_to sents s.to))
 unfolding new_sent
@@ -127,7 +127,8 @@ sends_to_more sents s =
     filter-append (λ (x : Sent). same_life x.to s.to) sents (s ∷ [])
     ∙ ap (λ (b : Bool). filter (λ (x : Sent). same_life x.to s.to) sents ++ cond b (s ∷ []) []) (same_life-refl s.to)
 
-sends_to_append : (sents : List Sent) (t : Sent) (to : Life) → sends_to (sents ++ t ∷ []) to ≡ sends_to sents to ++ sends_to (t ∷ []) to
+-- the sends to a life, with one more
+pub sends_to_append : (sents : List Sent) (t : Sent) (to : Life) → sends_to (sents ++ t ∷ []) to ≡ sends_to sents to ++ sends_to (t ∷ []) to
 unfolding sends_to
 sends_to_append sents t to = filter-append (λ (x : Sent). same_life x.to to) sents (t ∷ [])
 
