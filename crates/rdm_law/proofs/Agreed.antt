@@ -1,5 +1,5 @@
 -- What a port may do next is the same by what it took itself as by what was sent to it.
-use Rattle.std.proofs.Common.{◌≡◌, ℕ, Bool, List, [], ◌∷◌, Option, Some, None, refl, sym, ◌∙◌, ap, subst}
+use Rattle.std.proofs.Common.{◌≡◌, ℕ, List, Option, Some, None, refl, sym, ◌∙◌, ap}
 use Rattle.rdm_wire.specs.declared.Datagram.{Datagram}
 use Rattle.rdm_model.specs.declared.job.Job.{Job}
 use Rattle.rdm_model.specs.declared.job.Instr.{Instr}
@@ -11,8 +11,7 @@ use Rattle.rdm_model.specs.Answers.{answer_of}
 use Rattle.rdm_model.specs.Going.{going}
 use Rattle.rdm_model.specs.Classes.{class_of, lives_class}
 use Rattle.rdm_model.specs.Takes.{is_again_early}
-use Rattle.rdm_model.specs.Completions.{completions, poll_count}
-use Rattle.rdm_model.specs.Settled.{answer_or_worn, left_answer, left_at, instruction_left, next_completion_is_none}
+use Rattle.rdm_model.specs.Settled.{left_answer, left_at, instruction_left, next_completion_is_none}
 use Rattle.rdm_model.specs.Local.{own_scene}
 use Rattle.rdm_model.specs.Lawful.{port_deeds, sent_to, sent_scene}
 use Rattle.rdm_model.specs.Wire.{PushedIn, IsUnhandled}

@@ -1,11 +1,11 @@
 -- The bytes of a read message that come by reads were asked for.
-use Rattle.std.proofs.Common.{◌≡◌, ℕ, ◌+◌, ◌-◌, ◌<◌, ◌≤◌, Bool, true, false, cond, List, [], ◌∷◌, length, take, drop, Option, Some, None, refl, arith, ◌⊎◌, inl, inr, sym, ◌∙◌, ap, subst, length-take}
+use Rattle.std.proofs.Common.{◌≡◌, ℕ, ◌+◌, ◌-◌, ◌<◌, ◌≤◌, true, false, cond, List, [], ◌∷◌, length, take, drop, Option, Some, None, refl, arith, inl, inr, sym, ◌∙◌, ap, subst, length-take}
 use Rattle.std.specs.Prelude.{nat_lt, slice_get, filter_map}
 use Rattle.std.specs.List.{cons_option}
 use Rattle.std.proofs.lemmas.Bool.{ltb-false}
 use Rattle.std.proofs.lemmas.Option.{slice_get_within}
 use Rattle.rdm_num.specs.Lists.{Member}
-use Rattle.rdm_num.specs.Pieces.{Piece, byte_in, byte_at, piece_bytes}
+use Rattle.rdm_num.specs.Pieces.{Piece, byte_in, piece_bytes}
 use Rattle.rdm_num.specs.declared.numbers.Life.{Life}
 use Rattle.rdm_num.specs.declared.limits.EpLimits.{EpLimits}
 use Rattle.rdm_num.specs.declared.head.Head.{Head}
@@ -18,7 +18,7 @@ use Rattle.rdm_wire.specs.declared.ReadAsk.{ReadAsk}
 use Rattle.rdm_wire.specs.declared.ReadData.{ReadData}
 use Rattle.rdm_model.specs.declared.job.Job.{Job}
 use Rattle.rdm_model.specs.declared.entry.Entry.{Entry}
-use Rattle.rdm_model.specs.Deeds.{Deed, Took, Asks}
+use Rattle.rdm_model.specs.Deeds.{Took, Asks}
 use Rattle.rdm_model.specs.Owns.{own_of}
 use Rattle.rdm_model.specs.Parts.{carried_pieces}
 use Rattle.rdm_model.specs.Receives.{is_filled}
@@ -26,16 +26,14 @@ use Rattle.rdm_model.specs.Sends.{Sent}
 use Rattle.rdm_model.specs.Turns.{is_read, packet_piece, pieces_in}
 use Rattle.rdm_model.specs.Named.{read_from}
 use Rattle.rdm_model.specs.Lawful.{life_deeds}
-use Rattle.rdm_model.proofs.Cuts.{InRow}
 use Rattle.rdm_model.proofs.Rows.{row_apart}
 use Rattle.rdm_model.proofs.Opens.{openings_in_row, openings_bytes, opened_bytes}
 use Rattle.rdm_model.proofs.Grows.{landed_byte}
-use Rattle.rdm_law.proofs.Lives.{TurnedAt}
 use Rattle.rdm_law.proofs.Turned.{turn_is}
 use Rattle.rdm_law.proofs.Wired.{Played}
-use Rattle.rdm_law.proofs.Known.{account, sends_of, Known, known_one}
-use Rattle.rdm_law.proofs.Named.{pairs_of, PairKnown, head_length}
-use Rattle.rdm_law.proofs.Pieces.{SentPiece, GivenPiece, PieceOf}
+use Rattle.rdm_law.proofs.Known.{account, Known, known_one}
+use Rattle.rdm_law.proofs.Named.{head_length}
+use Rattle.rdm_law.proofs.Pieces.{SentPiece, GivenPiece}
 use Rattle.rdm_law.proofs.Whole.{byte_of_piece}
 use Rattle.rdm_law.proofs.Sent.{carried_part}
 

@@ -1,6 +1,5 @@
 -- What a life takes carries what was sent, for the first time.
-use Rattle.std.proofs.Common.{◌≡◌, ℕ, Bool, true, false, List, [], ◌∷◌, length, Option, Some, None, refl, ◌⊎◌, inl, inr, sym, ◌∙◌, ap, subst}
-use Rattle.rdm_num.specs.Lists.{Member}
+use Rattle.std.proofs.Common.{◌≡◌, ℕ, List, Some, sym, ap, subst}
 use Rattle.rdm_num.specs.Pieces.{Piece}
 use Rattle.rdm_num.specs.declared.numbers.PortNo.{PortNo}
 use Rattle.rdm_num.specs.declared.numbers.Connid.{Connid}
@@ -8,30 +7,28 @@ use Rattle.rdm_num.specs.declared.numbers.Life.{Life}
 use Rattle.rdm_match.specs.Matcher.{Pair}
 use Rattle.rdm_wire.specs.declared.Datagram.{Datagram}
 use Rattle.rdm_model.specs.declared.job.Job.{Job}
-use Rattle.rdm_model.specs.declared.answer.Entered.{Entered}
 use Rattle.rdm_model.specs.declared.answer.Handled.TheVariants.{Took as TookAnswer}
 use Rattle.rdm_model.specs.declared.entry.Entry.{Entry}
 use Rattle.rdm_model.specs.declared.entry.Act.{Act}
 use Rattle.rdm_model.specs.declared.entry.Act.TheVariants.{Handle}
-use Rattle.rdm_model.specs.Deeds.{Deed, Took, Item, deed_of, log_of, open_life, is_connid, of_life, of_open_life}
-use Rattle.rdm_model.specs.Owns.{Own, Messages, own_of, rank_of, port_count, life_at}
+use Rattle.rdm_model.specs.Deeds.{Deed, Took, Item, deed_of, log_of, open_life}
+use Rattle.rdm_model.specs.Owns.{Messages, own_of, rank_of}
 use Rattle.rdm_model.specs.Matches.{pairs}
 use Rattle.rdm_model.specs.Parts.{carried_by, carried_pieces}
-use Rattle.rdm_model.specs.Scenes.{Scene, scene, deeds_at}
+use Rattle.rdm_model.specs.Scenes.{deeds_at}
 use Rattle.rdm_model.specs.Classes.{class_of}
 use Rattle.rdm_model.specs.Steps.{Does}
-use Rattle.rdm_model.specs.Local.{own_scene, heard_by}
-use Rattle.rdm_model.specs.Lawful.{port_deeds, life_deeds, sent_to, sent_scene, IsPartOf, IsApart, Carries}
-use Rattle.rdm_model.specs.Wire.{PushedIn, IsUnhandled, Comes}
-use Rattle.rdm_model.proofs.SameRegions.{Agree}
+use Rattle.rdm_model.specs.Local.{own_scene}
+use Rattle.rdm_model.specs.Lawful.{life_deeds, sent_to, IsPartOf, IsApart}
+use Rattle.rdm_model.specs.Wire.{Comes}
 use Rattle.rdm_model.proofs.SameMatches.{pairs_same, carried_pieces_same}
-use Rattle.rdm_law.proofs.Lives.{life_of, life_scene, LifeStep, life_step, opened_scene}
-use Rattle.rdm_law.proofs.Wired.{Played, TakenAs, TakenTurn, act_took, taken_to, took_to, pushed_taken}
-use Rattle.rdm_law.proofs.Carried.{Brought, carried_parts}
+use Rattle.rdm_law.proofs.Lives.{life_of, LifeStep}
+use Rattle.rdm_law.proofs.Wired.{Played, TakenTurn, act_took, taken_to, pushed_taken}
+use Rattle.rdm_law.proofs.Carried.{carried_parts}
 use Rattle.rdm_law.proofs.Landed.{carried_new}
 use Rattle.rdm_law.proofs.Known.{account}
 use Rattle.rdm_law.proofs.Named.{pairs_of}
-use Rattle.rdm_law.proofs.Pieces.{PieceOf, item_piece}
+use Rattle.rdm_law.proofs.Pieces.{item_piece}
 use Rattle.rdm_law.proofs.Sent.{SendsAre, brought_piece, known_placed, agree_sent}
 
 -- bytes that the deed of an entry takes are a part of what was sent, and apart from those that came

@@ -28,7 +28,6 @@ use Rattle.rdm_law.proofs.Wired.{own_life, taken_pushed}
 use Rattle.rdm_law.proofs.Known.{known_one, known_head, opened}
 use Rattle.rdm_law.proofs.Named.{went_reply}
 use Rattle.rdm_law.proofs.Clashes.{Clash}
-use Rattle.rdm_law.proofs.ReplyTurns.{asks_apart}
 use Rattle.rdm_law.proofs.ReplyTurns.{reply_once}
 use Rattle.rdm_law.proofs.Arrives.{Arrives, arriving_scene}
 use Rattle.rdm_law.proofs.Fresh.{taken_before}

@@ -1,5 +1,5 @@
 -- The class of what a port of a job pushed is that by lives alone.
-use Rattle.std.proofs.Common.{◌≡◌, ℕ, Bool, true, false, cond, List, [], ◌∷◌, Option, Some, None, refl, ◌⊎◌, inl, inr, sym, ◌∙◌, ap, subst}
+use Rattle.std.proofs.Common.{◌≡◌, ℕ, Bool, true, false, List, [], ◌∷◌, Option, Some, None, refl, sym, ◌∙◌, ap, subst}
 use Rattle.std.specs.Prelude.{not, ◌&&◌, is_none}
 use Rattle.rdm_num.specs.Lists.{first_case}
 use Rattle.rdm_num.specs.Lives.{life}
@@ -16,19 +16,19 @@ use Rattle.rdm_model.specs.declared.answer.Class.TheVariants.{ToOther, FromOther
 use Rattle.rdm_model.specs.declared.answer.Handled.{Handled}
 use Rattle.rdm_model.specs.declared.entry.Entry.{Entry}
 use Rattle.rdm_model.specs.declared.entry.Act.TheVariants.{Handle}
-use Rattle.rdm_model.specs.Deeds.{Deed, Item, item_of, log_of, open_life, is_connid, of_life}
-use Rattle.rdm_model.specs.Owns.{Own, own_of, port_count}
+use Rattle.rdm_model.specs.Deeds.{Deed, Item, item_of, log_of, open_life, is_connid}
+use Rattle.rdm_model.specs.Owns.{own_of, port_count}
 use Rattle.rdm_model.specs.Currents.{current}
 use Rattle.rdm_model.specs.Sources.{is_other, is_malformed, has_raw}
 use Rattle.rdm_model.specs.Named.{is_bad_key, is_no_op}
-use Rattle.rdm_model.specs.Scenes.{Scene, scene, deeds_at}
+use Rattle.rdm_model.specs.Scenes.{Scene, scene}
 use Rattle.rdm_model.specs.Classes.{is_mismatch, is_overlap, item_class, body_class, class_of, body_lives_class, lives_class}
 use Rattle.rdm_model.specs.Local.{own_scene}
 use Rattle.rdm_model.specs.Lawful.{port_deeds, life_deeds}
 use Rattle.rdm_model.specs.Wire.{PushedIn, IsUnhandled, Comes}
 use Rattle.rdm_law.proofs.Lives.{life_of, life_scene, opened_scene, is_connid-true, not-false}
-use Rattle.rdm_law.proofs.Wired.{Played, TakenAs, TakenTurn, pushed_taken}
-use Rattle.rdm_law.proofs.Classed.{IsTaken, taken_from}
+use Rattle.rdm_law.proofs.Wired.{Played, TakenAs, pushed_taken}
+use Rattle.rdm_law.proofs.Classed.{taken_from}
 use Rattle.rdm_law.proofs.Arrives.{Arrives, arriving_scene}
 
 -- no test that asks more than lives holds of what came from a life

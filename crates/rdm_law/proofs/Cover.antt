@@ -1,11 +1,11 @@
 -- Ranges that share no place and cover a stretch have as many places together as it has.
-use Rattle.std.proofs.Common.{◌≡◌, ℕ, zero, suc, ◌+◌, ◌-◌, ◌<◌, ◌≤◌, min, Bool, true, false, cond, List, [], ◌∷◌, ◌++◌, refl, arith, ◌⊎◌, inl, inr, sym, ◌∙◌, ap, subst}
+use Rattle.std.proofs.Common.{◌≡◌, ℕ, zero, suc, ◌+◌, ◌-◌, ◌<◌, ◌≤◌, min, true, false, cond, List, [], ◌∷◌, ◌++◌, refl, arith, inl, inr, sym, ◌∙◌, ap, subst}
 use Rattle.std.specs.Prelude.{◌&&◌, nat_le, nat_lt, sum_by, fold}
 use Rattle.std.proofs.lemmas.Bool.{and_parts, and_from, leb-true, le-leb, ltb-true, lt-ltb, cases_lt, false_from_ne_true}
 use Rattle.rdm_num.specs.Lists.{Member}
 use Rattle.rdm_wire.specs.declared.ReadAsk.{ReadAsk}
 use Rattle.rdm_model.proofs.Members.{member-append_cases}
-use Rattle.rdm_law.proofs.Asks.{AsksShare, asks_share_back}
+use Rattle.rdm_law.proofs.Asks.{AsksShare}
 
 -- no two of the asks share a byte
 abbrev pub AllApart : List ReadAsk → Type 0

@@ -1,6 +1,6 @@
 -- An end that a life took is of the pair of its send's message, whose receive is filled.
-use Rattle.std.proofs.Common.{◌≡◌, ℕ, Bool, true, false, cond, List, [], ◌∷◌, Option, Some, None, refl, ◌⊎◌, inl, inr, sym, ◌∙◌, ap, subst}
-use Rattle.std.specs.Prelude.{◌&&◌, ◌==◌, nat_eq}
+use Rattle.std.proofs.Common.{◌≡◌, ℕ, true, List, [], ◌∷◌, refl, sym, ◌∙◌, ap, subst}
+use Rattle.std.specs.Prelude.{nat_eq}
 use Rattle.std.specs.List.{list_any}
 use Rattle.std.proofs.lemmas.Bool.{and_parts, eqb-true}
 use Rattle.rdm_num.specs.Lists.{Member}
@@ -19,19 +19,18 @@ use Rattle.rdm_match.specs.Matcher.{Pair}
 use Rattle.rdm_wire.specs.declared.Datagram.{Datagram}
 use Rattle.rdm_model.specs.declared.job.Job.{Job}
 use Rattle.rdm_model.specs.declared.entry.Entry.{Entry}
-use Rattle.rdm_model.specs.Deeds.{Deed, Took, Item, Spelled}
+use Rattle.rdm_model.specs.Deeds.{Deed, Took, Spelled}
 use Rattle.rdm_model.specs.Owns.{Own, own_of}
 use Rattle.rdm_model.specs.Replies.{end_for}
 use Rattle.rdm_model.specs.Receives.{is_filled}
-use Rattle.rdm_model.specs.Sends.{Sent}
 use Rattle.rdm_model.specs.Turns.{is_read, ends_send}
 use Rattle.rdm_model.specs.Lawful.{life_deeds}
 use Rattle.rdm_model.proofs.Members.{list_any_member, same_life-true}
 use Rattle.rdm_law.proofs.Owed.{shape_in, recv_in}
-use Rattle.rdm_law.proofs.Causes.{OfEnd, owed_end}
+use Rattle.rdm_law.proofs.Causes.{owed_end}
 use Rattle.rdm_law.proofs.Wired.{Played, TakenTurn, Taken, taken_pushed}
 use Rattle.rdm_law.proofs.Known.{account, sends_of, Known}
-use Rattle.rdm_law.proofs.Named.{pairs_of, PairKnown, pair_known, went_reply, head_shape, send_number, one_send}
+use Rattle.rdm_law.proofs.Named.{pairs_of, pair_known, went_reply, head_shape, send_number}
 
 -- a message whose receive owes an end is read, and the end names its send
 end_shape : (own : Own) (limits : EpLimits) (m : Message) (kind : Kind) (recv send recv' : OpId) (connid : Connid)

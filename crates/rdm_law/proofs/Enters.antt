@@ -1,21 +1,19 @@
 -- The messages of each life enter in the order of their numbers, with none left out.
-use Rattle.std.proofs.Common.{◌≡◌, ℕ, zero, suc, ◌+◌, ◌-◌, ◌<◌, ◌≤◌, max, min, Bool, true, false, cond, not, List, [], ◌∷◌, ◌++◌, length, map, Option, Some, None, refl, arith, ◌⊎◌, inl, inr, sym, ◌∙◌, ap, subst, add-one}
-use Rattle.std.specs.Prelude.{◌&&◌, ◌==◌, nat_eq, nat_le, filter, is_some}
-use Rattle.std.proofs.lemmas.Bool.{and_parts, and_from, cases_Bool, cases_lt, cases_eq, eqb-true, eq-eqb, ne_eqb, leb-true, le-leb, not-true, false_from_ne_true}
-use Rattle.std.proofs.lemmas.List.{append-nil, append_assoc, map-append, length-map, length-append}
+use Rattle.std.proofs.Common.{◌≡◌, ℕ, zero, suc, ◌+◌, ◌-◌, ◌<◌, ◌≤◌, max, min, Bool, true, false, cond, not, List, [], ◌∷◌, ◌++◌, length, map, Option, refl, arith, inl, inr, sym, ◌∙◌, ap, subst}
+use Rattle.std.specs.Prelude.{◌&&◌, nat_eq, nat_le, filter}
+use Rattle.std.proofs.lemmas.Bool.{and_parts, and_from, cases_Bool, cases_lt, cases_eq, eqb-true, eq-eqb, leb-true, le-leb, not-true, false_from_ne_true}
+use Rattle.std.proofs.lemmas.List.{append-nil, append_assoc, map-append, length-map}
 use Rattle.std.proofs.lemmas.List.Elements.{filter-append}
-use Rattle.rdm_num.specs.Lists.{Member, below, each_below, without_first, or_else}
-use Rattle.rdm_num.specs.Lives.{same_life}
+use Rattle.rdm_num.specs.Lists.{Member, below, each_below, without_first}
 use Rattle.rdm_num.specs.declared.numbers.Life.{Life}
 use Rattle.rdm_num.specs.declared.numbers.MsgNo.{MsgNo}
 use Rattle.rdm_hdr.specs.declared.Opt.{Opt}
 use Rattle.rdm_pkt.specs.declared.Form.{Form}
-use Rattle.rdm_num.specs.declared.head.Head.{Head}
 use Rattle.rdm_pkt.specs.declared.Packet.TheVariants.{Rtm}
-use Rattle.rdm_model.specs.Deeds.{Deed, Took, Item, Spelled}
-use Rattle.rdm_model.specs.Heard.{head_by, heard_head, is_heard, heard_below, has_entered, entering}
-use Rattle.rdm_model.proofs.Members.{map-member, some_of, is_some_from, or_else_left, last_or_less, each_below_at}
-use Rattle.rdm_model.proofs.Lists.{each_below_from, filter_same}
+use Rattle.rdm_model.specs.Deeds.{Deed, Took, Spelled}
+use Rattle.rdm_model.specs.Heard.{heard_head, is_heard, heard_below, has_entered, entering}
+use Rattle.rdm_model.proofs.Members.{map-member, some_of, is_some_from, last_or_less, each_below_at}
+use Rattle.rdm_model.proofs.Lists.{each_below_from}
 use Rattle.rdm_model.proofs.Matches.{heard_still}
 use Rattle.rdm_law.proofs.Known.{heard_taken}
 

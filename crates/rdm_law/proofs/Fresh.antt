@@ -42,7 +42,6 @@ use Rattle.rdm_law.proofs.Whole.{byte_of_piece}
 use Rattle.rdm_law.proofs.Arrives.{Arrives}
 use Rattle.rdm_law.proofs.Asks.{iov_bytes}
 use Rattle.rdm_law.proofs.Clashes.{Clash}
-use Rattle.rdm_law.proofs.ReplyTurns.{asks_apart}
 use Rattle.rdm_law.proofs.ReplyTurns.{reply_once}
 use Rattle.rdm_law.proofs.SentSizes.{sent_sized}
 use Rattle.rdm_law.proofs.AnswersFit.{ranges_fit}

@@ -76,7 +76,7 @@ took_current [] from item m = elim m [ ]
 took_current (d ∷ before) from item (inl a) = took_now d before from item a
 took_current (d ∷ before) from item (inr a) = current_stays d before from.port.0 (took_current before from item a)
 
-to_new : (own : Own) (ms : Messages) (before : List Deed) (sents : List Sent) (d : Deed) (s : Sent) (n : NewSent own ms before sents d s) → s.to ≡ n.to
+pub to_new : (own : Own) (ms : Messages) (before : List Deed) (sents : List Sent) (d : Deed) (s : Sent) (n : NewSent own ms before sents d s) → s.to ≡ n.to
 unfolding new_sent
 to_new own ms before sents d s n = ap (λ (x : Sent). x.to) n.is
 

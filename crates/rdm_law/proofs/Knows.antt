@@ -1,10 +1,10 @@
 -- Each life that was inserted, or from which a datagram was taken, was opened.
 use Rattle.std.proofs.Common.{◌≡◌, ℕ, Bool, true, false, List, [], ◌∷◌, ◌++◌, Option, Some, None, refl, ◌⊎◌, inl, inr, sym, ◌∙◌, ap, subst}
-use Rattle.std.specs.Prelude.{not, ◌&&◌, ◌||◌, ◌==◌, nat_eq, slice_get}
+use Rattle.std.specs.Prelude.{not, ◌&&◌, ◌==◌, nat_eq, slice_get}
 use Rattle.std.specs.Bool.{then_some}
 use Rattle.std.specs.List.{list_any}
-use Rattle.std.proofs.lemmas.Bool.{and_parts, or_cases, eqb-true, cases_Bool}
-use Rattle.rdm_num.specs.Lists.{Member, or_else, first_case}
+use Rattle.std.proofs.lemmas.Bool.{and_parts, or_cases, eqb-true}
+use Rattle.rdm_num.specs.Lists.{Member, first_case}
 use Rattle.rdm_num.specs.declared.numbers.PortNo.{PortNo}
 use Rattle.rdm_num.specs.declared.numbers.Connid.{Connid}
 use Rattle.rdm_num.specs.declared.numbers.Life.{Life}
@@ -12,14 +12,13 @@ use Rattle.rdm_wire.specs.declared.Datagram.{Datagram}
 use Rattle.rdm_wire.specs.declared.Body.{Body}
 use Rattle.rdm_wire.specs.declared.Body.TheVariants.{Note, Between}
 use Rattle.rdm_wire.specs.declared.NoteBody.{NoteBody}
-use Rattle.rdm_wire.specs.declared.NoteBody.TheVariants.{Opened as OpenedNote, Said}
+use Rattle.rdm_wire.specs.declared.NoteBody.TheVariants.{Opened as OpenedNote}
 use Rattle.rdm_model.specs.declared.job.Job.{Job}
 use Rattle.rdm_model.specs.declared.job.Instr.{Instr}
 use Rattle.rdm_model.specs.declared.job.Instr.TheVariants.{OpenLife, Insert}
 use Rattle.rdm_model.specs.declared.answer.DidWhat.{DidWhat}
 use Rattle.rdm_model.specs.declared.answer.Next.{Next as Answer}
-use Rattle.rdm_model.specs.declared.answer.Next.TheVariants.{Did as DidAnswer, NotYet}
-use Rattle.rdm_model.specs.declared.answer.Yet.{Yet}
+use Rattle.rdm_model.specs.declared.answer.Next.TheVariants.{Did as DidAnswer}
 use Rattle.rdm_model.specs.declared.answer.Entered.{Entered}
 use Rattle.rdm_model.specs.declared.answer.Handled.{Handled}
 use Rattle.rdm_model.specs.declared.answer.Handled.TheVariants.{Took as TookAnswer}
@@ -27,7 +26,7 @@ use Rattle.rdm_model.specs.declared.entry.Entry.{Entry}
 use Rattle.rdm_model.specs.declared.entry.Act.{Act}
 use Rattle.rdm_model.specs.declared.entry.Act.TheVariants.{Next, Push, Handle, Poll}
 use Rattle.rdm_model.specs.Deeds.{Deed, Did, TookNote, Took, Item, deed_by_next, deed_by_push, deed_by_handle, deed_of, deeds, log_of, open_life, of_life}
-use Rattle.rdm_model.specs.Owns.{Own, own_of, rank_of, life_at}
+use Rattle.rdm_model.specs.Owns.{own_of, rank_of, life_at}
 use Rattle.rdm_model.specs.Currents.{inserted_by, last_inserted, seen_by, first_seen, current}
 use Rattle.rdm_model.specs.Notes.{tells_open, opens, knows_open}
 use Rattle.rdm_model.specs.Scenes.{Scene, scene, deeds_at}
@@ -37,12 +36,13 @@ use Rattle.rdm_model.specs.Steps.{Does}
 use Rattle.rdm_model.specs.Local.{own_scene, Local}
 use Rattle.rdm_model.specs.Lawful.{port_deeds, life_deeds}
 use Rattle.rdm_model.proofs.Members.{list_any_member, or_else_cases, member-append_right}
-use Rattle.rdm_law.proofs.Logs.{log_of-same, at_log_of}
+use Rattle.rdm_law.proofs.Logs.{at_log_of}
 use Rattle.rdm_law.proofs.Lives.{same_connid, same_port, at_of_life, not-false}
-use Rattle.rdm_law.proofs.Wired.{Played, played_before, HandledIn, handled_by, comes_of, Taken, taken_pushed}
+use Rattle.rdm_law.proofs.Wired.{Played, played_before, HandledIn, handled_by, comes_of, taken_pushed}
 use Rattle.rdm_law.proofs.Pushed.{PlacedAt}
 use Rattle.rdm_law.proofs.Opened.{IsOpened, open_opened, note_pushed}
 
+-- a take of a note is of a datagram
 handle_note : (src : PortNo) (body : Body) (answer : Handled) (from : PortNo) (note : NoteBody) → deed_by_handle src body answer ≡ TookNote from note
     → (entered : Option Entered) × (answer ≡ TookAnswer entered) × (body ≡ Note note) × (src ≡ from)
 unfolding deed_by_handle
@@ -50,11 +50,13 @@ handle_note src (Note n) (TookAnswer entered) from note h = (entered, refl, cc, 
 handle_note src (Between f to load) (TookAnswer entered) from note h = cc
 handle_note src _ _ from note h = cc
 
+-- no instruction takes a note
 next_note' : (o : Option Instr) (answer : Answer) (from : PortNo) (note : NoteBody) → deed_by_next o answer ≡ TookNote from note → ⊥
 unfolding deed_by_next
 next_note' (Some instr) (DidAnswer what) from note h = cc
 next_note' _ _ from note h = cc
 
+-- no push takes a note
 push_note : (body : Body) (from : PortNo) (note : NoteBody) → deed_by_push body ≡ TookNote from note → ⊥
 unfolding deed_by_push
 push_note (Note n) from note h = cc
@@ -93,11 +95,13 @@ unfolding port_deeds deeds_at deeds
 opened_still job e before l m =
     at_log_of (λ log. Member (Did (OpenLife l.connid)) (deeds (rank_of job l.port.0).ops log)) l.port.0 e before (λ s. inr m) (λ s. m)
 
+-- an open of the life
 opens_parts : (l : Life) (d : Deed) → opens l d ≡ true → d ≡ Did (OpenLife l.connid)
 unfolding opens
 opens_parts l (Did (OpenLife c)) h = ap (λ x. Did (OpenLife x)) (same_connid c l.connid (eqb-true c.0 l.connid.0 h))
 opens_parts l _ h = cc
 
+-- a note that tells of the life
 tells_parts : (l : Life) (d : Deed) → tells_open l d ≡ true → d ≡ TookNote l.port (OpenedNote l.connid)
 unfolding tells_open
 tells_parts l (TookNote from (OpenedNote c)) h =
@@ -121,6 +125,7 @@ knows_opened job history port l played h =
           subst (λ (n : ℕ). Member (Did (OpenLife l.connid)) (port_deeds job n history)) (sym (eqb-true l.port.0 port p.0)) m
     ]
 
+-- the first case does not hold where its answer is another
 first_yes : (b : Bool) (x z : Answer) (cs : List (Bool × Answer)) (what : DidWhat) → first_case ((b, x) ∷ cs) z ≡ DidAnswer what → (x ≡ DidAnswer what → ⊥) → b ≡ false
 unfolding first_case
 first_yes true x z cs what h none = absurd (none h)
@@ -131,30 +136,36 @@ insert_knows : (s : Scene) (l : Life) (what : DidWhat) → answer_of s (Insert l
 unfolding answer_of
 insert_knows s l what h = not-false (knows_open s.own.life.port.0 s.port_log l) (first_yes (not (knows_open s.own.life.port.0 s.port_log l)) _ _ _ what h (λ e. cc))
 
+-- a scene's life is of its port
 life_at_port : (port : ℕ) (now : Option Connid) → (life_at port now).port.0 ≡ port
 unfolding life_at
 life_at_port port None = refl
 life_at_port port (Some c) = refl
 
+-- a scene's port
 own_port : (job : Job) (port : ℕ) (log : List Deed) → (own_scene job port log).own.life.port.0 ≡ port
 unfolding own_scene scene own_of
 own_port job port log = life_at_port port (open_life log)
 
+-- a scene's log
 own_port_log : (job : Job) (port : ℕ) (log : List Deed) → (own_scene job port log).port_log ≡ log
 unfolding own_scene scene
 own_port_log job port log = refl
 
-did_instr : (o : Option Instr) (answer : Answer) (instr x : Instr) → o ≡ Some instr → deed_by_next o answer ≡ Did x → (what : DidWhat) × (answer ≡ DidAnswer what) × (instr ≡ x)
+-- the instruction that a deed did
+pub did_instr : (o : Option Instr) (answer : Answer) (instr x : Instr) → o ≡ Some instr → deed_by_next o answer ≡ Did x → (what : DidWhat) × (answer ≡ DidAnswer what) × (instr ≡ x)
 unfolding deed_by_next
 did_instr (Some i) (DidAnswer what) instr x is h = (what, refl, (let e : i ≡ x = cc in cc))
 did_instr _ answer instr x is h = cc
 
-push_did : (body : Body) (x : Instr) → deed_by_push body ≡ Did x → ⊥
+-- no push does an instruction
+pub push_did : (body : Body) (x : Instr) → deed_by_push body ≡ Did x → ⊥
 unfolding deed_by_push
 push_did (Note n) x h = cc
 push_did (Between f to load) x h = cc
 
-handle_did : (src : PortNo) (body : Body) (answer : Handled) (x : Instr) → deed_by_handle src body answer ≡ Did x → ⊥
+-- no handling does an instruction
+pub handle_did : (src : PortNo) (body : Body) (answer : Handled) (x : Instr) → deed_by_handle src body answer ≡ Did x → ⊥
 unfolding deed_by_handle
 handle_did src (Note n) (TookAnswer entered) x h = cc
 handle_did src (Between f to load) (TookAnswer entered) x h = cc
@@ -172,6 +183,7 @@ act_did job port s before e (Push d) x p does h = absurd (push_did d.body x h)
 act_did job port s before e (Handle d answer) x p does h = absurd (handle_did d.src d.body answer x h)
 act_did job port s before e (Poll c) x p does h = cc
 
+-- the newest entry inserts what its port knows
 inserted_now : (job : Job) (port : ℕ) (before : List Entry) (e : Entry) (l : Life) → Played job before → e.port.0 ≡ port
     → Does job class_of (own_scene job port (port_deeds job port before)) (log_of port before) e e.act
     → deed_of (rank_of job port).ops e.act ≡ Did (Insert l) → IsOpened job before l
@@ -206,6 +218,7 @@ port_member c d (x ∷ before) m =
     at_of_life (λ log. Member d log → Member d (x ∷ before)) c x before
     (λ s k. elim k [ inl is ↦ inl is | inr a ↦ inr (port_member c d before a) ]) (λ s k. inr (port_member c d before k)) m
 
+-- a datagram is placed by a life that was opened
 placed_opened : (job : Job) (port : ℕ) (from : Connid) (d : Datagram) (k : ℕ) (log : List Entry) → PlacedAt job port from d k log → Member (Did (OpenLife from)) (deeds_at job port log)
 unfolding deeds_at deeds
 placed_opened job port from d k [] h = elim h [ ]
@@ -221,6 +234,7 @@ pushed_opened job history from d k h = placed_opened job from.port.0 from.connid
 abbrev pub HasMet : List Deed → Life → Type 0
 HasMet log l = Member (Did (Insert l)) log ⊎ ((item : Item) × Member (Took l item) log)
 
+-- a life that was met was opened
 pub met_opened : (job : Job) (history : List Entry) (life' l : Life) → Played job history → HasMet (life_deeds job history life') l → IsOpened job history l
 unfolding life_deeds
 met_opened job history life' l played (inl m) =
@@ -229,20 +243,24 @@ met_opened job history life' l played (inr m) =
     let t = taken_pushed job history life' l m.0 played m.1 in
     pushed_opened job history l t.datagram t.taken.place t.taken.placed
 
+-- a life that a test gives
 then_life : (b : Bool) (x y : Life) → then_some b x ≡ Some y → x ≡ y
 then_life true x y h = cc
 then_life false x y h = cc
 
+-- the life that a deed inserts
 inserted_is : (port : ℕ) (d : Deed) (l : Life) → inserted_by port d ≡ Some l → d ≡ Did (Insert l)
 unfolding inserted_by
 inserted_is port (Did (Insert life')) l h = ap (λ x. Did (Insert x)) (then_life (life'.port.0 == port) life' l h)
 inserted_is port _ l h = cc
 
+-- the life from which a deed takes
 seen_is : (port : ℕ) (d : Deed) (l : Life) → seen_by port d ≡ Some l → (item : Item) × (d ≡ Took l item)
 unfolding seen_by
 seen_is port (Took from item) l h = (item, ap (λ x. Took x item) (then_life (from.port.0 == port) from l h))
 seen_is port _ l h = cc
 
+-- the life that was inserted last was met
 last_met : (log : List Deed) (port : ℕ) (l : Life) → last_inserted log port ≡ Some l → HasMet log l
 unfolding last_inserted
 last_met [] port l h = cc
@@ -252,6 +270,7 @@ last_met (d ∷ before) port l h =
       | inr a ↦ elim (last_met before port l a.1) [ inl m ↦ inl (inr m) | inr m ↦ inr (m.0, inr m.1) ]
     ]
 
+-- the life that was seen first was met
 first_met : (log : List Deed) (port : ℕ) (l : Life) → first_seen log port ≡ Some l → HasMet log l
 unfolding first_seen
 first_met [] port l h = cc

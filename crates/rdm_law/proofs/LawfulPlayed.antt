@@ -1,7 +1,6 @@
 -- The law the other way round: the logs of a lawful history are right by themselves.
-use Rattle.std.proofs.Common.{◌≡◌, ℕ, true, List, [], ◌∷◌, Option, Some, None, refl, ◌⊎◌, inl, inr, sym, ◌∙◌, ap, subst}
+use Rattle.std.proofs.Common.{◌≡◌, ℕ, List, [], ◌∷◌, refl, sym, ◌∙◌, ap, subst}
 use Rattle.std.specs.Prelude.{IsTrue}
-use Rattle.rdm_match.specs.Matcher.{Pair}
 use Rattle.rdm_wire.specs.declared.Datagram.{Datagram}
 use Rattle.rdm_model.specs.declared.job.Job.{Job}
 use Rattle.rdm_model.specs.declared.answer.Handled.{Handled}
@@ -16,7 +15,7 @@ use Rattle.rdm_model.specs.Classes.{class_of, lives_class}
 use Rattle.rdm_model.specs.Steps.{Fits}
 use Rattle.rdm_model.specs.Local.{own_scene, Local}
 use Rattle.rdm_model.specs.Lawful.{port_deeds, sent_to, sent_scene, Lawful}
-use Rattle.rdm_model.specs.Wire.{Comes, Wire, IsInOrder}
+use Rattle.rdm_model.specs.Wire.{Comes, IsInOrder}
 use Rattle.rdm_model.proofs.SameReceives.{is_filled_same}
 use Rattle.rdm_model.proofs.SameRegions.{Agree}
 use Rattle.rdm_model.proofs.SameAnswers.{by_account, AgreesIn}

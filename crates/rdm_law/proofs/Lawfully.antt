@@ -1,22 +1,18 @@
 -- The law: logs that are right by themselves, on a wire that delivers once, make a lawful history.
-use Rattle.std.proofs.Common.{◌≡◌, ℕ, Bool, true, false, List, [], ◌∷◌, Option, Some, None, refl, ◌⊎◌, inl, inr, sym, ◌∙◌, ap, subst}
+use Rattle.std.proofs.Common.{◌≡◌, ℕ, true, List, [], ◌∷◌, Option, Some, None, refl, sym, ◌∙◌, subst}
 use Rattle.std.specs.Prelude.{IsTrue}
-use Rattle.rdm_num.specs.Pieces.{Piece}
 use Rattle.rdm_num.specs.declared.numbers.Connid.{Connid}
 use Rattle.rdm_num.specs.declared.numbers.Life.{Life}
-use Rattle.rdm_match.specs.Matcher.{Pair, is_pair}
-use Rattle.rdm_wire.specs.declared.Datagram.{Datagram}
+use Rattle.rdm_match.specs.Matcher.{is_pair}
 use Rattle.rdm_model.specs.declared.job.Job.{Job}
-use Rattle.rdm_model.specs.declared.answer.Handled.{Handled}
 use Rattle.rdm_model.specs.declared.answer.Handled.TheVariants.{Took as TookAnswer}
 use Rattle.rdm_model.specs.declared.entry.Entry.{Entry}
 use Rattle.rdm_model.specs.declared.entry.Act.{Act}
 use Rattle.rdm_model.specs.declared.entry.Act.TheVariants.{Handle}
-use Rattle.rdm_model.specs.Deeds.{Deed, Took, Item, is_connid, deed_of, log_of, open_life, of_life, of_open_life}
-use Rattle.rdm_model.specs.Owns.{Own, Messages, own_of, rank_of, port_count, life_at}
+use Rattle.rdm_model.specs.Deeds.{Took, Item, is_connid, deed_of, log_of, open_life, of_life, of_open_life}
+use Rattle.rdm_model.specs.Owns.{Messages, own_of, rank_of, port_count, life_at}
 use Rattle.rdm_model.specs.Heard.{heard_head}
 use Rattle.rdm_model.specs.Matches.{pairs, matching}
-use Rattle.rdm_model.specs.Parts.{carried_by}
 use Rattle.rdm_model.specs.Receives.{is_filled}
 use Rattle.rdm_model.specs.Scenes.{Scene, scene, deeds_at}
 use Rattle.rdm_model.specs.Classes.{class_of, lives_class}
@@ -25,17 +21,16 @@ use Rattle.rdm_model.specs.Local.{own_scene, heard_by, Local}
 use Rattle.rdm_model.specs.Lawful.{port_deeds, life_deeds, sent_to, sent_scene, Carries, Lawful}
 use Rattle.rdm_model.specs.Jobs.{is_fair, law_ops}
 use Rattle.rdm_law.specs.Law.{Law, JointLaw}
-use Rattle.rdm_model.specs.Wire.{Comes, Wire, IsInOrder}
+use Rattle.rdm_model.specs.Wire.{Comes, IsInOrder}
 use Rattle.rdm_model.proofs.SameRegions.{Agree}
 use Rattle.rdm_model.proofs.SameAnswers.{by_account, AgreesIn}
 use Rattle.rdm_model.proofs.SameClasses.{lives_class_same}
 use Rattle.rdm_model.proofs.SameFits.{fits_same}
 use Rattle.rdm_law.proofs.Logs.{log_of-same}
 use Rattle.rdm_law.proofs.Joint.{joint_parts}
-use Rattle.rdm_law.proofs.Lives.{life_scene, life_of, LifeStep, life_step, opened_scene}
+use Rattle.rdm_law.proofs.Lives.{life_scene, life_of, life_step, opened_scene}
 use Rattle.rdm_law.proofs.Wired.{Played, played_before, act_took, took_to}
 use Rattle.rdm_law.proofs.Carried.{carried_parts}
-use Rattle.rdm_law.proofs.Known.{account}
 use Rattle.rdm_law.proofs.Sent.{SendsAre, agree_sent}
 use Rattle.rdm_law.proofs.SendsAre.{sends_are}
 use Rattle.rdm_law.proofs.Carries.{CarriesAt, carries_open}
@@ -149,7 +144,7 @@ fits_sent job before e free played are comes fits =
     (λ d answer is. class_lives job before e d answer free played (subst C is comes) ∙ lives_class_same s ns d) fits)
 
 -- the newest entry fits by what its port took
-own_entry : (job : Job) (e : Entry) (before : List Entry) → Local job e.port.0 (log_of e.port.0 (e ∷ before))
+pub own_entry : (job : Job) (e : Entry) (before : List Entry) → Local job e.port.0 (log_of e.port.0 (e ∷ before))
     → Fits job class_of (own_scene job e.port.0 (port_deeds job e.port.0 before)) (log_of e.port.0 before) e
 unfolding port_deeds
 own_entry job e before l =

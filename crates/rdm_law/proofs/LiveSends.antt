@@ -1,7 +1,6 @@
 -- A send that is not over is found by its number.
-use Rattle.std.proofs.Common.{◌≡◌, ℕ, Bool, true, false, cond, not, List, [], ◌∷◌, Option, Some, None, refl, sym, ◌∙◌, ap, subst}
-use Rattle.std.specs.Prelude.{◌&&◌, ◌||◌, ◌==◌, nat_eq, is_some, filter, find}
-use Rattle.std.specs.List.{list_any}
+use Rattle.std.proofs.Common.{◌≡◌, ℕ, Bool, true, false, not, List, Some, sym, ◌∙◌, ap}
+use Rattle.std.specs.Prelude.{◌&&◌, ◌==◌, nat_eq, find}
 use Rattle.std.proofs.lemmas.Bool.{and_parts, and_from, eqb-true, eq-eqb}
 use Rattle.rdm_num.specs.Lists.{Member}
 use Rattle.rdm_num.specs.Lives.{same_life}
@@ -12,7 +11,7 @@ use Rattle.rdm_model.specs.Scenes.{Scene}
 use Rattle.rdm_model.specs.Sends.{Sent, sends}
 use Rattle.rdm_model.specs.Turns.{progress, is_over, live_of, live_sends}
 use Rattle.rdm_model.specs.Named.{live_send}
-use Rattle.rdm_model.proofs.Members.{member-filter, filter-member, some_of, find_member, member_find, same_life-true, same_life-refl}
+use Rattle.rdm_model.proofs.Members.{member-filter, filter-member, some_of, find_member, member_find, same_life-refl}
 use Rattle.rdm_model.proofs.Numbers.{sends_one}
 
 -- a live send is one of the sends, and is not over

@@ -1,7 +1,6 @@
 -- Each receive and each message is matched once at most.
-use Rattle.std.proofs.Common.{◌≡◌, ℕ, zero, suc, List, [], ◌∷◌, Option, Some, None, refl, ◌⊎◌, inl, inr, sym, ◌∙◌, ap, subst}
+use Rattle.std.proofs.Common.{◌≡◌, ℕ, zero, suc, List, [], ◌∷◌, Some, refl, inl, inr, sym, ◌∙◌, ap}
 use Rattle.std.specs.Prelude.{slice_get}
-use Rattle.rdm_num.specs.Lists.{Member}
 use Rattle.rdm_num.specs.declared.numbers.RecvNo.{RecvNo}
 use Rattle.rdm_num.specs.declared.numbers.MsgNo.{MsgNo}
 use Rattle.rdm_match.specs.Matcher.{Pair}
@@ -10,7 +9,7 @@ use Rattle.rdm_model.specs.declared.entry.Entry.{Entry}
 use Rattle.rdm_model.specs.Lawful.{life_deeds, sent_to}
 use Rattle.rdm_model.specs.Standing.{pairs_in}
 use Rattle.rdm_model.proofs.Members.{slice_get-member}
-use Rattle.rdm_law.specs.Headline.{Share, MatchedOnce}
+use Rattle.rdm_law.specs.Headline.{MatchedOnce}
 use Rattle.rdm_law.proofs.Numbered.{LacksPair, PairsApart, matching_numbered}
 use Rattle.rdm_law.proofs.Distinct.{matching_distinct}
 

@@ -1,50 +1,34 @@
 -- Each life that a life has to do with was opened.
-use Rattle.std.proofs.Common.{◌≡◌, ℕ, Bool, true, false, List, [], ◌∷◌, ◌++◌, map, Option, Some, None, refl, ◌⊎◌, inl, inr, sym, ◌∙◌, ap, subst}
-use Rattle.std.specs.Prelude.{not, ◌&&◌, ◌||◌, ◌==◌, nat_eq, slice_get, filter}
-use Rattle.std.specs.Bool.{then_some}
-use Rattle.std.specs.List.{list_any}
-use Rattle.std.proofs.lemmas.Bool.{and_parts, or_cases, eqb-true}
-use Rattle.rdm_num.specs.Lists.{Member, below, or_else, first_case}
-use Rattle.rdm_num.specs.declared.numbers.PortNo.{PortNo}
+use Rattle.std.proofs.Common.{◌≡◌, ℕ, List, [], ◌∷◌, Option, Some, None, inl, inr, ap, subst}
+use Rattle.std.specs.Prelude.{not, ◌==◌, filter}
+use Rattle.rdm_num.specs.Lists.{Member, below}
 use Rattle.rdm_num.specs.declared.numbers.Connid.{Connid}
 use Rattle.rdm_num.specs.declared.numbers.Life.{Life}
 use Rattle.rdm_wire.specs.declared.Datagram.{Datagram}
-use Rattle.rdm_wire.specs.declared.Body.{Body}
-use Rattle.rdm_wire.specs.declared.Body.TheVariants.{Note, Between}
+use Rattle.rdm_wire.specs.declared.Body.TheVariants.{Note}
 use Rattle.rdm_wire.specs.declared.NoteBody.{NoteBody}
 use Rattle.rdm_wire.specs.declared.NoteBody.TheVariants.{Opened as OpenedNote, Said}
 use Rattle.rdm_model.specs.declared.job.Job.{Job}
-use Rattle.rdm_model.specs.declared.job.Instr.{Instr}
-use Rattle.rdm_model.specs.declared.job.Instr.TheVariants.{OpenLife, Insert, Note as NoteOp, CloseLife}
-use Rattle.rdm_model.specs.declared.answer.DidWhat.{DidWhat}
-use Rattle.rdm_model.specs.declared.answer.Next.{Next as Answer}
-use Rattle.rdm_model.specs.declared.answer.Next.TheVariants.{Did as DidAnswer, NotYet, Refused}
-use Rattle.rdm_model.specs.declared.answer.Entered.{Entered}
-use Rattle.rdm_model.specs.declared.answer.Handled.{Handled}
-use Rattle.rdm_model.specs.declared.answer.Handled.TheVariants.{Took as TookAnswer}
+use Rattle.rdm_model.specs.declared.job.Instr.TheVariants.{OpenLife, Note as NoteOp, CloseLife}
 use Rattle.rdm_model.specs.declared.entry.Entry.{Entry}
-use Rattle.rdm_model.specs.declared.entry.Act.{Act}
-use Rattle.rdm_model.specs.declared.entry.Act.TheVariants.{Next, Push, Handle, Poll}
-use Rattle.rdm_model.specs.Deeds.{Deed, Did, PushedNote, Pushed, TookNote, Took, Polled, Nothing, Item, deed_by_next, deed_by_push, deed_by_handle, deed_of, deeds, log_of, open_after, open_life, is_connid, of_life}
-use Rattle.rdm_model.specs.Owns.{Own, Messages, own_of, rank_of}
-use Rattle.rdm_model.specs.Currents.{inserted_by, last_inserted, seen_by, first_seen, current}
-use Rattle.rdm_model.specs.Notes.{OwedNote, note_to, notes_by, notes, next_note, tells_open, opens, knows_open}
+use Rattle.rdm_model.specs.declared.entry.Act.TheVariants.{Push}
+use Rattle.rdm_model.specs.Deeds.{Deed, Did, deeds, open_after, open_life}
+use Rattle.rdm_model.specs.Notes.{OwedNote, note_to, notes_by, notes, next_note}
 use Rattle.rdm_model.specs.Turns.{Turn, Replies, Sends}
 use Rattle.rdm_model.specs.Scenes.{Scene, scene, deeds_at}
-use Rattle.rdm_model.specs.Answers.{answer_of}
-use Rattle.rdm_model.specs.Going.{Going, GoesNote, Goes, turn_going, life_going, note_going, going, IsGoing, IsNext}
+use Rattle.rdm_model.specs.Going.{Going, GoesNote, Goes, turn_going, life_going, note_going, going, IsGoing}
 use Rattle.rdm_model.specs.Classes.{class_of}
 use Rattle.rdm_model.specs.Steps.{Does}
 use Rattle.rdm_model.specs.Local.{own_scene, Local}
-use Rattle.rdm_model.specs.Lawful.{port_deeds, life_deeds}
+use Rattle.rdm_model.specs.Lawful.{port_deeds}
 use Rattle.rdm_model.specs.Wire.{PushedIn}
-use Rattle.rdm_model.proofs.Members.{member-append_left, member-append_right, member-append_cases, member-map, list_any_member, slice_get-member, or_else_cases}
-use Rattle.rdm_law.proofs.Lives.{same_connid, same_port}
+use Rattle.rdm_model.proofs.Members.{member-append_cases, member-map, slice_get-member}
 
 -- a deed of the port opened the life
 abbrev pub IsOpened : Job → List Entry → Life → Type 0
 IsOpened job history l = Member (Did (OpenLife l.connid)) (port_deeds job l.port.0 history)
 
+-- a deed after which a life is open
 open_by : (was : Option Connid) (d : Deed) (c : Connid) → open_after was d ≡ Some c → (before : List Deed) → (was ≡ Some c → Member (Did (OpenLife c)) (d ∷ before))
     → Member (Did (OpenLife c)) (d ∷ before)
 unfolding open_after
@@ -58,6 +42,7 @@ unfolding open_life
 open_opened [] c h = cc
 open_opened (d ∷ before) c h = open_by (open_life before) d c h before (λ k. inr (open_opened before c k))
 
+-- a deed makes a note of the life that it opens owed
 note_opened : (ports port : ℕ) (d : Deed) (n : OwedNote) (c : Connid) → Member n (notes_by ports port d) → n.body ≡ OpenedNote c → d ≡ Did (OpenLife c)
 unfolding notes_by
 note_opened ports port (Did (OpenLife connid)) n c m e =
@@ -85,27 +70,32 @@ no_turn_note None n h = cc
 no_turn_note (Some (Replies r)) n h = cc
 no_turn_note (Some (Sends s p)) n h = cc
 
+-- an open life sends no notes
 no_life_note : (s : Scene) (now : Option Connid) (n : OwedNote) → life_going now s ≡ Some (GoesNote n) → ⊥
 unfolding life_going
 no_life_note s None n h = cc
 no_life_note s (Some c) n h = no_turn_note _ n h
 
+-- a note that goes is the first one
 first_note : (o : Option OwedNote) (others : Option Going) (n : OwedNote) → note_going o others ≡ Some (GoesNote n) → (others ≡ Some (GoesNote n) → ⊥) → o ≡ Some n
 unfolding note_going
 first_note None others n h none = absurd (none h)
 first_note (Some m) others n h none = cc
 
+-- a note that goes is owed
 going_note : (s : Scene) (n : OwedNote) → going s ≡ Some (GoesNote n) → Member n (notes s.ports s.own.life.port.0 s.port_log)
 unfolding going next_note
 going_note s n h =
     let first = first_note (next_note s.ports s.own.life.port.0 s.port_log) (life_going s.now s) n h (λ k. no_life_note s s.now n k) in
     slice_get-member (notes s.ports s.own.life.port.0 s.port_log) _ n first
 
+-- a note that was pushed is owed
 pushed_note : (s : Scene) (d : Datagram) (g : Going) (body : NoteBody) → d.body ≡ Note body → going s ≡ Some g → IsGoing s g d
     → (n : OwedNote) × Member n (notes s.ports s.own.life.port.0 s.port_log) × (n.body ≡ body)
 pushed_note s d (GoesNote n) body b is h = (n, going_note s n is, (let x = h.1 in cc))
 pushed_note s d (Goes to item) body b is h = (let x = h.1.1 in cc)
 
+-- a note that is owed in a scene tells of a life that its port opened
 scene_opened : (job : Job) (port : ℕ) (log : List Deed) (n : OwedNote) (c : Connid)
     → Member n (notes (own_scene job port log).ports (own_scene job port log).own.life.port.0 (own_scene job port log).port_log) → n.body ≡ OpenedNote c → Member (Did (OpenLife c)) log
 unfolding own_scene scene

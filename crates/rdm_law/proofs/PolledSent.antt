@@ -1,33 +1,23 @@
 -- What a receive completed with was sent.
-use Rattle.std.proofs.Common.{◌≡◌, ℕ, ◌+◌, ◌-◌, Bool, true, false, List, [], ◌∷◌, ◌++◌, length, map, take, Option, Some, None, refl, ◌⊎◌, inl, inr, sym, ◌∙◌, ap, subst}
-use Rattle.std.specs.Prelude.{IsTrue, slice_get, option_to_list, filter}
+use Rattle.std.proofs.Common.{◌≡◌, ℕ, ◌-◌, List, [], ◌∷◌, ◌++◌, map, take, Option, refl, inl, inr}
+use Rattle.std.specs.Prelude.{option_to_list}
 use Rattle.rdm_num.specs.Lists.{Member}
 use Rattle.rdm_num.specs.declared.numbers.RecvNo.{RecvNo}
-use Rattle.rdm_num.specs.declared.numbers.Connid.{Connid}
 use Rattle.rdm_num.specs.declared.numbers.Life.{Life}
 use Rattle.rdm_num.specs.declared.completion.Completion.{Completion}
-use Rattle.rdm_num.specs.declared.completion.Completion.TheVariants.{Send, Recv}
+use Rattle.rdm_num.specs.declared.completion.Completion.TheVariants.{Recv}
 use Rattle.rdm_num.specs.declared.completion.Outcome.{Outcome}
-use Rattle.rdm_num.specs.declared.completion.Outcome.TheVariants.{Took, Cancelled, Gone as GoneOutcome}
-use Rattle.rdm_num.specs.declared.head.Head.{Head}
-use Rattle.rdm_pkt.specs.Openings.{message_head}
+use Rattle.rdm_num.specs.declared.completion.Outcome.TheVariants.{Took}
 use Rattle.rdm_match.specs.Matcher.{Pair}
-use Rattle.rdm_model.specs.declared.job.Job.{Job}
-use Rattle.rdm_model.specs.declared.entry.Entry.{Entry}
-use Rattle.rdm_model.specs.declared.entry.Act.{Act}
-use Rattle.rdm_model.specs.declared.entry.Act.TheVariants.{Poll}
-use Rattle.rdm_model.specs.Deeds.{Deed, log_of, open_life, of_life, of_open_life}
-use Rattle.rdm_model.specs.Owns.{Own, Messages, own_of, life_at}
-use Rattle.rdm_model.specs.Matches.{Receive, receives, pairs}
+use Rattle.rdm_model.specs.Deeds.{Deed}
+use Rattle.rdm_model.specs.Owns.{Own, Messages}
+use Rattle.rdm_model.specs.Matches.{Receive, receives}
 use Rattle.rdm_model.specs.Receives.{RecvEnd, Filled, Withdrawn, Gone, ended_recv, recv_ends, with_recv_ends, recv_ends_by, receive_numbered}
 use Rattle.rdm_model.specs.Regions.{kept_bytes}
-use Rattle.rdm_model.specs.Sends.{Sent, sent_by, with_sent}
+use Rattle.rdm_model.specs.Sends.{Sent}
 use Rattle.rdm_model.specs.Turns.{progress}
-use Rattle.rdm_model.specs.Completions.{took_outcome, outcome, recv_completion, recv_completions, send_completion, ended_sends, completions_by, completions, poll_count}
-use Rattle.rdm_model.specs.Scenes.{Scene, scene}
-use Rattle.rdm_model.specs.Lawful.{port_deeds, life_deeds, sends_in, sent_to, sent_scene, Lawful}
-use Rattle.rdm_model.proofs.Members.{member-append_cases, member-append_left, member-append_right, member-map, slice_get-member}
-use Rattle.rdm_law.specs.Headline.{TookOf, PolledWasSent}
+use Rattle.rdm_model.specs.Completions.{took_outcome, outcome, recv_completion, recv_completions, send_completion, ended_sends, completions_by, completions}
+use Rattle.rdm_model.proofs.Members.{member-append_cases, member-append_left, member-append_right, member-map}
 
 -- a receive completed by taking a message
 pub record TookEnd (ms : Messages) (es : List RecvEnd) (from : Life) (tag cq_data : Option ℕ) (bytes : List ℕ) (excess : ℕ) : Type 0 where

@@ -1,6 +1,6 @@
 -- Each receive that completed in a lawful history has what was sent, or its first bytes.
-use Rattle.std.proofs.Common.{◌≡◌, ℕ, ◌-◌, Bool, true, false, not, List, [], ◌∷◌, ◌++◌, length, map, take, Option, Some, None, refl, ◌⊎◌, inl, inr, sym, ◌∙◌, ap, subst}
-use Rattle.std.specs.Prelude.{IsTrue, slice_get, ◌&&◌, filter, flat_map}
+use Rattle.std.proofs.Common.{◌≡◌, ℕ, ◌-◌, not, List, [], ◌∷◌, ◌++◌, length, map, take, Option, Some, None, refl, inl, inr, sym, ◌∙◌, ap, subst}
+use Rattle.std.specs.Prelude.{IsTrue, ◌&&◌, filter, flat_map}
 use Rattle.rdm_num.specs.Lists.{Member}
 use Rattle.rdm_num.specs.declared.numbers.RecvNo.{RecvNo}
 use Rattle.rdm_num.specs.declared.numbers.Connid.{Connid}
@@ -18,14 +18,14 @@ use Rattle.rdm_model.specs.declared.job.Instr.TheVariants.{Cancel}
 use Rattle.rdm_model.specs.declared.entry.Entry.{Entry}
 use Rattle.rdm_model.specs.declared.entry.Act.{Act}
 use Rattle.rdm_model.specs.declared.entry.Act.TheVariants.{Poll}
-use Rattle.rdm_model.specs.Deeds.{Deed, Did, open_life, of_life, of_open_life, log_of}
-use Rattle.rdm_model.specs.Owns.{Own, Messages, Heads, own_of, life_at, port_count}
+use Rattle.rdm_model.specs.Deeds.{Deed, Did, open_life, of_open_life, log_of}
+use Rattle.rdm_model.specs.Owns.{Heads, own_of, life_at}
 use Rattle.rdm_model.specs.Currents.{forgotten_by}
 use Rattle.rdm_model.specs.Matches.{Receive, receives, pairs}
-use Rattle.rdm_model.specs.Receives.{RecvEnd, Filled, Withdrawn, Gone, is_filled, filled_by, concerns, has_ended, withdrawn_by, gone_with, recv_ends, with_recv_ends, recv_ends_by}
+use Rattle.rdm_model.specs.Receives.{RecvEnd, Filled, Gone, is_filled, filled_by, concerns, has_ended, withdrawn_by, gone_with, recv_ends, with_recv_ends, recv_ends_by}
 use Rattle.rdm_model.specs.Sends.{Sent, sent_by, with_sent}
 use Rattle.rdm_model.specs.Completions.{completions, poll_count}
-use Rattle.rdm_model.specs.Scenes.{Scene, scene}
+use Rattle.rdm_model.specs.Scenes.{scene}
 use Rattle.rdm_model.specs.Jobs.{is_fair, law_ops}
 use Rattle.rdm_model.specs.Classes.{lives_class}
 use Rattle.rdm_model.specs.Steps.{Does}
@@ -37,9 +37,9 @@ use Rattle.rdm_model.proofs.SameMatches.{pairs_same}
 use Rattle.rdm_law.specs.Headline.{TookOf, PolledWasSent}
 use Rattle.rdm_law.proofs.Lives.{life_of}
 use Rattle.rdm_law.proofs.Wired.{Played}
-use Rattle.rdm_law.proofs.Known.{account, sends_of, Known}
-use Rattle.rdm_law.proofs.Named.{pairs_of, PairKnown, pair_known}
-use Rattle.rdm_law.proofs.Sent.{SendsAre, known_placed, agree_sent}
+use Rattle.rdm_law.proofs.Known.{account}
+use Rattle.rdm_law.proofs.Named.{pair_known}
+use Rattle.rdm_law.proofs.Sent.{known_placed, agree_sent}
 use Rattle.rdm_law.proofs.SendsAre.{sends_are, sends_in_newest}
 use Rattle.rdm_law.proofs.ClassLives.{AllFree}
 use Rattle.rdm_law.proofs.LawfulPlayed.{lawful_played}

@@ -1,8 +1,7 @@
 -- A send has as many bytes as were asked for, and its read list has them all.
-use Rattle.std.proofs.Common.{◌≡◌, ℕ, ◌+◌, ◌-◌, ◌≤◌, List, [], ◌∷◌, length, take, drop, get_or, refl, arith, sym, ◌∙◌, ap, subst, length-take, length-drop}
+use Rattle.std.proofs.Common.{◌≡◌, ℕ, ◌+◌, ◌≤◌, List, [], ◌∷◌, length, drop, get_or, arith, sym, subst, length-take, length-drop}
 use Rattle.rdm_num.specs.Lists.{Member}
 use Rattle.rdm_num.specs.declared.numbers.Life.{Life}
-use Rattle.rdm_num.specs.declared.lists.IovEntry.{IovEntry}
 use Rattle.rdm_num.specs.declared.request.SendReq.{SendReq}
 use Rattle.rdm_model.specs.declared.job.Instr.TheVariants.{Send}
 use Rattle.rdm_model.specs.Deeds.{Deed, Did}
