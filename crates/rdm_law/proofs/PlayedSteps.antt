@@ -32,7 +32,7 @@ stop_keeps P true w go_on here there = here
 stop_keeps P false w go_on here there = there
 
 -- tries to handle
-first_handle_keeps : (job : Job) (P : World → Type 0) → Keeps job P → (fuel port pick : ℕ) (w : World) → port < port_count job → P w → P (after_first_handle fuel job port pick w)
+pub first_handle_keeps : (job : Job) (P : World → Type 0) → Keeps job P → (fuel port pick : ℕ) (w : World) → port < port_count job → P w → P (after_first_handle fuel job port pick w)
 unfolding after_first_handle try_then after_choice choice_rank
 first_handle_keeps job P keeps zero port pick w is h = h
 first_handle_keeps job P keeps (suc fuel) port pick w is h =
@@ -41,7 +41,7 @@ first_handle_keeps job P keeps (suc fuel) port pick w is h =
     stop_keeps P (is_last_try port pick w v) v (after_first_handle fuel job port (pick + 1)) now (first_handle_keeps job P keeps fuel port (pick + 1) v is now)
 
 -- a port's part of a round
-turn_keeps : (job : Job) (P : World → Type 0) → Keeps job P → (port : ℕ) (w : World) → port < port_count job → P w → P (turn_of job w port)
+pub turn_keeps : (job : Job) (P : World → Type 0) → Keeps job P → (port : ℕ) (w : World) → port < port_count job → P w → P (turn_of job w port)
 unfolding turn_of handle_any choice_rank
 turn_keeps job P keeps port w is h =
     let a = after_choice job w (Choice.Next port) in
@@ -53,7 +53,7 @@ turn_keeps job P keeps port w is h =
     let pc : P c = first_handle_keeps job P keeps n port 0 b is pb in
     keeps c (Choice.Poll port) is pc
 
-turns_keep : (job : Job) (P : World → Type 0) → Keeps job P → (ports : List ℕ) (w : World) → ((port : ℕ) → Member port ports → port < port_count job) → P w
+pub turns_keep : (job : Job) (P : World → Type 0) → Keeps job P → (ports : List ℕ) (w : World) → ((port : ℕ) → Member port ports → port < port_count job) → P w
     → P (turns_of job w ports)
 unfolding turns_of
 turns_keep job P keeps [] w are h = h
