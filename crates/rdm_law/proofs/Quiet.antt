@@ -68,13 +68,13 @@ abbrev pub PlaceQuiet : Job → ℕ → List Entry → List Datagram → ℕ →
 PlaceQuiet job port log stash place =
     (d : Datagram) → slice_get stash place ≡ Some d → (is_again_early class_of (own_scene job port (deeds_at job port log)) d || is_worn_by job log d) ≡ true
 
-none_some : {A : Type 0} {o : Option A} {x : A} → o ≡ None → o ≡ Some x → ⊥
+pub none_some : {A : Type 0} {o : Option A} {x : A} → o ≡ None → o ≡ Some x → ⊥
 none_some a b = cc
 
-some_same : {A : Type 0} {o : Option A} {x y : A} → o ≡ Some x → o ≡ Some y → x ≡ y
+pub some_same : {A : Type 0} {o : Option A} {x y : A} → o ≡ Some x → o ≡ Some y → x ≡ y
 some_same a b = cc
 
-entry_grows : (job : Job) (w : World) (port : ℕ) (act : Act) → w.changes < (with_entry job w port act).changes
+pub entry_grows : (job : Job) (w : World) (port : ℕ) (act : Act) → w.changes < (with_entry job w port act).changes
 unfolding with_entry
 entry_grows job w port act = omega arith
 
