@@ -19,7 +19,7 @@ use Rattle.rdm_law.proofs.Sound.{chosen, or_false}
 use Rattle.rdm_law.proofs.Quiet.{Still, still_refl, still_then, Outcome, PlaceQuiet, none_some, some_same, entry_grows, next_outcome, push_outcome, poll_outcome}
 use Rattle.rdm_law.proofs.PlayedSteps.{Keeps, first_handle_keeps}
 
-at_most : (w v : World) (Why : Type 0) → Outcome w v Why → w.changes ≤ v.changes
+pub at_most : (w v : World) (Why : Type 0) → Outcome w v Why → w.changes ≤ v.changes
 at_most w v Why (inl less) = omega arith
 at_most w v Why (inr a) = let e = a.0.changes in omega arith
 
@@ -84,7 +84,7 @@ abbrev pub TryQuiet : Job → ℕ → World → ℕ → Type 0
 TryQuiet job port w pick = (w.queues port ≡ []) × (pick < length (w.stashes port) → PlaceQuiet job port (w.logs port) (w.stashes port) pick)
 
 -- what was so of a world is so of one that is still
-still_place : (job : Job) (port : ℕ) (w v : World) (place : ℕ) → Still w v → PlaceQuiet job port (v.logs port) (v.stashes port) place → PlaceQuiet job port (w.logs port) (w.stashes port) place
+pub still_place : (job : Job) (port : ℕ) (w v : World) (place : ℕ) → Still w v → PlaceQuiet job port (v.logs port) (v.stashes port) place → PlaceQuiet job port (w.logs port) (w.stashes port) place
 still_place job port w v place s q =
     let P : List Entry → Type 0 = λ log. PlaceQuiet job port log (v.stashes port) place in
     let Q : List Datagram → Type 0 = λ ds. PlaceQuiet job port (w.logs port) ds place in
