@@ -51,7 +51,7 @@ rising_append low [] ys mid high a b = rising_lower mid low ys high a b
 rising_append low (x ∷ xs) ys mid high a b = (a.0, rising_append (suc x.place) xs ys mid high a.1 b)
 
 -- each of them is from low on, and below high
-rising_member : (low : ℕ) (q : List Placed) (high : ℕ) (x : Placed) → Rising low q high → Member x q → (low ≤ x.place) × (x.place < high)
+pub rising_member : (low : ℕ) (q : List Placed) (high : ℕ) (x : Placed) → Rising low q high → Member x q → (low ≤ x.place) × (x.place < high)
 rising_member low [] high x r h = elim h [ ]
 rising_member low (y ∷ q) high x r (inl is) =
     let e = ap (λ (z : Placed). z.place) is in let a = r.0 in let b = rising_ends (suc y.place) q high r.1 in (omega arith, omega arith)
@@ -116,7 +116,7 @@ slice_get_past (x ∷ xs) ys zero k e = absurd (omega arith)
 slice_get_past (x ∷ xs) ys (suc n) k e = slice_get_past xs ys n k (omega arith)
 
 -- the first of a queue is at hand
-head_member : (q : List Placed) (x : Placed) → slice_get q 0 ≡ Some x → Member x q
+pub head_member : (q : List Placed) (x : Placed) → slice_get q 0 ≡ Some x → Member x q
 head_member q x h = slice_get-member q 0 x h
 
 -- a push stands before the end of the log

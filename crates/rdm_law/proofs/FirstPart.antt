@@ -90,7 +90,7 @@ first_taken (d ∷ before) source n k h =
     ]
 
 -- the shape of a long message
-long_shape : (limits : EpLimits) (m : Message) (kind : Kind) → kind ≡ LongCts → shape_by limits m kind ≡ S.LongCts m.send limits.credits
+pub long_shape : (limits : EpLimits) (m : Message) (kind : Kind) → kind ≡ LongCts → shape_by limits m kind ≡ S.LongCts m.send limits.credits
 unfolding shape_by
 long_shape limits m kind e = rw e refl
 
