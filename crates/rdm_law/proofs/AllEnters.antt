@@ -175,7 +175,7 @@ rest_pushed own ms log t m f (inr none) = inl (none_pushed' own log t (pushed_of
 rtm_item : (p : Packet) (t : Sent) (form : Form) → p ≡ Rtm t.message.no t.message.tag t.message.opt form → ◌≡◌ {A = Item} (Spelled p) (Spelled (Rtm t.message.no t.message.tag t.message.opt form))
 rtm_item p t form e = ap Spelled e
 
-sends_going : (t : Sent) (p : Packet) (i : Life) → t.to ≡ i → turn_going (Some (Sends t p)) ≡ Some (Goes i (Spelled p))
+pub sends_going : (t : Sent) (p : Packet) (i : Life) → t.to ≡ i → turn_going (Some (Sends t p)) ≡ Some (Goes i (Spelled p))
 unfolding turn_going
 sends_going t p i e = ap (λ (l : Life). Some (Goes l (Spelled p))) e
 
