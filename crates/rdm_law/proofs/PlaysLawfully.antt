@@ -107,7 +107,7 @@ left_agrees job port w history played is =
     subst P is (left_answers_agree job port history (log_of port history) (instruction_left job port (log_of port history)) played)
 
 -- the end of a port in a world is that in the history, with what is in its stash
-end_agrees : (job : Job) (w : World) (history : List Entry) (port : ℕ) → Played job history → log_of port history ≡ w.logs port
+pub end_agrees : (job : Job) (w : World) (history : List Entry) (port : ℕ) → Played job history → log_of port history ≡ w.logs port
     → end_at job w port ≡ stashed_end job history (λ p. length (w.stashes p)) port
 unfolding end_at stashed_end end_in end_of
 end_agrees job w history port played is =
