@@ -113,7 +113,7 @@ pub open_push : (s : Scene) (d : Datagram) (from to : Connid) (load : Load) → 
 open_push s d from to load b n = open_going s d from to load n.0 b n.1 n.2
 
 -- the life that is open in a scene is open in its log
-own_now : (job : Job) (port : ℕ) (log : List Deed) (c : Connid) → (own_scene job port log).now ≡ Some c → open_life log ≡ Some c
+pub own_now : (job : Job) (port : ℕ) (log : List Deed) (c : Connid) → (own_scene job port log).now ≡ Some c → open_life log ≡ Some c
 unfolding own_scene scene
 own_now job port log c h = h
 

@@ -83,14 +83,14 @@ grants_some [] h = absurd (omega arith)
 grants_some (g ∷ gs) h = (g, inl refl)
 
 -- what was allowed before a deed, and the grant that it takes
-allowed_step : (own : Own) (d : Deed) (log : List Deed) (s : Sent) → allowed_of own (d ∷ log) s ≡ allowed_of own log s + grant_bytes (grants_by s.to s.number d)
+pub allowed_step : (own : Own) (d : Deed) (log : List Deed) (s : Sent) → allowed_of own (d ∷ log) s ≡ allowed_of own log s + grant_bytes (grants_by s.to s.number d)
 unfolding grants grant_bytes
 allowed_step own d log s =
     let e = sum_by-append (λ (g : Grant). g.size) (grants log s.to s.number) (grants_by s.to s.number d) in
     omega arith
 
 -- the bytes of one grant
-one_grant : (recv size : ℕ) → grant_bytes (record { recv = recv; size = size } ∷ []) ≡ size
+pub one_grant : (recv size : ℕ) → grant_bytes (record { recv = recv; size = size } ∷ []) ≡ size
 unfolding grant_bytes
 one_grant recv size = omega arith
 
