@@ -136,7 +136,7 @@ came_for own heads (d ∷ before) from item n x local a (inl e) b =
       member = pair_still own.limits.first heads d before p.pair here;
       recv_is = p.recv_is;
       carried = carried_last own.limits.first heads d before from p.pair.message.no.0 x
-        (carried_now (pairs own.limits.first heads before) from item p.pair.message.no.0 x d e (brings_piece (pairs own.limits.first heads before) from item n p.pair.message.no.0 x b is));
+          (carried_now (pairs own.limits.first heads before) from item p.pair.message.no.0 x d e (brings_piece (pairs own.limits.first heads before) from item n p.pair.message.no.0 x b is));
     }
 
 rtm_piece_by : (ps : List Pair) (from : Life) (number : MsgNo) (tag : Option ℕ) (opt : Opt) (form : Form) → piece_by ps from number.0 (Spelled (Rtm number tag opt form)) ≡ piece_of form

@@ -103,7 +103,7 @@ read_within n tagged cq_data raw own known limits =
     ]
 
 -- what is read of a send begins within its message
-sent_within : (job : Job) (history : List Entry) (j : Life) (s : Sent) → Member s (sends_of job history j) → read_from s.kind ≤ length s.message.bytes
+pub sent_within : (job : Job) (history : List Entry) (j : Life) (s : Sent) → Member s (sends_of job history j) → read_from s.kind ≤ length s.message.bytes
 sent_within job history j s m =
     let own = own_of job j in
     let is = sent_is_of own (account job history j) (life_deeds job history j) s (made own (account job history j) (life_deeds job history j) s m) in

@@ -60,10 +60,12 @@ pair_owed own ms d before p item m n =
     (member-append_right r (handshake_by own before d) of_pairs
     (flat_map-member (pair_replies own ms.head d before) p r ps m (map-member (reply p.message.life) item (pair_items own ms.head d before p) n))))
 
+-- what is owed stays owed
 owed_longer : (own : Own) (ms : Messages) (d : Deed) (before : List Deed) (r : Reply) → Member r (owed own ms before) → Member r (owed own ms (d ∷ before))
 unfolding owed
 owed_longer own ms d before r m = member-append_left r (owed own ms before) (replies_by own ms.head (sends own ms before) d before) m
 
+-- a new pair owes its asks
 new_asks : (own : Own) (heads : Heads) (d : Deed) (before : List Deed) (p : Pair) (a : ReadAsk)
     → is_pair (pairs own.limits.first heads before) p.recv.id.0 p.message.life p.message.no.0 ≡ false → Member a (asks_for (shape_in heads p) (recv_in p))
     → Member (Asks a) (pair_items own heads d before p)
@@ -90,6 +92,7 @@ asks_owed own ms (d ∷ before) p a m n =
       | inr new ↦ pair_owed own ms d before p (Asks a) m (new_asks own ms.head d before p a new n)
     ]
 
+-- a pair that a deed fills owes its end
 new_end : (own : Own) (heads : Heads) (d : Deed) (before : List Deed) (p : Pair) (e : Item) → is_filled own.limits.first heads (d ∷ before) p ≡ true
     → is_filled own.limits.first heads before p ≡ false → end_for own (shape_in heads p) (recv_in p) ≡ e ∷ [] → Member e (pair_items own heads d before p)
 unfolding pair_items
@@ -103,6 +106,7 @@ new_end own heads d before p e now was is =
     member-append_right e (asks ++ grants) (cond (is_filled first heads (d ∷ before) p && not (is_filled first heads before p)) (end_for own (shape_in heads p) (recv_in p)) [])
     (subst (λ (xs : List Item). Member e xs) (sym ends) (inl refl))
 
+-- a receive that is filled is in a pair
 filled_member : (first : ℕ) (heads : Heads) (log : List Deed) (p : Pair) → is_filled first heads log p ≡ true → is_pair (pairs first heads log) p.recv.id.0 p.message.life p.message.no.0 ≡ true
 unfolding is_filled
 filled_member first heads log p h = (and_parts (is_pair (pairs first heads log) p.recv.id.0 p.message.life p.message.no.0) (has_landed first heads log p.message.life p.message.no.0) h).0
@@ -134,11 +138,13 @@ pub record GivenOwed (own : Own) (log : List Deed) (i : Life) (a : ReadAsk) : Ty
   pub number_is : sent.number ≡ a.send_id.0
   pub owed' : Member (given_reply i a sent) (owed own (heard_by own.limits.first log) log)
 
+-- a good ask has a send
 live_of_ask : (s : Scene) (i : Life) (a : ReadAsk) (o : Option Sent) → is_good_ask s i a o ≡ true → (t : Sent) × (o ≡ Some t)
 unfolding is_good_ask
 live_of_ask s i a None h = cc
 live_of_ask s i a (Some t) h = (t, refl)
 
+-- an ask that is not BadKey names a send
 ask_live_send : (s : Scene) (i : Life) (a : ReadAsk) → is_bad_key s i (Asks a) ≡ false → (t : Sent) × Member t (sends s.own s.ms s.log) × (t.to ≡ i) × (t.number ≡ a.send_id.0)
 unfolding is_bad_key live_send
 ask_live_send s i a h =
@@ -149,6 +155,7 @@ ask_live_send s i a h =
     let p = and_parts (same_life t.0.to i) (nat_eq t.0.number a.send_id.0) f.1 in
     (t.0, (live_parts s.own s.ms s.log t.0 f.0).0, same_life-true t.0.to i p.0, eqb-true t.0.number a.send_id.0 p.1)
 
+-- an ask of a send is owed bytes of one
 given_found : (i : Life) (a : ReadAsk) (sents : List Sent) (t : Sent) → Member t sents → t.to ≡ i → t.number ≡ a.send_id.0
     → (s : Sent) × Member s sents × (s.to ≡ i) × (s.number ≡ a.send_id.0) × Member (given_reply i a s) (given_by sents (Took i (Asks a)))
 unfolding given_by given_of
@@ -160,6 +167,7 @@ given_found i a sents t m to n =
     let p = and_parts (same_life s.0.to i) (nat_eq s.0.number a.send_id.0) f.1 in
     (s.0, f.0, same_life-true s.0.to i p.0, eqb-true s.0.number a.send_id.0 p.1, subst (λ (o : Option Sent). Member (given_reply i a s.0) (given_of i a o)) (sym s.1) (inl refl))
 
+-- the newest ask
 given_now : (own : Own) (before : List Deed) (i : Life) (a : ReadAsk) → LifeStep own before (Took i (Asks a)) → GivenOwed own (Took i (Asks a) ∷ before) i a
 unfolding owed sends with_sent sent_by replies_by
 given_now own before i a step =
@@ -180,6 +188,7 @@ given_now own before i a step =
           (member-append_right (given_reply i a f.0) (handshake_by own before d ++ of_pairs) (given_by (sends own ms before) d) f.4);
     }
 
+-- an older ask
 given_later : (own : Own) (d : Deed) (before : List Deed) (i : Life) (a : ReadAsk) → GivenOwed own before i a → GivenOwed own (d ∷ before) i a
 unfolding sends with_sent
 given_later own d before i a g =

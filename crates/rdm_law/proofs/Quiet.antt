@@ -33,11 +33,11 @@ still_refl w = record { changes = refl; logs = λ p. refl; queues = λ p. refl; 
 
 pub still_then : (w v u : World) → Still w v → Still v u → Still w u
 still_then w v u a b = record {
-    changes = b.changes ∙ a.changes;
-    logs = λ p. b.logs p ∙ a.logs p;
-    queues = λ p. b.queues p ∙ a.queues p;
-    stashes = λ p. b.stashes p ∙ a.stashes p;
-  }
+  changes = b.changes ∙ a.changes;
+  logs = λ p. b.logs p ∙ a.logs p;
+  queues = λ p. b.queues p ∙ a.queues p;
+  stashes = λ p. b.stashes p ∙ a.stashes p;
+}
 
 -- a step changed something, or it left all as it was for a reason
 abbrev pub Outcome : World → World → Type 0 → Type 0
@@ -84,8 +84,11 @@ next_by job w port None is = inr (still_refl w, λ instr h. absurd (none_some is
 next_by job w port (Some instr) is =
     chosen (λ v. Outcome w v (NextQuiet job port (w.logs port))) (is_entry (answer_of (own_scene job port (deeds_at job port (w.logs port))) instr) && not (is_worn job (w.logs port))) _ w
     (λ yes. inl (entry_grows job w port _))
-    (λ stays. inr (still_refl w, λ other h. (let same : instr ≡ other = some_same is h in
-      subst (λ (x : Instr). (is_entry (answer_of (own_scene job port (deeds_at job port (w.logs port))) x) && not (is_worn job (w.logs port))) ≡ false) same stays)))
+    (λ stays. inr (
+      still_refl w,
+      λ other h. (let same : instr ≡ other = some_same is h in
+          subst (λ (x : Instr). (is_entry (answer_of (own_scene job port (deeds_at job port (w.logs port))) x) && not (is_worn job (w.logs port))) ≡ false) same stays),
+    ))
 
 -- an instruction
 pub next_outcome : (job : Job) (w : World) (port : ℕ) → Outcome w (after_choice job w (Choice.Next port)) (NextQuiet job port (w.logs port))
@@ -117,15 +120,17 @@ push_by job w port None is = inr (still_refl w, λ g h. absurd (none_some is h))
 push_by job w port (Some g) is =
     let d = datagram_of job w port g in
     chosen (λ v. Outcome w v (PushQuiet job port (w.logs port) w.queues)) (is_worn job (w.logs port) || nat_le job.inbox (length (w.queues d.dst.0))) w _
-    (λ stays. inr (still_refl w, λ other h.
-      let same : g ≡ other = some_same is h in
-      let P : ℕ → Type 0 = λ n. (is_worn job (w.logs port) || nat_le job.inbox (length (w.queues n))) ≡ true in
-      let Q : Going → Type 0 = λ x. (is_worn job (w.logs port) || nat_le job.inbox (length (w.queues (going_to x)))) ≡ true in
-      subst Q same (subst P (goes_where job w port g) stays)))
+    (λ stays. inr (
+      still_refl w,
+      λ other h.
+          let same : g ≡ other = some_same is h in
+          let P : ℕ → Type 0 = λ n. (is_worn job (w.logs port) || nat_le job.inbox (length (w.queues n))) ≡ true in
+          let Q : Going → Type 0 = λ x. (is_worn job (w.logs port) || nat_le job.inbox (length (w.queues (going_to x)))) ≡ true in
+          subst Q same (subst P (goes_where job w port g) stays),
+    ))
     (λ runs. inl (omega arith))
 
 -- a push
 pub push_outcome : (job : Job) (w : World) (port : ℕ) → Outcome w (after_choice job w (Choice.Push port)) (PushQuiet job port (w.logs port) w.queues)
 unfolding after_choice scene_in
 push_outcome job w port = push_by job w port (going (own_scene job port (deeds_at job port (w.logs port)))) refl
-

@@ -50,14 +50,14 @@ fetch_moves job w port moved = omega arith
 fetch_still : (job : Job) (w : World) (port : ℕ) → w.queues port ≡ [] → Still w (after_fetch job w port)
 unfolding after_fetch
 fetch_still job w port none = record {
-    changes = (let e : min job.inbox (length (w.queues port)) ≡ 0 = empty_min job.inbox (w.queues port) none in omega arith);
-    logs = λ p. refl;
-    queues = λ p. put_at_case (λ (ds : List Datagram). ds ≡ w.queues p) port (drop job.inbox (w.queues port)) w.queues p
+  changes = (let e : min job.inbox (length (w.queues port)) ≡ 0 = empty_min job.inbox (w.queues port) none in omega arith);
+  logs = λ p. refl;
+  queues = λ p. put_at_case (λ (ds : List Datagram). ds ≡ w.queues p) port (drop job.inbox (w.queues port)) w.queues p
       (λ is. ap (λ (ds : List Datagram). drop job.inbox ds) none ∙ drop_none job.inbox ∙ sym none ∙ ap (λ (x : ℕ). w.queues x) (sym is)) (λ other. refl);
-    stashes = λ p. put_at_case (λ (ds : List Datagram). ds ≡ w.stashes p) port (w.stashes port ++ take job.inbox (w.queues port)) w.stashes p
+  stashes = λ p. put_at_case (λ (ds : List Datagram). ds ≡ w.stashes p) port (w.stashes port ++ take job.inbox (w.queues port)) w.stashes p
       (λ is. ap (λ (ds : List Datagram). w.stashes port ++ take job.inbox ds) none ∙ ap (λ (ds : List Datagram). w.stashes port ++ ds) (take_none job.inbox) ∙ append-nil (w.stashes port)
-        ∙ ap (λ (x : ℕ). w.stashes x) (sym is)) (λ other. refl);
-  }
+      ∙ ap (λ (x : ℕ). w.stashes x) (sym is)) (λ other. refl);
+}
 
 fetch_outcome : (job : Job) (w : World) (port : ℕ) → 0 < job.inbox → Outcome w (after_fetch job w port) (w.queues port ≡ [])
 fetch_outcome job w port some =
@@ -73,10 +73,13 @@ place_by job w port place None is = inr (still_refl w, λ d h. absurd (none_some
 place_by job w port place (Some d) is =
     let scene = own_scene job port (deeds_at job port (w.logs port)) in
     chosen (λ v. Outcome w v (PlaceQuiet job port (w.logs port) (w.stashes port) place)) (is_again_early class_of scene d || is_worn_by job (w.logs port) d) w _
-    (λ stays. inr (still_refl w, λ other h.
-      let same : d ≡ other = some_same is h in
-      let P : Datagram → Type 0 = λ x. (is_again_early class_of scene x || is_worn_by job (w.logs port) x) ≡ true in
-      subst P same stays))
+    (λ stays. inr (
+      still_refl w,
+      λ other h.
+          let same : d ≡ other = some_same is h in
+          let P : Datagram → Type 0 = λ x. (is_again_early class_of scene x || is_worn_by job (w.logs port) x) ≡ true in
+          subst P same stays,
+    ))
     (λ runs. inl (omega arith))
 
 -- a try at a pick that lies in the stash: the queue is empty, and the datagram there can't be handled
@@ -96,9 +99,12 @@ pick_outcome job w port pick =
     let place = pick % max 1 (length (w.stashes port)) in
     elim (place_by job w port place (slice_get (w.stashes port) place) refl) [
       | inl less ↦ inl less
-      | inr a ↦ inr (a.0, λ within.
-          let same : place ≡ pick = mod-eq_of_lt (omega arith) in
-          subst (λ (n : ℕ). PlaceQuiet job port (w.logs port) (w.stashes port) n) same a.1)
+      | inr a ↦ inr (
+        a.0,
+        λ within.
+            let same : place ≡ pick = mod-eq_of_lt (omega arith) in
+            subst (λ (n : ℕ). PlaceQuiet job port (w.logs port) (w.stashes port) n) same a.1,
+      )
     ]
 
 -- a try to handle
@@ -112,9 +118,15 @@ try_outcome job w port pick some =
       | inl less ↦ (let more = at_most v (after_pick job v port pick) _ second in inl (omega arith))
       | inr a ↦ elim second [
         | inl less ↦ (let e = a.0.changes in inl (omega arith))
-        | inr b ↦ inr (still_then w v (after_pick job v port pick) a.0 b.0, (a.1, λ within.
-            let longer : pick < length (v.stashes port) = subst (λ (ds : List Datagram). pick < length ds) (sym (a.0.stashes port)) within in
-            still_place job port w v pick a.0 (b.1 longer)))
+        | inr b ↦ inr (
+          still_then w v (after_pick job v port pick) a.0 b.0,
+          (
+            a.1,
+            λ within.
+                let longer : pick < length (v.stashes port) = subst (λ (ds : List Datagram). pick < length ds) (sym (a.0.stashes port)) within in
+                still_place job port w v pick a.0 (b.1 longer),
+          ),
+        )
       ]
     ]
 
@@ -168,16 +180,22 @@ tries_outcome job (suc fuel) port pick w some rank enough =
           let same : length (v.stashes port) ≡ length (w.stashes port) = ap (λ (ds : List Datagram). length ds) (a.0.stashes port) in
           stopped Goal (is_last_try port pick w v) v (after_first_handle fuel job port (pick + 1))
           (λ is.
-            let short = same_length job port pick w v a.0 is in
-            inr (a.0, λ k low high. (let at : pick ≡ k = omega arith in
-              subst (λ (n : ℕ). PlaceQuiet job port (w.logs port) (w.stashes port) n) at (a.1.1 (omega arith)))))
+          let short = same_length job port pick w v a.0 is in
+          inr (
+            a.0,
+            λ k low high. (let at : pick ≡ k = omega arith in
+                subst (λ (n : ℕ). PlaceQuiet job port (w.logs port) (w.stashes port) n) at (a.1.1 (omega arith))),
+          ))
           (λ is. elim (tries_outcome job fuel port (pick + 1) v some rank (omega arith)) [
             | inl less ↦ (let e = a.0.changes in inl (omega arith))
-            | inr b ↦ inr (still_then w v last a.0 b.0, λ k low high.
-                elim (cases_lt pick k) [
-                  | inl more ↦ still_place job port w v k a.0 (b.1 k (omega arith) (omega arith))
-                  | inr least ↦ (let at : pick ≡ k = omega arith in subst (λ (n : ℕ). PlaceQuiet job port (w.logs port) (w.stashes port) n) at (a.1.1 (omega arith)))
-                ])
+            | inr b ↦ inr (
+              still_then w v last a.0 b.0,
+              λ k low high.
+                  elim (cases_lt pick k) [
+                    | inl more ↦ still_place job port w v k a.0 (b.1 k (omega arith) (omega arith))
+                    | inr least ↦ (let at : pick ≡ k = omega arith in subst (λ (n : ℕ). PlaceQuiet job port (w.logs port) (w.stashes port) n) at (a.1.1 (omega arith)))
+                  ],
+            )
           ])
     ]
 

@@ -36,13 +36,13 @@ still_push job port w v s q g goes =
 
 pub still_turn : (job : Job) (port : ℕ) (w v : World) → Still w v → TurnQuiet job port v → TurnQuiet job port w
 still_turn job port w v s q = record {
-    next = subst (NextQuiet job port) (s.logs port) q.next;
-    push = still_push job port w v s q.push;
-    poll = subst (PollQuiet job port) (s.logs port) q.poll;
-    queue = sym (s.queues port) ∙ q.queue;
-    places = λ k low high.
+  next = subst (NextQuiet job port) (s.logs port) q.next;
+  push = still_push job port w v s q.push;
+  poll = subst (PollQuiet job port) (s.logs port) q.poll;
+  queue = sym (s.queues port) ∙ q.queue;
+  places = λ k low high.
       still_place job port w v k s (q.places k low (subst (λ (ds : List Datagram). k < length ds) (sym (s.stashes port)) high));
-  }
+}
 
 pub still_back : (w v : World) → Still w v → Still v w
 still_back w v s = record { changes = sym s.changes; logs = λ p. sym (s.logs p); queues = λ p. sym (s.queues p); stashes = λ p. sym (s.stashes p) }
@@ -69,9 +69,9 @@ turn_outcome job w port some rank =
     let U = PushQuiet job port (w.logs port) w.queues in
     let H = HandleQuiet job port w in
     let two : Outcome w b (N × U) = one_then w a b N (PushQuiet job port (a.logs port) a.queues) (N × U) (next_outcome job w port) (push_outcome job a port)
-        (λ s n u. (n, still_push job port w a s u)) in
+    (λ s n u. (n, still_push job port w a s u)) in
     let three : Outcome w c (N × U × H) = one_then w b c (N × U) (HandleQuiet job port b) (N × U × H) two (handle_any_outcome job b port some rank)
-        (λ s nu h. (nu.0, nu.1, still_handle job port w b s h)) in
+    (λ s nu h. (nu.0, nu.1, still_handle job port w b s h)) in
     one_then w c d (N × U × H) (PollQuiet job port (c.logs port)) (TurnQuiet job port w) three (poll_outcome job c port)
     (λ s nuh p. record {
       next = nuh.0;

@@ -93,7 +93,7 @@ waits_quiet job w history port d s joint played q m =
     let place = q.places at.0 (omega arith) (slice_get_within (w.stashes port) at.0 d at.1) d at.1 in
     let P : List Entry → Type 0 = λ log. (is_again_early class_of (own_scene job port (deeds_at job port log)) d || is_worn_by job log d) ≡ true in
     let own : (is_again_early class_of (own_scene job port (deeds_at job port (log_of port history))) d || is_worn_by job (log_of port history) d) ≡ true =
-        subst P (sym (joint.logs_are port)) place in
+    subst P (sym (joint.logs_are port)) place in
     subst (λ (b : Bool). (b || is_worn_by job (log_of port history) d) ≡ true) (early_agreed job port history d (all_free job) played there.for_it there.pushed there.fresh) own
 
 left_is : (job : Job) (port : ℕ) (history log : List Entry) → Played job history
@@ -125,16 +125,16 @@ port_quiet job w history port some s joint played quiet ranks m =
     let push : PushQuiet job port log w.queues = (let P : List Entry → Type 0 = λ l. PushQuiet job port l w.queues in subst P (sym is) q.push) in
     let poll : PollQuiet job port log = subst (PollQuiet job port) (sym is) q.poll in
     let left : is_no_entry (left_answer job (sent_scene job port history) log (instruction_left job port log)) ≡ true =
-        sym (ap is_no_entry (left_is job port history log played)) ∙ quiet_left job port log (instruction_left job port log) refl next in
+    sym (ap is_no_entry (left_is job port history log played)) ∙ quiet_left job port log (instruction_left job port log) refl next in
     let empty : (g : Going) → going own ≡ Some g → w.queues (going_to g) ≡ [] =
-        λ g goes. (let G : List Entry → Type 0 = λ l. going (own_scene job port (deeds_at job port l)) ≡ Some g in
-          (quiet (going_to g) (below_member (port_count job) (going_to g) (ranks port g (subst G is goes)))).queue) in
+    λ g goes. (let G : List Entry → Type 0 = λ l. going (own_scene job port (deeds_at job port l)) ≡ Some g in
+    (quiet (going_to g) (below_member (port_count job) (going_to g) (ranks port g (subst G is goes)))).queue) in
     let goes : (is_none (going (sent_scene job port history)) || is_worn job log) ≡ true =
-        subst (λ (o : Option Going). (is_none o || is_worn job log) ≡ true) (going_agreed job port history played) (quiet_push job port log w.queues (going own) some refl empty push) in
+    subst (λ (o : Option Going). (is_none o || is_worn job log) ≡ true) (going_agreed job port history played) (quiet_push job port log w.queues (going own) some refl empty push) in
     let polls : (next_completion_is_none (sent_scene job port history) || is_worn job log) ≡ true =
-        subst (λ (b : Bool). (b || is_worn job log) ≡ true) (sym (next_is_none own) ∙ none_agreed job port history played) (quiet_poll job port log (next_completion own) refl poll) in
+    subst (λ (b : Bool). (b || is_worn job log) ≡ true) (sym (next_is_none own) ∙ none_agreed job port history played) (quiet_poll job port log (next_completion own) refl poll) in
     let waits = all_from_members (λ d. is_again_early lives_class (sent_scene job port history) d || is_worn_by job log d) (waiting_datagrams port history)
-        (λ d k. waits_quiet job w history port d s joint played q k) in
+    (λ d k. waits_quiet job w history port d s joint played q k) in
     and_from _ _ (and_from _ _ (and_from _ _ left goes) polls) waits
 
 -- the history of a world where nothing would change anything is settled

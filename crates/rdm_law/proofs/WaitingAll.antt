@@ -105,11 +105,10 @@ waits_after port e before (Next index op answer) is w n o =
 waits_after port e before (Poll c) is w n o =
     ((λ d m. waits_longer port e before d (o.each d m) (let P : Act → Type 0 = λ x. IsOther d x in subst P (sym is) tt)), o.apart)
 waits_after port e before (Handle q answer) is w n o =
-    let ds = waiting_datagrams port before in
-    (
+    let ds = waiting_datagrams port before in (
       (λ d m.
-        let k = member-filter (λ x. not (same_datagram q x)) d ds m in
-        waits_longer port e before d (o.each d k.0) (let P : Act → Type 0 = λ x. IsOther d x in subst P (sym is) (differs q d k.1))),
+          let k = member-filter (λ x. not (same_datagram q x)) d ds m in
+          waits_longer port e before d (o.each d k.0) (let P : Act → Type 0 = λ x. IsOther d x in subst P (sym is) (differs q d k.1))),
       filter_apart (λ x. not (same_datagram q x)) ds o.apart,
     )
 waits_after port e before (Push q) is w n o =
@@ -120,19 +119,19 @@ waits_after port e before (Push q) is w n o =
     let other : (d : Datagram) → IsOther d e.act = λ d. (let P : Act → Type 0 = λ x. IsOther d x in subst P (sym is) tt) in
     let old : (d : Datagram) → Member d ds → WaitsThere port (e ∷ before) d = λ d m. waits_longer port e before d (o.each d m) (other d) in
     let now : q.dst.0 ≡ port → WaitsThere port (e ∷ before) q = λ here. record {
-        for_it = here;
-        pushed = newest_pushed e before q next.0 is;
-        fresh = (new_handled before q w new, other q);
-      } in
+      for_it = here;
+      pushed = newest_pushed e before q next.0 is;
+      fresh = (new_handled before q w new, other q);
+    } in
     (elim (q.dst.0 == port) as (λ b. (q.dst.0 == port) ≡ b
-      → ((d : Datagram) → Member d (cond b (ds ++ q ∷ []) ds) → WaitsThere port (e ∷ before) d) × AreApart (cond b (ds ++ q ∷ []) ds)) [
+    → ((d : Datagram) → Member d (cond b (ds ++ q ∷ []) ds) → WaitsThere port (e ∷ before) d) × AreApart (cond b (ds ++ q ∷ []) ds)) [
       | true ↦ λ here. (
-          (λ d m. elim (member-append_cases d ds (q ∷ []) m) [
-            | inl k ↦ old d k
-            | inr k ↦ elim k [ inl same ↦ subst (λ (x : Datagram). WaitsThere port (e ∷ before) x) same (now (eqb-true _ _ here)) | inr never ↦ elim never [ ] ]
-          ]),
-          apart_push ds q o.apart (λ x m. new x (o.each x m).pushed),
-        )
+        (λ d m. elim (member-append_cases d ds (q ∷ []) m) [
+          | inl k ↦ old d k
+          | inr k ↦ elim k [ inl same ↦ subst (λ (x : Datagram). WaitsThere port (e ∷ before) x) same (now (eqb-true _ _ here)) | inr never ↦ elim never [ ] ]
+        ]),
+        apart_push ds q o.apart (λ x m. new x (o.each x m).pushed),
+      )
       | false ↦ λ there. (old, o.apart)
     ]) refl
 
