@@ -63,7 +63,7 @@ use Rattle.rdm_law.proofs.PushedLands.{pushed_landed}
 use Rattle.rdm_law.proofs.WholePushed.{opened_done}
 
 -- what each of two standing lives has at rest
-rest_of : (job : Job) (history : List Entry) (i j : Life) → Meet job history i j → AtRest (own_of job j) (account job history j) (life_deeds job history j)
+pub rest_of : (job : Job) (history : List Entry) (i j : Life) → Meet job history i j → AtRest (own_of job j) (account job history j) (life_deeds job history j)
 rest_of job history i j m = at_rest (own_of job j) (account job history j) (life_deeds job history j) (settled_still job history j m.played m.settled m.standing.open_j m.standing.clock_j)
 
 replies_going : (r : Reply) (to : Life) (item : Item) → r.to ≡ to → r.item ≡ item → turn_going (Some (Replies r)) ≡ Some (Goes to item)
@@ -71,7 +71,7 @@ unfolding turn_going
 replies_going r to item e f = ap (λ (l : Life). Some (Goes l r.item)) e ∙ ap (λ (x : Item). Some (Goes to x)) f
 
 -- an item that is no packet which opens a message
-abbrev IsReplied : Item → Type 0
+abbrev pub IsReplied : Item → Type 0
 IsReplied (Asks a) = Unit {0}
 IsReplied (Gives g) = Unit {0}
 IsReplied (Spelled (Eor send recv connid)) = Unit {0}
@@ -122,7 +122,7 @@ pub record Matched (job : Job) (history : List Entry) (i j : Life) (p : Pair) (s
   pub heard : is_heard (life_deeds job history i) j s.message.no.0 ≡ true
 
 -- what is to be read of a matched message has come
-asked_landed : (job : Job) (history : List Entry) (i j : Life) (p : Pair) (s : Sent) (place : ℕ) → Matched job history i j p s → is_read s.kind ≡ true → read_from s.kind ≤ place
+pub asked_landed : (job : Job) (history : List Entry) (i j : Life) (p : Pair) (s : Sent) (place : ℕ) → Matched job history i j p s → is_read s.kind ≡ true → read_from s.kind ≤ place
     → place < length s.message.bytes
     → is_some (byte_at (carried_pieces (own_of job i).limits.first (account job history i).head (life_deeds job history i) j p.message.no.0) place) ≡ true
 asked_landed job history i j p s place m read low high =
