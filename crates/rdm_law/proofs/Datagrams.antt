@@ -79,7 +79,7 @@ body_pushed (Note note) h = cc
 body_pushed (Between from to load) h = (from, to, load, refl)
 
 -- a deed that pushes is the push of a datagram between lives
-act_pushed : (ops : List Instr) (act : Act) → deed_of ops act ≡ Pushed → (d : Datagram) × (from to : Connid) × (load : Load) × (act ≡ Push d) × (d.body ≡ Between from to load)
+pub act_pushed : (ops : List Instr) (act : Act) → deed_of ops act ≡ Pushed → (d : Datagram) × (from to : Connid) × (load : Load) × (act ≡ Push d) × (d.body ≡ Between from to load)
 unfolding deed_of
 act_pushed ops (Next index op answer) h = absurd (next_pushed (slice_get ops index) answer h)
 act_pushed ops (Push d) h = let b = body_pushed d.body h in (d, b.0, b.1, b.2, refl, b.3)

@@ -16,7 +16,7 @@ use Rattle.rdm_model.proofs.Served.{PushedAt}
 use Rattle.rdm_law.proofs.Queue.{owed, popped, pushed_replies}
 
 -- the first reply has the turn
-head_turn : (own : Own) (ms : Messages) (log : List Deed) (r : Reply) → slice_get (progress own ms log).replies 0 ≡ Some r → turn own ms log ≡ Some (Replies r)
+pub head_turn : (own : Own) (ms : Messages) (log : List Deed) (r : Reply) → slice_get (progress own ms log).replies 0 ≡ Some r → turn own ms log ≡ Some (Replies r)
 unfolding turn next_turn reply_turn
 head_turn own ms log r h = rw h refl
 
@@ -75,7 +75,7 @@ owed_or own ms (d ∷ before) r h f =
     ]
 
 -- a list with no first element has none
-none_first : (rs : List Reply) (r : Reply) → slice_get rs 0 ≡ None → Member r rs → ⊥
+pub none_first : (rs : List Reply) (r : Reply) → slice_get rs 0 ≡ None → Member r rs → ⊥
 none_first [] r e h = elim h [ ]
 none_first (x ∷ rs) r e h = cc
 
