@@ -1,5 +1,5 @@
 -- A report of a world where nothing would change anything is right.
-use Rattle.std.proofs.Common.{◌≡◌, ℕ, ◌+◌, ◌<◌, ◌≤◌, Bool, nat_le, leb-true, ◌&&◌, List, [], ◌∷◌, map, length, IsTrue, refl, arith, ◌⊎◌, inl, inr, sym, ◌∙◌, ap, subst}
+use Rattle.std.proofs.Common.{◌≡◌, ℕ, ◌+◌, ◌*◌, ◌<◌, ◌≤◌, Bool, nat_le, leb-true, ◌&&◌, List, [], ◌∷◌, map, length, IsTrue, refl, arith, ◌⊎◌, inl, inr, sym, ◌∙◌, ap, subst}
 use Rattle.std.proofs.lemmas.Bool.{and_parts}
 use Rattle.rdm_num.specs.Lists.{Member, below}
 use Rattle.rdm_model.specs.declared.job.Job.{Job}
@@ -7,7 +7,7 @@ use Rattle.rdm_model.specs.declared.entry.Entry.{Entry}
 use Rattle.rdm_model.specs.declared.report.End.{End}
 use Rattle.rdm_model.specs.declared.report.Report.{Report}
 use Rattle.rdm_model.specs.Owns.{port_count}
-use Rattle.rdm_model.specs.Jobs.{is_fair, law_ops, is_within}
+use Rattle.rdm_model.specs.Jobs.{is_fair, law_ops, is_within, bound}
 use Rattle.rdm_model.specs.Settled.{waiting_datagrams}
 use Rattle.rdm_model.specs.Reports.{end_of, end_in, RightReport}
 use Rattle.rdm_model.specs.Worlds.{World, new_world, after_choices}
@@ -16,7 +16,10 @@ use Rattle.rdm_law.specs.Right.{stashed_end}
 use Rattle.rdm_law.proofs.TheLaw.{the_joint_law}
 use Rattle.rdm_law.proofs.Sound.{Sound}
 use Rattle.rdm_law.proofs.PlayedSteps.{played_keeps}
-use Rattle.rdm_law.proofs.PlaysLawfully.{played_sound, joint_played, report_lawful, end_agrees}
+use Rattle.rdm_law.specs.Law.{IsBounded, PlaysRight}
+use Rattle.rdm_law.proofs.PlaysLawfully.{played_sound, joint_played, report_lawful, end_agrees, plays_lawfully}
+use Rattle.rdm_law.proofs.Counted.{IsCounted, counted_keeps, counted_new}
+use Rattle.rdm_law.proofs.MovedOnce.{changes_bound}
 use Rattle.rdm_law.proofs.QuietRounds.{AllQuiet, rounds_end}
 use Rattle.rdm_law.proofs.QuietSettled.{quiet_settled, quiet_stash}
 use Rattle.rdm_law.proofs.Outside.{OutsideEmpty, outside_new, outside_keeps, goes_to_ranks}
@@ -77,3 +80,18 @@ played_quiet job fair fewer =
 pub plays_right_where : (job : Job) (report : Report) → IsTrue (is_fair law_ops job) → (played_world job).changes < round_bound job → IsPlayed job report → RightReport job report
 plays_right_where job report fair fewer is =
     quiet_right job (played_world job) report fair (played_sound job fair) (played_outside job fair) (played_quiet job fair fewer) is
+
+-- the changes of the world that a fair job ends in are counted
+pub played_counted : (job : Job) → IsTrue (is_fair law_ops job) → IsCounted job (played_world job)
+played_counted job fair = played_keeps job law_ops (IsCounted job) fair (counted_keeps job) (counted_new job)
+
+-- so it is where the history is bounded
+pub plays_right_bounded : (job : Job) (report : Report) → IsTrue (is_fair law_ops job) → length report.history ≤ bound job → IsPlayed job report → RightReport job report
+unfolding round_bound
+plays_right_bounded job report fair few is =
+    let changes = changes_bound job (played_world job) report.history (played_sound job fair) (played_outside job fair) (played_counted job fair) is.history in
+    plays_right_where job report fair (omega arith) is
+
+-- where lawful histories are bounded, what is played is right
+pub plays_right : IsBounded → PlaysRight
+plays_right bounded job report fair is = plays_right_bounded job report fair (bounded job report.history fair (plays_lawfully the_joint_law job report fair is).lawful) is
