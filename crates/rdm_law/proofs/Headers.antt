@@ -20,6 +20,7 @@ use Rattle.rdm_pkt.specs.Choice.{opt_like, eager_room, both_have, choose}
 use Rattle.rdm_pkt.specs.Grammar.{head_fields, type_of, rtm_flags, form_fields, tag_fields, last_fields, layout, spelling}
 use Rattle.rdm_model.specs.Sends.{opt_for}
 use Rattle.rdm_law.proofs.Fitting.{AreBytes}
+use Rattle.rdm_law.proofs.PacketsFit.{cond_below}
 use Rattle.rdm_law.proofs.SmallBytes.{bytes_front, bytes_rest}
 
 -- how many bytes fields have
@@ -110,17 +111,13 @@ opt_like_length false false = refl
 unfoldable pub common_length : (tagged cq_data raw : Bool) → ℕ
 common_length tagged cq_data raw = 8 + cond tagged 8 0 + (cond raw 36 4 + cond cq_data 8 0)
 
-cond_top : (b : Bool) (m n top : ℕ) → m ≤ top → n ≤ top → cond b m n ≤ top
-cond_top true m n top h k = h
-cond_top false m n top h k = k
-
 -- they are short
 pub common_short : (tagged cq_data raw : Bool) → common_length tagged cq_data raw ≤ 60
 unfolding common_length
 common_short tagged cq_data raw =
-    let a = cond_top tagged 8 0 8 (omega arith) (omega arith) in
-    let b = cond_top raw 36 4 36 (omega arith) (omega arith) in
-    let c = cond_top cq_data 8 0 8 (omega arith) (omega arith) in
+    let a = cond_below tagged 8 0 8 (omega arith) (omega arith) in
+    let b = cond_below raw 36 4 36 (omega arith) (omega arith) in
+    let c = cond_below cq_data 8 0 8 (omega arith) (omega arith) in
     omega arith
 
 no_data : fields_length (last_fields (F.Eager [])) ≡ 0

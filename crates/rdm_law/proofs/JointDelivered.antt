@@ -10,32 +10,19 @@ use Rattle.rdm_model.specs.declared.entry.Act.TheVariants.{Next, Push, Handle, P
 use Rattle.rdm_model.specs.Deeds.{log_of}
 use Rattle.rdm_model.specs.Wire.{PushedIn, IsOther, IsUnhandled}
 use Rattle.rdm_model.specs.Joint.{IsJoint, ComesFrom, IsDelivered}
+use Rattle.rdm_law.proofs.Logs.{log_of-same, at_log_of}
 use Rattle.rdm_law.proofs.Delivers.{AreNumbered, HadWaited, AllHadWaited, Delivers, pushed_once}
-
--- what holds of a port's log with the newest entry: where it is the port's, and where it is another's
-pub log_of_case : (P : List Entry → Type 0) (port : ℕ) (e : Entry) (before : List Entry) → (e.port.0 ≡ port → P (e ∷ log_of port before))
-    → ((e.port.0 ≡ port → ⊥) → P (log_of port before)) → P (log_of port (e ∷ before))
-unfolding log_of
-log_of_case P port e before here there =
-    (elim (e.port.0 == port) as (λ b. (e.port.0 == port) ≡ b → P (cond b (e ∷ log_of port before) (log_of port before))) [
-      | true ↦ λ is. here (eqb-true _ _ is)
-      | false ↦ λ is. there (eqb-false _ _ is)
-    ]) refl
-
--- the log of the newest entry's port has it
-pub log_of_own : (e : Entry) (before : List Entry) → log_of e.port.0 (e ∷ before) ≡ e ∷ log_of e.port.0 before
-log_of_own e before = log_of_case (λ (log : List Entry). log ≡ e ∷ log_of e.port.0 before) e.port.0 e before (λ is. refl) (λ other. absurd (other refl))
 
 -- what each log of a history handled had waited, and so without the newest entry
 waited_before : (logs : ℕ → List Entry) (e : Entry) (before : List Entry) (p : ℕ) → AllHadWaited logs p (log_of p (e ∷ before)) → AllHadWaited logs p (log_of p before)
 waited_before logs e before p =
-    log_of_case (λ (log : List Entry). AllHadWaited logs p log → AllHadWaited logs p (log_of p before)) p e before (λ is h. h.0) (λ other h. h)
+    at_log_of (λ (log : List Entry). AllHadWaited logs p log → AllHadWaited logs p (log_of p before)) p e before (λ is h. h.0) (λ other h. h)
 
 waited_newest : (logs : ℕ → List Entry) (e : Entry) (before : List Entry) → ((p : ℕ) → AllHadWaited logs p (log_of p (e ∷ before)))
     → HadWaited logs e.port.0 (log_of e.port.0 before) e.act
 waited_newest logs e before h =
     let P : List Entry → Type 0 = λ log. AllHadWaited logs e.port.0 log in
-    let mine : AllHadWaited logs e.port.0 (e ∷ log_of e.port.0 before) = subst P (log_of_own e before) (h e.port.0) in
+    let mine : AllHadWaited logs e.port.0 (e ∷ log_of e.port.0 before) = subst P (log_of-same e.port.0 e before refl) (h e.port.0) in
     mine.1
 
 -- a datagram that its own port did not handle was handled by none
@@ -54,7 +41,7 @@ other_entry logs d e before (Poll c) n pushed waited mine = tt
 unhandled_newest : (d : Datagram) (e : Entry) (before : List Entry) → IsUnhandled d (log_of d.dst.0 (e ∷ before))
     → IsUnhandled d (log_of d.dst.0 before) × (e.port.0 ≡ d.dst.0 → IsOther d e.act)
 unhandled_newest d e before =
-    log_of_case (λ (log : List Entry). IsUnhandled d log → IsUnhandled d (log_of d.dst.0 before) × (e.port.0 ≡ d.dst.0 → IsOther d e.act)) d.dst.0 e before
+    at_log_of (λ (log : List Entry). IsUnhandled d log → IsUnhandled d (log_of d.dst.0 before) × (e.port.0 ≡ d.dst.0 → IsOther d e.act)) d.dst.0 e before
     (λ is h. (h.0, λ here. h.1)) (λ other h. (h, λ here. absurd (other here)))
 
 pub unhandled_by_all : (logs : ℕ → List Entry) (d : Datagram) (history : List Entry) → ((p : ℕ) → AreNumbered p (logs p)) → PushedIn d (logs d.src.0)

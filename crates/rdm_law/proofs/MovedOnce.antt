@@ -21,7 +21,7 @@ use Rattle.rdm_law.proofs.Apart.{Differ, DiffersFrom, AreApart}
 use Rattle.rdm_law.proofs.Delivers.{AreNumbered, HadWaited, AllHadWaited, Waits, Delivers, pushed_once}
 use Rattle.rdm_law.proofs.Sound.{Sound, waiting_in}
 use Rattle.rdm_law.proofs.Waiting.{apart_length}
-use Rattle.rdm_law.proofs.JointDelivered.{log_of_case}
+use Rattle.rdm_law.proofs.Logs.{at_log_of}
 use Rattle.rdm_law.proofs.Outside.{OutsideEmpty}
 use Rattle.rdm_law.proofs.Counted.{is_handling, measure, sum_below, sum_same, sum_change, IsCounted}
 
@@ -222,7 +222,7 @@ pushed_among : (d : Datagram) (port : ℕ) (history : List Entry) → PushedIn d
 unfolding pushed_in log_of
 pushed_among d port [] h = elim h [ ]
 pushed_among d port (e ∷ before) m =
-    log_of_case (λ (log : List Entry). PushedIn d log → Member d (pushed_by e.act ++ pushed_in before)) port e before
+    at_log_of (λ (log : List Entry). PushedIn d log → Member d (pushed_by e.act ++ pushed_in before)) port e before
     (λ is h. elim h [
       | inl now ↦ member-append_left d (pushed_by e.act) (pushed_in before) (pushed_member d e.act now)
       | inr was ↦ member-append_right d (pushed_by e.act) (pushed_in before) (pushed_among d port before was)
@@ -239,10 +239,10 @@ moved_fewer job w history n s joint =
     omega arith
 
 log_longer : (e : Entry) (before : List Entry) → length (log_of e.port.0 (e ∷ before)) ≡ length (log_of e.port.0 before) + 1
-log_longer e before = log_of_case (λ (log : List Entry). length log ≡ length (log_of e.port.0 before) + 1) e.port.0 e before (λ is. omega arith) (λ other. absurd (other refl))
+log_longer e before = at_log_of (λ (log : List Entry). length log ≡ length (log_of e.port.0 before) + 1) e.port.0 e before (λ is. omega arith) (λ other. absurd (other refl))
 
 log_same : (e : Entry) (before : List Entry) (p : ℕ) → (p ≡ e.port.0 → ⊥) → length (log_of p (e ∷ before)) ≡ length (log_of p before)
-log_same e before p other = log_of_case (λ (log : List Entry). length log ≡ length (log_of p before)) p e before (λ is. absurd (other (sym is))) (λ no. refl)
+log_same e before p other = at_log_of (λ (log : List Entry). length log ≡ length (log_of p before)) p e before (λ is. absurd (other (sym is))) (λ no. refl)
 
 never_empty : (e : Entry) (before : List Entry) → log_of e.port.0 (e ∷ before) ≡ [] → ⊥
 never_empty e before none =
@@ -258,7 +258,7 @@ none_sum (suc n) = let a = none_sum n in omega arith
 -- the ports of a history that has no entries of ports from n on
 outside_before : (n : ℕ) (e : Entry) (before : List Entry) → ((p : ℕ) → n ≤ p → log_of p (e ∷ before) ≡ []) → (p : ℕ) → n ≤ p → log_of p before ≡ []
 outside_before n e before h p past =
-    log_of_case (λ (log : List Entry). log ≡ [] → log_of p before ≡ []) p e before (λ is none. cc) (λ other none. none) (h p past)
+    at_log_of (λ (log : List Entry). log ≡ [] → log_of p before ≡ []) p e before (λ is none. cc) (λ other none. none) (h p past)
 
 inside : (n : ℕ) (e : Entry) (before : List Entry) → ((p : ℕ) → n ≤ p → log_of p (e ∷ before) ≡ []) → e.port.0 < n
 inside n e before h =

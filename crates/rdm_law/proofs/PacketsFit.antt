@@ -106,7 +106,8 @@ kind_small (LongCts size send credits bytes) = omega arith
 kind_small (LongRead size send iov) = omega arith
 kind_small (Runt size send iov runt offset bytes) = omega arith
 
-cond_below : (b : Bool) (m n top : ℕ) → m ≤ top → n ≤ top → cond b m n ≤ top
+-- either of two numbers is within what both are within
+pub cond_below : (b : Bool) (m n top : ℕ) → m ≤ top → n ≤ top → cond b m n ≤ top
 cond_below true m n top h k = h
 cond_below false m n top h k = k
 

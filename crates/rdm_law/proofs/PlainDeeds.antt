@@ -18,9 +18,8 @@ use Rattle.rdm_model.specs.Currents.{inserted_by, last_inserted, seen_by, first_
 use Rattle.rdm_model.specs.Heard.{is_heard}
 use Rattle.rdm_model.specs.Scenes.{Scene}
 use Rattle.rdm_model.specs.Classes.{item_class, is_overlap, repeats}
-use Rattle.rdm_model.proofs.Members.{or_else_cases, same_life-refl}
+use Rattle.rdm_model.proofs.Members.{or_else_cases, same_life-refl, then_some_parts}
 use Rattle.rdm_law.proofs.Lives.{life_scene, LifeStep, LifeLocal, first_none}
-use Rattle.rdm_law.proofs.SmallBytes.{some_then}
 use Rattle.rdm_law.proofs.Sound.{or_false}
 
 -- the message has room in one packet, whatever its headers
@@ -93,12 +92,12 @@ AreWithPeer own peer (d ∷ before) = AreWithPeer own peer before × IsWithPeer 
 
 inserted_peer : (own : Own) (peer : Life) (port : ℕ) (d : Deed) (l : Life) → IsWithPeer own peer d → inserted_by port d ≡ Some l → l ≡ peer
 unfolding inserted_by
-inserted_peer own peer port (Did (Insert life)) l h is = sym (some_then _ life l is) ∙ h.0
+inserted_peer own peer port (Did (Insert life)) l h is = sym (then_some_parts _ life l is).1 ∙ h.0
 inserted_peer own peer port _ l h is = cc
 
 seen_peer : (own : Own) (peer : Life) (port : ℕ) (d : Deed) (l : Life) → IsWithPeer own peer d → seen_by port d ≡ Some l → l ≡ peer
 unfolding seen_by
-seen_peer own peer port (Took from item) l h is = sym (some_then _ from l is) ∙ h.0
+seen_peer own peer port (Took from item) l h is = sym (then_some_parts _ from l is).1 ∙ h.0
 seen_peer own peer port _ l h is = cc
 
 last_inserted_peer : (own : Own) (peer : Life) (port : ℕ) (log : List Deed) (l : Life) → AreWithPeer own peer log → last_inserted log port ≡ Some l → l ≡ peer

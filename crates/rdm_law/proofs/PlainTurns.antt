@@ -24,17 +24,16 @@ use Rattle.rdm_model.specs.Regions.{regions}
 use Rattle.rdm_model.specs.Sends.{Sent, sends_to, new_sent, range_of, sends}
 use Rattle.rdm_model.specs.Replies.{Reply, asks_for, end_for}
 use Rattle.rdm_model.specs.Local.{heads_by}
-use Rattle.rdm_model.proofs.Members.{or_else_cases}
+use Rattle.rdm_model.proofs.Members.{or_else_cases, then_some_parts}
 use Rattle.rdm_model.proofs.Numbers.{sends_keep}
 use Rattle.rdm_law.proofs.Owed.{NewReply, OwedIn, shape_in, recv_in}
-use Rattle.rdm_law.proofs.SmallBytes.{some_then}
 use Rattle.rdm_law.proofs.SentFits.{SentFits}
 use Rattle.rdm_law.proofs.PlainDeeds.{FitsOnePacket, IsPlainLoad, IsWithPeer, AreWithPeer, current_peer}
 
 plain_head : (first : ℕ) (source : Life) (n : ℕ) (from : Life) (item : Item) (h : Head) → IsPlainLoad first item → head_by source n (Took from item) ≡ Some h → h.shape ≡ S.Eager
 unfolding head_by head_of shape_of
 plain_head first source n from (Spelled (Rtm number tag opt (F.Eager bytes))) h k is =
-    sym (ap (λ (x : Head). x.shape) (some_then (same_life from source && number.0 == n) (head_of tag opt (F.Eager bytes)) h is))
+    sym (ap (λ (x : Head). x.shape) (then_some_parts (same_life from source && number.0 == n) (head_of tag opt (F.Eager bytes)) h is).1)
 plain_head first source n from (Spelled (Rtm number tag opt (F.Medium size offset bytes))) h k is = elim k [ ]
 plain_head first source n from (Spelled (Rtm number tag opt (F.LongCts size send credits bytes))) h k is = elim k [ ]
 plain_head first source n from (Spelled (Rtm number tag opt (F.LongRead size send iov))) h k is = elim k [ ]

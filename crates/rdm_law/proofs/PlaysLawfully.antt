@@ -30,6 +30,7 @@ use Rattle.rdm_model.proofs.SameAnswers.{by_account, AgreesIn, answer_same}
 use Rattle.rdm_law.specs.Law.{JointLaw}
 use Rattle.rdm_law.specs.Right.{stashed_end, IsLawfulReport, PlaysLawfully}
 use Rattle.rdm_law.proofs.Lives.{life_of}
+use Rattle.rdm_law.proofs.Agreed.{left_agreed}
 use Rattle.rdm_law.proofs.Wired.{Played}
 use Rattle.rdm_law.proofs.Joint.{joint_parts}
 use Rattle.rdm_law.proofs.Sent.{SendsAre, agree_sent}
@@ -56,55 +57,13 @@ joint_played job w history fair s joint =
     let parts = joint_parts job w.logs history joint (joint_delivered w.logs (waiting_in w) history s.delivers joint) s.local in
     record { fair = fair; locals = parts.locals; wire = parts.wire }
 
--- where no life is open, any accounts agree
-none_agree : (first : ℕ) (ms ns : Messages) → Agree first ms ns []
-unfolding heard_head is_filled matching is_pair
-none_agree first ms ns = record { heads = λ source n h is. absurd (cc); bytes = λ p is. absurd (cc) }
-
-life_agree : (job : Job) (port : ℕ) (history : List Entry) (c : Connid) → Played job history → SendsAre job history
-    → Agree (own_of job (life_of port c)).limits.first (heard_by job.limits.first (of_life c (port_deeds job port history))) (sent_to job history (life_of port c))
-    (of_life c (port_deeds job port history))
-unfolding life_deeds own_of
-life_agree job port history c played are = agree_sent job history (life_of port c) played are
-
-open_agree : (job : Job) (port : ℕ) (history : List Entry) (now : Option Connid) → Played job history → SendsAre job history
-    → Agree (own_of job (life_at port now)).limits.first (heard_by job.limits.first (of_open_life now (port_deeds job port history))) (sent_to job history (life_at port now))
-    (of_open_life now (port_deeds job port history))
-unfolding of_open_life life_at
-open_agree job port history None played are = none_agree _ _ _
-open_agree job port history (Some c) played are = life_agree job port history c played are
-
--- the accounts of a port agree at the end
-port_agrees : (job : Job) (port : ℕ) (history : List Entry) → Played job history → SendsAre job history
-    → AgreesIn (own_scene job port (port_deeds job port history)) (sent_to job history (life_at port (open_life (port_deeds job port history))))
-unfolding own_scene scene
-port_agrees job port history played are = open_agree job port history (open_life (port_deeds job port history)) played are
-
-sent_is_account : (job : Job) (port : ℕ) (history : List Entry)
-    → sent_scene job port history ≡ by_account (own_scene job port (port_deeds job port history)) (sent_to job history (life_at port (open_life (port_deeds job port history))))
-unfolding sent_scene own_scene scene
-sent_is_account job port history = refl
-
--- an instruction is answered alike by what a port took and by what was sent to it
-pub answers_agree : (job : Job) (port : ℕ) (history : List Entry) (instr : Instr) → Played job history
-    → answer_of (own_scene job port (port_deeds job port history)) instr ≡ answer_of (sent_scene job port history) instr
-answers_agree job port history instr played =
-    answer_same (own_scene job port (port_deeds job port history)) _ instr (port_agrees job port history played (sends_are job history played))
-    ∙ ap (λ (s : Scene). answer_of s instr) (sym (sent_is_account job port history))
-
-left_answers_agree : (job : Job) (port : ℕ) (history log : List Entry) (o : Option Instr) → Played job history
-    → left_answer job (own_scene job port (port_deeds job port history)) log o ≡ left_answer job (sent_scene job port history) log o
-unfolding left_answer
-left_answers_agree job port history log None played = refl
-left_answers_agree job port history log (Some instr) played = ap (λ (a : Answer). Some (answer_or_worn job log a)) (answers_agree job port history instr played)
-
 -- what the next instruction of a port answers is the same in the world and in the history
 pub left_agrees : (job : Job) (port : ℕ) (w : World) (history : List Entry) → Played job history → log_of port history ≡ w.logs port
     → left_at job port (scene_in job w port) (w.logs port) ≡ left_at job port (sent_scene job port history) (log_of port history)
-unfolding left_at scene_in port_deeds
+unfolding scene_in port_deeds
 left_agrees job port w history played is =
     let P : List Entry → Type 0 = λ log. left_at job port (own_scene job port (deeds_at job port log)) log ≡ left_at job port (sent_scene job port history) (log_of port history) in
-    subst P is (left_answers_agree job port history (log_of port history) (instruction_left job port (log_of port history)) played)
+    subst P is (left_agreed job port history (log_of port history) played)
 
 -- the end of a port in a world is that in the history, with what is in its stash
 pub end_agrees : (job : Job) (w : World) (history : List Entry) (port : ℕ) → Played job history → log_of port history ≡ w.logs port

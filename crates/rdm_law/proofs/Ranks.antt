@@ -22,7 +22,7 @@ use Rattle.rdm_model.specs.Replies.{Reply}
 use Rattle.rdm_model.specs.Turns.{Turn, Replies, Sends, progress, turn}
 use Rattle.rdm_model.specs.Going.{Going, Goes, turn_going}
 use Rattle.rdm_model.specs.Jobs.{instr_fits, is_rank}
-use Rattle.rdm_model.proofs.Members.{or_else_cases, member-append_cases, member-map, member-filter, slice_get-member}
+use Rattle.rdm_model.proofs.Members.{or_else_cases, member-append_cases, member-map, member-filter, slice_get-member, then_some_parts}
 use Rattle.rdm_model.proofs.Matches.{pair_heard}
 use Rattle.rdm_model.proofs.Numbers.{NewSent, sends_keep}
 use Rattle.rdm_model.proofs.Turns.{turn_cases}
@@ -30,7 +30,6 @@ use Rattle.rdm_law.proofs.Owed.{NewReply, OwedIn, owed_in}
 use Rattle.rdm_law.proofs.Queue.{owed}
 use Rattle.rdm_law.proofs.Answered.{waits_owed}
 use Rattle.rdm_law.proofs.Known.{heard_taken}
-use Rattle.rdm_law.proofs.SmallBytes.{some_then}
 use Rattle.rdm_law.proofs.RegionsFit.{DidFits, AllDidFit}
 use Rattle.rdm_law.proofs.TurnsFit.{reply_no_send}
 use Rattle.rdm_law.proofs.PlayedSteps.{member_below}
@@ -47,12 +46,12 @@ LivesAre P (d ∷ before) = LivesAre P before × LifeIs P d
 
 inserted_is : (P : Life → Type 0) (port : ℕ) (d : Deed) (l : Life) → LifeIs P d → inserted_by port d ≡ Some l → P l
 unfolding inserted_by
-inserted_is P port (Did (Insert life)) l h is = subst P (some_then _ life l is) h
+inserted_is P port (Did (Insert life)) l h is = subst P (then_some_parts _ life l is).1 h
 inserted_is P port _ l h is = cc
 
 seen_is : (P : Life → Type 0) (port : ℕ) (d : Deed) (l : Life) → LifeIs P d → seen_by port d ≡ Some l → P l
 unfolding seen_by
-seen_is P port (Took from item) l h is = subst P (some_then _ from l is) h
+seen_is P port (Took from item) l h is = subst P (then_some_parts _ from l is).1 h
 seen_is P port _ l h is = cc
 
 last_inserted_is : (P : Life → Type 0) (port : ℕ) (log : List Deed) (l : Life) → LivesAre P log → last_inserted log port ≡ Some l → P l

@@ -29,16 +29,16 @@ use Rattle.rdm_model.specs.Grants.{first_part, window_of, window, granted_bytes}
 use Rattle.rdm_model.specs.Replies.{Reply, end_for}
 use Rattle.rdm_model.specs.Turns.{progress}
 use Rattle.rdm_model.specs.Local.{heads_by}
-use Rattle.rdm_model.proofs.Members.{or_else_cases, slice_get-member}
+use Rattle.rdm_model.proofs.Members.{or_else_cases, slice_get-member, then_some_parts}
 use Rattle.rdm_law.proofs.Numbered.{matching_numbered}
 use Rattle.rdm_law.proofs.Owed.{NewReply, OwedIn, owed_in, shape_in, recv_in}
 use Rattle.rdm_law.proofs.Queue.{owed}
 use Rattle.rdm_law.proofs.Answered.{waits_owed}
 use Rattle.rdm_law.proofs.Fitting.{CanGo}
-use Rattle.rdm_law.proofs.SmallBytes.{AllTakenFit, TakenFits, rtm_fits, some_then, bytes_front, bytes_rest}
+use Rattle.rdm_law.proofs.SmallBytes.{AllTakenFit, TakenFits, rtm_fits, bytes_front, bytes_rest}
 use Rattle.rdm_law.proofs.RegionsFit.{MessagesFit}
 use Rattle.rdm_law.proofs.SentFits.{DeedsFit, deeds_fit_before, sent_fits, receives_count}
-use Rattle.rdm_law.proofs.PacketsFit.{cts_fits, eor_fits, handshake_fits}
+use Rattle.rdm_law.proofs.PacketsFit.{cond_below, cts_fits, eor_fits, handshake_fits}
 
 -- the numbers of a shape are in their ranges
 abbrev pub ShapeFits : Shape → ℕ → Type 0
@@ -72,7 +72,7 @@ form_shape (Runt size send iov runt offset bytes) h =
 head_by_fits : (source : Life) (n : ℕ) (d : Deed) (h : Head) → TakenFits d → head_by source n d ≡ Some h → ShapeFits h.shape h.length
 unfolding head_by head_of
 head_by_fits source n (Took from (Spelled (Rtm number tag opt form))) h fit is =
-    subst (λ (x : Head). ShapeFits x.shape x.length) (some_then (same_life from source && number.0 == n) (head_of tag opt form) h is)
+    subst (λ (x : Head). ShapeFits x.shape x.length) (then_some_parts (same_life from source && number.0 == n) (head_of tag opt form) h is).1
     (form_shape form (rtm_fits number tag opt form fit).header)
 head_by_fits source n _ h fit is = cc
 
@@ -102,10 +102,6 @@ window_of_bound limits head S.Medium granted = omega arith
 window_of_bound limits head (S.LongRead send iov) granted = omega arith
 window_of_bound limits head (S.Runt send iov runt) granted = omega arith
 
-cond_bound : (b : Bool) (m top : ℕ) → m ≤ top → cond b m 0 ≤ top
-cond_bound true m top h = h
-cond_bound false m top h = omega arith
-
 -- a window is no longer than its message
 pub window_bound : (limits : EpLimits) (heads : Heads) (log : List Deed) (p : Pair) (granted : ℕ) → window limits heads log p granted ≤ (heads p.message.life p.message.no.0).length
 unfolding window
@@ -113,8 +109,8 @@ window_bound limits heads log p granted =
     let source = p.message.life in
     let n = p.message.no.0 in
     let so_far : ℕ = first_part log source n + granted in
-    cond_bound (is_pair (pairs limits.first heads log) p.recv.id.0 source n && covers (carried_pieces limits.first heads log source n) so_far)
-    (window_of limits (heads source n) (heads source n).shape so_far) (heads source n).length (window_of_bound limits (heads source n) (heads source n).shape so_far)
+    cond_below (is_pair (pairs limits.first heads log) p.recv.id.0 source n && covers (carried_pieces limits.first heads log source n) so_far)
+    (window_of limits (heads source n) (heads source n).shape so_far) 0 (heads source n).length (window_of_bound limits (heads source n) (heads source n).shape so_far) (omega arith)
 
 -- what an endpoint begins with has its numbers in their ranges
 pub record OwnFits (own : Own) : Type 0 where

@@ -27,7 +27,7 @@ use Rattle.rdm_model.specs.Matches.{pairs}
 use Rattle.rdm_model.specs.Parts.{piece_by, carried_by, carried_pieces}
 use Rattle.rdm_model.specs.Local.{heads_by, bytes_by}
 use Rattle.std.specs.Prelude.{◌==◌, flat_map}
-use Rattle.rdm_model.proofs.Members.{or_else_cases, member-append_cases}
+use Rattle.rdm_model.proofs.Members.{or_else_cases, member-append_cases, then_some_parts}
 use Rattle.rdm_law.proofs.Fitting.{AreBytes, ItemFits}
 
 -- a test that all elements of two lists pass
@@ -116,10 +116,6 @@ data_bytes recv offset connid bytes h =
     let e = (and_parts (field_fits (Number 4 connid.0)) _ d).1 in
     (and_parts (field_fits (Data bytes)) true e).0
 
-pub some_then : {A : Type 0} (b : Bool) (x y : A) → then_some b x ≡ Some y → x ≡ y
-some_then true x y h = cc
-some_then false x y h = cc
-
 -- the bytes of a message that an item has
 piece_bytes_fit : (ps : List Pair) (source : Life) (n : ℕ) (item : Item) (x : Piece) → ItemFits item → piece_by ps source n item ≡ Some x → AreBytes x.bytes
 unfolding piece_by
@@ -129,8 +125,8 @@ piece_bytes_fit ps source n (Spelled (Rtm number tag opt form)) x fit h =
       | false ↦ λ k. cc
     ]) h
 piece_bytes_fit ps source n (Spelled (CtsData recv offset connid bytes)) x fit h =
-    subst (λ (y : Piece). AreBytes y.bytes) (some_then _ _ x h) (data_bytes recv offset connid bytes fit)
-piece_bytes_fit ps source n (Gives g) x fit h = subst (λ (y : Piece). AreBytes y.bytes) (some_then _ _ x h) fit
+    subst (λ (y : Piece). AreBytes y.bytes) (then_some_parts _ _ x h).1 (data_bytes recv offset connid bytes fit)
+piece_bytes_fit ps source n (Gives g) x fit h = subst (λ (y : Piece). AreBytes y.bytes) (then_some_parts _ _ x h).1 fit
 piece_bytes_fit ps source n (Spelled (Cts send recv size connid)) x fit h = cc
 piece_bytes_fit ps source n (Spelled (Eor send recv connid)) x fit h = cc
 piece_bytes_fit ps source n (Spelled (Handshake words connid)) x fit h = cc

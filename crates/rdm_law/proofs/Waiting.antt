@@ -16,7 +16,8 @@ use Rattle.rdm_model.specs.Settled.{same_datagram, waiting_after, waiting_datagr
 use Rattle.rdm_model.proofs.Members.{member-append_left, member-append_right, filter-member}
 use Rattle.rdm_law.proofs.Apart.{AreApart, member_without}
 use Rattle.rdm_law.proofs.Delivers.{Delivers, AllHadWaited}
-use Rattle.rdm_law.proofs.JointDelivered.{log_of_case, unhandled_by_all}
+use Rattle.rdm_law.proofs.Logs.{at_log_of}
+use Rattle.rdm_law.proofs.JointDelivered.{unhandled_by_all}
 
 -- an element of a list stands between two parts
 pub record Split {A : Type 0} (x : A) (xs : List A) : Type 0 where
@@ -77,7 +78,7 @@ pushed_waits act ds d is =
 
 newest_or_before : (e : Entry) (before : List Entry) (d : Datagram) → PushedIn d (log_of d.src.0 (e ∷ before)) → (e.act ≡ Push d) ⊎ PushedIn d (log_of d.src.0 before)
 newest_or_before e before d =
-    log_of_case (λ (log : List Entry). PushedIn d log → (e.act ≡ Push d) ⊎ PushedIn d (log_of d.src.0 before)) d.src.0 e before (λ is h. h) (λ no h. inr h)
+    at_log_of (λ (log : List Entry). PushedIn d log → (e.act ≡ Push d) ⊎ PushedIn d (log_of d.src.0 before)) d.src.0 e before (λ is h. h) (λ no h. inr h)
 
 -- what was pushed and not handled waits
 pub waits_in_history : (history : List Entry) (d : Datagram) → PushedIn d (log_of d.src.0 history) → IsUnhandled d history → Member d (waiting_datagrams d.dst.0 history)

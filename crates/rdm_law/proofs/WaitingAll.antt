@@ -18,7 +18,7 @@ use Rattle.rdm_model.proofs.Members.{member-append_cases, member-filter}
 use Rattle.rdm_law.proofs.Apart.{Differ, DiffersFrom, AreApart, apart_push}
 use Rattle.rdm_law.proofs.Delivers.{IsNumbered, AreNumbered, Delivers, pushed_below}
 use Rattle.rdm_law.proofs.DeliverSteps.{IsNew, next_is_new}
-use Rattle.rdm_law.proofs.JointDelivered.{log_of_case, log_of_own}
+use Rattle.rdm_law.proofs.Logs.{log_of-same, at_log_of}
 use Rattle.rdm_law.proofs.Waiting.{apart_length, waiting_bound}
 
 -- the pushes of each port of a history are numbered
@@ -28,12 +28,12 @@ PushesNumbered history = (port : ℕ) → AreNumbered port (log_of port history)
 -- and so they were before the newest entry
 numbered_before : (e : Entry) (before : List Entry) → PushesNumbered (e ∷ before) → PushesNumbered before
 numbered_before e before n port =
-    log_of_case (λ (log : List Entry). AreNumbered port log → AreNumbered port (log_of port before)) port e before (λ is h. h.0) (λ other h. h) (n port)
+    at_log_of (λ (log : List Entry). AreNumbered port log → AreNumbered port (log_of port before)) port e before (λ is h. h.0) (λ other h. h) (n port)
 
 numbered_newest : (e : Entry) (before : List Entry) → PushesNumbered (e ∷ before) → IsNumbered e.port.0 (log_of e.port.0 before) e.act
 numbered_newest e before n =
     let P : List Entry → Type 0 = λ log. AreNumbered e.port.0 log in
-    let mine : AreNumbered e.port.0 (e ∷ log_of e.port.0 before) = subst P (log_of_own e before) (n e.port.0) in
+    let mine : AreNumbered e.port.0 (e ∷ log_of e.port.0 before) = subst P (log_of-same e.port.0 e before refl) (n e.port.0) in
     mine.1
 
 -- the newest entry pushes with the next number of its port
@@ -45,7 +45,7 @@ pushes_next e before d n is =
 
 -- what was pushed stays pushed in a longer history
 pushed_longer : (e : Entry) (before : List Entry) (d : Datagram) (port : ℕ) → PushedIn d (log_of port before) → PushedIn d (log_of port (e ∷ before))
-pushed_longer e before d port h = log_of_case (λ (log : List Entry). PushedIn d log) port e before (λ is. inr h) (λ other. h)
+pushed_longer e before d port h = at_log_of (λ (log : List Entry). PushedIn d log) port e before (λ is. inr h) (λ other. h)
 
 new_other : (before : List Entry) (e : Entry) (d : Datagram) (act : Act) → Comes before e act → ((q : Datagram) → PushedIn q (log_of q.src.0 before) → Differ d q) → IsOther d act
 new_other before e d (Handle q answer) c new = new q c.1
@@ -86,7 +86,7 @@ differs q d h s n =
 
 -- the newest entry's datagram was pushed
 newest_pushed : (e : Entry) (before : List Entry) (d : Datagram) → d.src.0 ≡ e.port.0 → e.act ≡ Push d → PushedIn d (log_of d.src.0 (e ∷ before))
-newest_pushed e before d src is = log_of_case (λ (log : List Entry). PushedIn d log) d.src.0 e before (λ here. inl is) (λ other. absurd (other (sym src)))
+newest_pushed e before d src is = at_log_of (λ (log : List Entry). PushedIn d log) d.src.0 e before (λ here. inl is) (λ other. absurd (other (sym src)))
 
 filter_apart : (p : Datagram → Bool) (ds : List Datagram) → AreApart ds → AreApart (filter p ds)
 filter_apart p [] a = tt
@@ -149,7 +149,7 @@ unhandled_in_log : (d : Datagram) (port : ℕ) (history : List Entry) → IsUnha
 unfolding log_of
 unhandled_in_log d port [] u = tt
 unhandled_in_log d port (e ∷ before) u =
-    log_of_case (λ (log : List Entry). IsUnhandled d log) port e before (λ is. (unhandled_in_log d port before u.0, u.1)) (λ other. unhandled_in_log d port before u.0)
+    at_log_of (λ (log : List Entry). IsUnhandled d log) port e before (λ is. (unhandled_in_log d port before u.0, u.1)) (λ other. unhandled_in_log d port before u.0)
 
 -- what waits in the joint history waits by the logs
 pub waits_by_logs : (logs : ℕ → List Entry) (waiting : ℕ → List Datagram) (history : List Entry) (port : ℕ) (d : Datagram) → Delivers logs waiting → IsJoint logs history → Wire history
