@@ -198,7 +198,7 @@ stands job history i j m =
     not_forgotten (own_of job j) (life_deeds job history j) i (own_life job history m.played j)
     (ap (λ (o : Option Life). is_other o i) m.standing.current_i ∙ ap not (same_life-refl i))
 
-heard_from : (log : List Deed) (source : Life) (n : ℕ) (h : Head) → heard_head log source n ≡ Some h → is_heard log source n ≡ true
+pub heard_from : (log : List Deed) (source : Life) (n : ℕ) (h : Head) → heard_head log source n ≡ Some h → is_heard log source n ≡ true
 unfolding is_heard
 heard_from log source n h e = ap (λ (o : Option Head). is_some o) e
 

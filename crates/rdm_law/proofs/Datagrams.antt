@@ -40,7 +40,7 @@ pub record Carrying (job : Job) (port : ℕ) (c : Connid) (to : Life) (item : It
   pub bears : Bears item load
   pub stamp_is : datagram.stamp.0 ≤ clock job log
 
-stamp_rises : (now : ℕ) (act : Act) → now < stamp_after now act
+pub stamp_rises : (now : ℕ) (act : Act) → now < stamp_after now act
 unfolding stamp_after
 stamp_rises now (Handle d answer) = omega arith
 stamp_rises now _ = omega arith

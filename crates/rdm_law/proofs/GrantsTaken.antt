@@ -67,7 +67,7 @@ use Rattle.rdm_num.specs.Lives.{same_life}
 use Rattle.rdm_model.proofs.Members.{same_life-refl}
 
 -- a placed push was a push
-placed_pushed : (job : Job) (port : ℕ) (c : Connid) (d : Datagram) (k : ℕ) (log : List Entry) → PlacedAt job port c d k log → PushedIn d log
+pub placed_pushed : (job : Job) (port : ℕ) (c : Connid) (d : Datagram) (k : ℕ) (log : List Entry) → PlacedAt job port c d k log → PushedIn d log
 placed_pushed job port c d k [] h = elim h [ ]
 placed_pushed job port c d k (e ∷ before) (inl h) = inl h.0
 placed_pushed job port c d k (e ∷ before) (inr h) = inr (placed_pushed job port c d k before h)

@@ -69,7 +69,7 @@ unfolding taken_answer
 took_some s d (Note note) = (None, refl)
 took_some s d (Between from to load) = (_, refl)
 
-taken_or : (s : Scene) (d : Datagram) (body : Body) (o : Option Class) → ((what : Option Entered) × (class_answer s d o ≡ TookAnswer what)) ⊎ ((why : Class) × (class_answer s d o ≡ Dropped why))
+pub taken_or : (s : Scene) (d : Datagram) (body : Body) (o : Option Class) → ((what : Option Entered) × (class_answer s d o ≡ TookAnswer what)) ⊎ ((why : Class) × (class_answer s d o ≡ Dropped why))
 unfolding class_answer
 taken_or s d body None = inl (took_some s d d.body)
 taken_or s d body (Some why) = inr (why, refl)
@@ -147,7 +147,7 @@ pub record Meet (job : Job) (history : List Entry) (i j : Life) : Type 0 where
   pub settled : is_settled job history ≡ true
   pub standing : Standing job history i j
 
-waits_unheard : (job : Job) (history : List Entry) (i j : Life) (d : Datagram) (load : Load) → Meet job history i j → Member d (waiting_datagrams i.port.0 history)
+pub waits_unheard : (job : Job) (history : List Entry) (i j : Life) (d : Datagram) (load : Load) → Meet job history i j → Member d (waiting_datagrams i.port.0 history)
     → d.src.0 ≡ j.port.0 → d.body ≡ Between j.connid i.connid load → d.stamp.0 < last_stamp → IsUnheard (life_deeds job history i) j (item_of load)
 waits_unheard job history i j d load m w s b stamp =
     let q = quiet job history i.port.0 m.settled (open_rank job history i.port.0 i.connid m.standing.open_i) in

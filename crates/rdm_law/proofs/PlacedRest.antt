@@ -87,10 +87,11 @@ pub place_rest : (own : Own) (ms : Messages) (log : List Deed) (x : Placed) → 
 place_rest own ms log x h f none =
     elim (place_or own ms log x h f) [
       | inl waits ↦ absurd (none_first (progress own ms log).replies x.reply none
-        (subst (λ (rs : List Reply). Member x.reply rs) (queue_replies own ms log) (map-member (λ (y : Placed). y.reply) x (queue own ms log) waits)))
+          (subst (λ (rs : List Reply). Member x.reply rs) (queue_replies own ms log) (map-member (λ (y : Placed). y.reply) x (queue own ms log) waits)))
       | inr pushed ↦ pushed
     ]
 
+-- the first of the queue is the first of the replies
 first_reply : (q : List Placed) (x : Placed) → slice_get q 0 ≡ Some x → slice_get (replies_in q) 0 ≡ Some x.reply
 first_reply [] x h = cc
 first_reply (y ∷ q) x h = let e : y ≡ x = cc in ap (λ (z : Placed). Some z.reply) e
@@ -102,6 +103,7 @@ answered_pushed own ms (d ∷ before) x k (inl h) =
     inl (h.0, head_turn own ms before x.reply (ap (λ (rs : List Reply). slice_get rs 0) (sym (queue_replies own ms before)) ∙ first_reply (queue own ms before) x h.2), h.1)
 answered_pushed own ms (d ∷ before) x k (inr h) = inr (answered_pushed own ms before x k h)
 
+-- by what the life heard itself
 pub answered_turned : (own : Own) (log : List Deed) (x : Placed) (k : ℕ) → Answered own (heard_by own.limits.first log) x k log → TurnedAt own (Replies x.reply) k log
 answered_turned own log x k h = pushed_turned own (Replies x.reply) k log (answered_pushed own (heard_by own.limits.first log) log x k h)
 
@@ -112,10 +114,12 @@ pub record PlacedTurn (job : Job) (port : ℕ) (c : Connid) (to : Life) (item : 
   pub as' : TakenAs (life_of port c) to.connid item datagram
   pub dst_is : datagram.dst ≡ to.port
 
+-- the datagram of an older turn
 placed_later : (job : Job) (port : ℕ) (c : Connid) (to : Life) (item : Item) (k : ℕ) (e : Entry) (before : List Entry) → PlacedTurn job port c to item k before
     → PlacedTurn job port c to item k (e ∷ before)
 placed_later job port c to item k e before p = record { datagram = p.datagram; placed' = inr p.placed'; as' = p.as'; dst_is = p.dst_is }
 
+-- the datagram of the newest turn
 placed_now : (job : Job) (port : ℕ) (c : Connid) (to : Life) (item : Item) (t : Turn) (k : ℕ) (e : Entry) (before : List Entry) (from to' : Connid) (load : Load) (d : Datagram)
     → e.act ≡ Push d → open_life (deeds_at job port before) ≡ Some c → k ≡ length (of_life c (deeds_at job port before)) → e.port.0 ≡ port → d.body ≡ Between from to' load → d.src ≡ e.port
     → (is : IsPush (own_of job (life_of port c)) (of_life c (deeds_at job port before)) d from to' load)
@@ -141,6 +145,7 @@ placed_now job port c to item t k e before from to' load d act now at p body src
       dst_is = is.dst_is ∙ ap (λ (l : Life). l.port) dest;
     }
 
+-- each turn of a life went in a datagram that its port pushed at that place
 pub turned_placed : (job : Job) (port : ℕ) (c : Connid) (to : Life) (item : Item) (t : Turn) (k : ℕ) (log : List Entry) → Local job port log
     → TurnedAt (own_of job (life_of port c)) t k (of_life c (deeds_at job port log)) → turn_going (Some t) ≡ Some (Goes to item) → PlacedTurn job port c to item k log
 unfolding of_life deeds_at deeds

@@ -23,7 +23,7 @@ use Rattle.rdm_model.proofs.Turns.{Underway}
 use Rattle.rdm_model.proofs.Pushes.{pushed_of, underway}
 use Rattle.rdm_model.proofs.Served.{done_bytes}
 
-none_left : {A : Type 0} (x y : Option A) → or_else x y ≡ None → (x ≡ None) × (y ≡ None)
+pub none_left : {A : Type 0} (x y : Option A) → or_else x y ≡ None → (x ≡ None) × (y ≡ None)
 unfolding or_else
 none_left None y h = (refl, h)
 none_left (Some a) y h = cc
