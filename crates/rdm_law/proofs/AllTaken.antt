@@ -1,4 +1,4 @@
--- At a settled end a long message of one standing life to another was pushed whole.
+-- At a settled end all grants that one standing life owed another were taken.
 use Rattle.std.proofs.Common.{zero, suc, ◌+◌, ◌-◌, ◌<◌, ◌≤◌, cond, length, take, drop, arith}
 use Rattle.std.specs.Prelude.{min, nat_lt, slice_get}
 use Rattle.std.proofs.lemmas.Bool.{ltb-false}
@@ -165,87 +165,14 @@ grant_handled job history i j x k send recv size connid m a to is =
     ]
 
 -- all grants that one standing life owed the other were taken
-all_taken : (job : Job) (history : List Entry) (i j : Life) → Meet job history j i → is_forgotten (life_deeds job history i) j ≡ false
-    → slice_get (progress (own_of job i) (account job history i) (life_deeds job history i)).replies 0 ≡ None → AllTaken job history i j
-all_taken job history i j m kept none =
+pub all_taken : (job : Job) (history : List Entry) (i j : Life) → Meet job history i j → Meet job history j i → AllTaken job history i j
+all_taken job history i j m n =
+    let own = own_of job i in
+    let ms = account job history i in
+    let log = life_deeds job history i in
+    let rest = at_rest own ms log (settled_still job history i m.played m.settled m.standing.open_i m.standing.clock_i) in
+    let kept = stands job history j i n in
     record {
-      pushed = λ x h to. place_rest (own_of job i) (account job history i) (life_deeds job history i) x h
-          (subst (λ (l : Life). is_forgotten (life_deeds job history i) l ≡ false) (sym to) kept) none;
-      handled = λ x k send recv size connid a to is. grant_handled job history i j x k send recv size connid m a to is;
+      pushed = λ x h to. place_rest own ms log x h (subst (λ (l : Life). is_forgotten log l ≡ false) (sym to) kept) rest.no_reply;
+      handled = λ x k send recv size connid a to is. grant_handled job history i j x k send recv size connid n a to is;
     }
-
--- a long send with a grant has nothing next only where all that is allowed was pushed
-no_data : (own : Own) (s : Sent) (allowed done : ℕ) (gs : List Grant) → data_packet own s allowed done gs ≡ None → (gs ≡ []) ⊎ (allowed ≤ done)
-unfolding data_packet
-no_data own s allowed done [] h = inl refl
-no_data own s allowed done (g ∷ gs) h =
-    (elim (nat_lt done allowed) as (λ b. nat_lt done allowed ≡ b
-    → cond b (Some (CtsData (op_id g.recv) done own.life.connid (take (min (allowed - done) (data_room own.limits)) (drop done s.message.bytes)))) None ≡ None
-    → (◌≡◌ {A = List Grant} (g ∷ gs) []) ⊎ (allowed ≤ done)) [
-      | true ↦ λ t k. cc
-      | false ↦ λ t k. inr (ltb-false done allowed t)
-    ]) refl h
-
--- so has a long send that is granted
-no_granted : (own : Own) (gs : List Grant) (s : Sent) (pushed : List Packet) (kind : Kind) → kind ≡ LongCts → granted_packet own gs s pushed kind ≡ None
-    → (gs ≡ []) ⊎ (piece_bytes (pieces_in (openings own.limits s.message s.kind)) + grant_bytes gs ≤ piece_bytes (pieces_in pushed))
-unfolding granted_packet
-no_granted own gs s pushed LongCts e h = no_data own s (piece_bytes (pieces_in (openings own.limits s.message s.kind)) + grant_bytes gs) (piece_bytes (pieces_in pushed)) gs h
-no_granted own gs s pushed Eager e h = cc
-no_granted own gs s pushed Medium e h = cc
-no_granted own gs s pushed LongRead e h = cc
-no_granted own gs s pushed (Runt runt) e h = cc
-
--- a long send that has nothing next pushed all that is allowed
-allowed_done : (own : Own) (log : List Deed) (s : Sent) (pushed : List Packet) → Underway own s pushed → s.kind ≡ LongCts → next_packet own log s pushed ≡ None
-    → allowed_of own log s ≤ piece_bytes (pieces_in pushed)
-unfolding next_packet grant_bytes
-allowed_done own log s pushed u k h =
-    let gs = grants log s.to s.number in
-    let n = none_left (slice_get (openings own.limits s.message s.kind) (length pushed)) (granted_packet own gs s pushed s.kind) h in
-    elim (no_granted own gs s pushed s.kind k n.1) [
-      | inr all ↦ all
-      | inl none ↦
-          let o = openings_bytes own.limits s.message s.kind in
-          let d = opened_done own log s pushed u h in
-          let z : grant_bytes gs ≡ 0 = ap grant_bytes none in
-          omega arith
-    ]
-
--- a long message is not read
-unread : (kind : Kind) → kind ≡ LongCts → is_read kind ≡ false
-unfolding is_read
-unread kind e = rw e refl
-
--- where all that is allowed of a long message was pushed, the whole message was
-allowed_whole : (job : Job) (history : List Entry) (i j : Life) (p : Pair) (s : Sent) → Meet job history i j → Meet job history j i → Granting job history i j p s
-    → allowed_of (own_of job j) (life_deeds job history j) s ≤ done_bytes (own_of job j) (account job history j) (life_deeds job history j) s.number
-    → length s.message.bytes ≤ done_bytes (own_of job j) (account job history j) (life_deeds job history j) s.number
-allowed_whole job history i j p s m n g le =
-    let rest = at_rest (own_of job i) (account job history i) (life_deeds job history i) (settled_still job history i m.played m.settled m.standing.open_i m.standing.clock_i) in
-    let taken = all_taken job history i j n (stands job history j i n) rest.no_reply in
-    let reached = reach_allowed job history i j p s m.played g taken in
-    let h = pair_heard (own_of job i).limits.first (account job history i).head (life_deeds job history i) p g.member in
-    let P : Life → ℕ → Type 0 = λ l o. heard_head (life_deeds job history i) l o ≡ Some h.0 in
-    let heard : heard_head (life_deeds job history i) j s.message.no.0 ≡ Some h.0 = subst (λ o. P j o) (sym g.number_is) (subst (λ l. P l p.message.no.0) g.life_is h.1) in
-    let covered = pushed_covers job history i j s (reach (own_of job i).limits (account job history i).head (life_deeds job history i) p) m g.sent g.to_is
-    (heard_from (life_deeds job history i) j s.message.no.0 h.0 heard) (omega arith) in
-    let C : ℕ → Type 0 = λ o. covers (carried_pieces (own_of job i).limits.first (account job history i).head (life_deeds job history i) j o)
-    (reach (own_of job i).limits (account job history i).head (life_deeds job history i) p) ≡ true in
-    let all = granted_all job history i j p s m.played g (subst C g.number_is covered) in
-    omega arith
-
--- at a settled end a long message between standing lives that was matched was pushed whole
-pub long_done : (job : Job) (history : List Entry) (i j : Life) (p : Pair) (s : Sent) → Meet job history i j → Meet job history j i → Granting job history i j p s
-    → length s.message.bytes ≤ done_bytes (own_of job j) (account job history j) (life_deeds job history j) s.number
-long_done job history i j p s m n g =
-    let own = own_of job j in
-    let ms = account job history j in
-    let log = life_deeds job history j in
-    let rest = at_rest own ms log (settled_still job history j m.played m.settled m.standing.open_j m.standing.clock_j) in
-    let kept = subst (λ (l : Life). is_forgotten log l ≡ false) (sym g.to_is) (stands job history i j m) in
-    let u = underway own ms log s g.sent in
-    elim (rest.each s g.sent) [
-      | inl over ↦ over_whole own log s (pushed_of own ms log s.number) u kept (unread s.kind g.long) over
-      | inr none ↦ allowed_whole job history i j p s m n g (allowed_done own log s (pushed_of own ms log s.number) u g.long none)
-    ]
