@@ -25,6 +25,7 @@ use Rattle.rdm_law.proofs.Lives.{life_scene, LifeStep, LifeLocal}
 use Rattle.rdm_law.proofs.RegionsFit.{sizes, RangeFits, AllRangesFit}
 use Rattle.rdm_law.proofs.RegionSizes.{region_size}
 
+-- a refusal is no instruction that did
 refused_did : (why : Why) (what : DidWhat) → Refused why ≡ DidAnswer what → ⊥
 refused_did why what h = cc
 
@@ -55,10 +56,12 @@ recv_answered s req what h =
     let b = case_past _ Range _ _ what a.1 in
     b.0
 
+-- what is not out of range ends within its region
 in_range : (s : Scene) (region at len : ℕ) → is_out_of_range s region at len ≡ false → at + len ≤ length (get_or (regions_of s) region [])
 unfolding is_out_of_range
 in_range s region at len h = ltb-false _ _ h
 
+-- so it ends within the size that the region was registered with
 in_sizes : (ports : ℕ) (own : Own) (port_log log : List Deed) (region at len : ℕ) → AllRangesFit log
     → is_out_of_range (life_scene ports own port_log log) region at len ≡ false → at + len ≤ get_or (sizes log) region 0
 unfolding regions_of
@@ -67,6 +70,7 @@ in_sizes ports own port_log log region at len fit h =
     let b = region_size own.limits.first (heard_by own.limits.first log) log region fit in
     omega arith
 
+-- a deed of a life has its range in its region
 range_step : (own : Own) (before : List Deed) (d : Deed) → AllRangesFit before → LifeStep own before d → RangeFits before d
 unfolding answer_of
 range_step own before (Did (Send req)) fit step =
@@ -90,12 +94,14 @@ unfoldable pub sent_lives : List Deed → List Life
 sent_lives [] = []
 sent_lives (d ∷ before) = sent_lives before ++ sent_life before d
 
+-- a send goes to the current life
 to_current : (own : Own) (before : List Deed) (sents : List Sent) (req : SendReq) (o : Option Life) (bytes : List ℕ)
     → map (λ (s : Sent). s.to) (sent_to_current own before sents req o bytes) ≡ option_to_list o
 unfolding sent_to_current new_sent
 to_current own before sents req None bytes = refl
 to_current own before sents req (Some to) bytes = refl
 
+-- the sends of a deed go to the life of the deed
 life_of_sent : (own : Own) (ms : Messages) (before : List Deed) (sents : List Sent) (d : Deed) → map (λ (s : Sent). s.to) (sent_by own ms before sents d) ≡ sent_life before d
 unfolding sent_by sent_life
 life_of_sent own ms before sents (Did (Send req)) =
@@ -115,6 +121,7 @@ lives_of_sends own ms (d ∷ before) =
 unfoldable pub messages_to : List Life → Life → ℕ
 messages_to lives to = length (filter (λ l. same_life l to) lives)
 
+-- sends to a life are counted by the lives that sends go to
 sends_to_lives : (sents : List Sent) (to : Life) → length (sends_to sents to) ≡ messages_to (map (λ (s : Sent). s.to) sents) to
 unfolding sends_to messages_to
 sends_to_lives [] to = refl
@@ -134,10 +141,12 @@ abbrev pub NumberFits : (first : ℕ) → List Deed → Deed → Type 0
 NumberFits first before (Did (Send req)) = (to : Life) → current before req.to.0 ≡ Some to → first + messages_to (sent_lives before) to < 4294967296
 NumberFits first before _ = Unit {0}
 
+-- so of all deeds
 abbrev pub AllNumbersFit : (first : ℕ) → List Deed → Type 0
 AllNumbersFit first [] = Unit {0}
 AllNumbersFit first (d ∷ before) = AllNumbersFit first before × NumberFits first before d
 
+-- a message to a life that has a number left has one
 number_left : (s : Scene) (o : Option Life) (to : Life) → o ≡ Some to → has_no_number s o ≡ false → s.own.limits.first + length (sends_to (sends s.own s.ms s.log) to) < 4294967296
 unfolding has_no_number
 number_left s None to is h = cc
@@ -145,6 +154,7 @@ number_left s (Some l) to is h =
     let same : l ≡ to = cc in
     subst (λ (x : Life). s.own.limits.first + length (sends_to (sends s.own s.ms s.log) x) < 4294967296) same (leb-false _ _ h)
 
+-- a message of a deed has a number
 number_step : (own : Own) (before : List Deed) (d : Deed) → LifeStep own before d → NumberFits own.limits.first before d
 unfolding answer_of
 number_step own before (Did (Send req)) step = λ to is.

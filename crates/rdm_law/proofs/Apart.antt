@@ -92,6 +92,7 @@ pub record Removed {A : Type 0} (xs : List A) (n : ℕ) (x : A) : Type 0 where
   pub was : xs ≡ front ++ x ∷ back
   pub is : remove xs n ≡ front ++ back
 
+-- an element at a place stands between two parts
 pub removed : {A : Type 0} (xs : List A) (n : ℕ) (x : A) → slice_get xs n ≡ Some x → Removed xs n x
 removed [] n x h = cc
 removed (y ∷ xs) zero x h = let e : y ≡ x = cc in record { front = []; back = xs; was = ap (λ z. z ∷ xs) e; is = refl }

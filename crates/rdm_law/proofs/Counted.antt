@@ -40,11 +40,13 @@ unfoldable pub sum_below : (ℕ → ℕ) → ℕ → ℕ
 sum_below f zero = 0
 sum_below f (suc n) = sum_below f n + f n
 
+-- values that are the same have the same sum
 pub sum_same : (f g : ℕ → ℕ) (n : ℕ) → ((p : ℕ) → p < n → g p ≡ f p) → sum_below g n ≡ sum_below f n
 unfolding sum_below
 sum_same f g zero h = refl
 sum_same f g (suc n) h = let a = sum_same f g n (λ p l. h p (omega arith)) in let b = h n (omega arith) in omega arith
 
+-- what is less than the next number and another is less
 less_by : (n port : ℕ) → port < suc n → (n ≡ port → ⊥) → port < n
 less_by n port h differ =
     elim (cases_lt port n) [
@@ -74,9 +76,11 @@ pub record Moved (w v : World) (port k : ℕ) : Type 0 where
   pub here : measure v port ≡ measure w port + k
   pub there : (p : ℕ) → (p ≡ port → ⊥) → measure v p ≡ measure w p
 
+-- no change
 moved_none : (w : World) (port : ℕ) → Moved w w port 0
 moved_none w port = record { changes = omega arith; here = omega arith; there = λ p other. refl }
 
+-- one after the other
 moved_then : (w v u : World) (port a b : ℕ) → Moved w v port a → Moved v u port b → Moved w u port (a + b)
 moved_then w v u port a b x y =
     let c = x.changes in
@@ -89,22 +93,27 @@ moved_then w v u port a b x y =
 abbrev pub SomeMoved : World → World → ℕ → Type 0
 SomeMoved w v port = (k : ℕ) × Moved w v port k
 
+-- one more entry that handles nothing
 one_longer : (e : Entry) (log : List Entry) (stash : ℕ) → is_handling e.act ≡ 0 → length (e ∷ log) + count is_handling (e ∷ log) + stash ≡ length log + count is_handling log + stash + 1
 unfolding count
 one_longer e log stash none = omega arith
 
+-- an instruction handles nothing
 next_handles_none : (index : ℕ) (op : OpName) (answer : Answer) → is_handling (Next index op answer) ≡ 0
 unfolding is_handling
 next_handles_none index op answer = refl
 
+-- a push handles nothing
 push_handles_none : (d : Datagram) → is_handling (Push d) ≡ 0
 unfolding is_handling
 push_handles_none d = refl
 
+-- a poll handles nothing
 poll_handles_none : (c : Completion) → is_handling (Poll c) ≡ 0
 unfolding is_handling
 poll_handles_none c = refl
 
+-- a handling handles one
 handle_handles_one : (d : Datagram) (answer : Handled) → is_handling (Handle d answer) ≡ 1
 unfolding is_handling
 handle_handles_one d answer = refl
@@ -123,6 +132,7 @@ handled_here w port place e d r logs stash is less one =
     let h = length-append r.front (d ∷ r.back) in
     omega arith
 
+-- an entry
 entry_moved : (job : Job) (w : World) (port : ℕ) (act : Act) → is_handling act ≡ 0 → Moved w (with_entry job w port act) port 1
 unfolding with_entry measure count
 entry_moved job w port act none =
@@ -135,6 +145,7 @@ entry_moved job w port act none =
       there = λ p other. ap (λ (l : List Entry). length l + count is_handling l + length (w.stashes p)) (put_at_there port (e ∷ w.logs port) w.logs p other);
     }
 
+-- an instruction
 next_moved : (job : Job) (w : World) (port : ℕ) (o : Option Instr) → SomeMoved w (step_next job w port o) port
 unfolding step_next next_act
 next_moved job w port None = (0, moved_none w port)
@@ -142,12 +153,14 @@ next_moved job w port (Some instr) =
     chosen (λ (v : World). SomeMoved w v port) (is_entry (answer_of (scene_in job w port) instr) && not (is_worn job (w.logs port))) _ w
     (λ yes. (1, entry_moved job w port (next_act (w.logs port) instr (answer_of (scene_in job w port) instr)) (next_handles_none (count is_next (w.logs port)) (op_of instr) (answer_of (scene_in job w port) instr)))) (λ no. (0, moved_none w port))
 
+-- a poll
 poll_moved : (job : Job) (w : World) (port : ℕ) (o : Option Completion) → SomeMoved w (with_poll job w port o) port
 unfolding with_poll
 poll_moved job w port None = (0, moved_none w port)
 poll_moved job w port (Some c) =
     chosen (λ (v : World). SomeMoved w v port) (is_worn job (w.logs port)) w _ (λ yes. (0, moved_none w port)) (λ no. (1, entry_moved job w port (Poll c) (poll_handles_none c)))
 
+-- queues are not counted
 queues_moved : (w v u : World) (port k : ℕ) → Moved w v port k → u.logs ≡ v.logs → u.stashes ≡ v.stashes → u.changes ≡ v.changes → Moved w u port k
 unfolding measure
 queues_moved w v u port k m l s c =
@@ -155,6 +168,7 @@ queues_moved w v u port k m l s c =
     let same : (p : ℕ) → M u.logs u.stashes p ≡ M v.logs v.stashes p = λ p. ap (λ (x : ℕ → List Entry). M x u.stashes p) l ∙ ap (λ (x : ℕ → List Datagram). M v.logs x p) s in
     record { changes = c ∙ m.changes; here = same port ∙ m.here; there = λ p other. same p ∙ m.there p other }
 
+-- a push
 push_moved : (job : Job) (w : World) (port : ℕ) (o : Option Going) → SomeMoved w (step_push job w port o) port
 unfolding step_push with_push
 push_moved job w port None = (0, moved_none w port)
@@ -164,6 +178,7 @@ push_moved job w port (Some g) =
     (λ yes. (0, moved_none w port))
     (λ no. (1, queues_moved w (with_entry job w port (Push d)) _ port 1 (entry_moved job w port (Push d) (push_handles_none d)) refl refl refl))
 
+-- a fetch
 fetch_moved : (job : Job) (w : World) (port : ℕ) → Moved w (after_fetch job w port) port (min job.inbox (length (w.queues port)))
 unfolding after_fetch measure
 fetch_moved job w port =
@@ -178,6 +193,7 @@ fetch_moved job w port =
       there = λ p other. ap (λ (ds : List Datagram). length (w.logs p) + count is_handling (w.logs p) + length ds) (put_at_there port stash w.stashes p other);
     }
 
+-- a handling
 handle_moved : (job : Job) (w : World) (port place : ℕ) (o : Option Datagram) → slice_get (w.stashes port) place ≡ o → SomeMoved w (with_handle job w port place o) port
 unfolding with_handle with_entry measure
 handle_moved job w port place None is = (0, moved_none w port)
@@ -198,6 +214,7 @@ handle_moved job w port place (Some d) is =
           ∙ ap (λ (ds : List Datagram). length (w.logs p) + count is_handling (w.logs p) + length ds) (put_at_there port (remove (w.stashes port) place) w.stashes p other);
       }))
 
+-- each choice
 choice_moved : (job : Job) (w : World) (c : Choice) → SomeMoved w (after_choice job w c) (choice_rank c)
 unfolding after_choice choice_rank step_handle after_pick after_handle_at
 choice_moved job w (Choice.Next port) = next_moved job w port _
@@ -213,6 +230,7 @@ choice_moved job w (Choice.Poll port) = poll_moved job w port _
 abbrev pub IsCounted : Job → World → Type 0
 IsCounted job w = w.changes ≡ sum_below (measure w) (port_count job)
 
+-- each choice of a rank keeps it
 pub counted_keeps : (job : Job) → Keeps job (IsCounted job)
 counted_keeps job w c rank h =
     let v = after_choice job w c in
@@ -221,10 +239,12 @@ counted_keeps job w c rank h =
     let changes = m.1.changes in
     omega arith
 
+-- before any step there is nothing
 measure_new : (n : ℕ) → sum_below (measure new_world) n ≡ 0
 unfolding sum_below measure count
 measure_new zero = refl
 measure_new (suc n) = let a = measure_new n in omega arith
 
+-- before any step
 pub counted_new : (job : Job) → IsCounted job new_world
 counted_new job = sym (measure_new (port_count job))

@@ -20,24 +20,28 @@ IsQuiet (Push d) = ⊥
 IsQuiet (Handle d answer) = ⊥
 IsQuiet (Poll c) = Unit {0}
 
+-- such an act handles no datagram
 quiet_other : (act : Act) (d : Datagram) → IsQuiet act → IsOther d act
 quiet_other (Next index op answer) d q = tt
 quiet_other (Push p) d q = tt
 quiet_other (Handle p answer) d q = elim q [ ]
 quiet_other (Poll c) d q = tt
 
+-- such an act numbers no push
 quiet_numbered : (port : ℕ) (before : List Entry) (act : Act) → IsQuiet act → IsNumbered port before act
 quiet_numbered port before (Next index op answer) q = tt
 quiet_numbered port before (Push p) q = elim q [ ]
 quiet_numbered port before (Handle p answer) q = tt
 quiet_numbered port before (Poll c) q = tt
 
+-- such an act handles nothing that had to wait
 quiet_waited : (logs : ℕ → List Entry) (port : ℕ) (before : List Entry) (act : Act) → IsQuiet act → HadWaited logs port before act
 quiet_waited logs port before (Next index op answer) q = tt
 quiet_waited logs port before (Push p) q = tt
 quiet_waited logs port before (Handle p answer) q = elim q [ ]
 quiet_waited logs port before (Poll c) q = tt
 
+-- such an act is no push
 quiet_no_push : (act : Act) (d : Datagram) → IsQuiet act → act ≡ Push d → ⊥
 quiet_no_push act d q is = elim (subst IsQuiet is q) [ ]
 
@@ -84,6 +88,7 @@ next_is_new logs d n is q h s e =
     let f : q.number.0 ≡ d.number.0 = ap (λ x. x.0) e in
     absurd (omega arith)
 
+-- a new datagram is none that had waited
 new_other : (logs : ℕ → List Entry) (p : ℕ) (d : Datagram) (before : List Entry) (act : Act) → IsNew logs d → HadWaited logs p before act → IsOther d act
 new_other logs p d before (Handle q answer) new k = new q k.1
 new_other logs p d before (Next index op answer) new k = tt
@@ -109,11 +114,13 @@ one_more_cases waiting d q p =
     ])
     (λ no m. inr m)
 
+-- what waited waits with one more
 one_more_was : (waiting : ℕ → List Datagram) (d q : Datagram) (p : ℕ) → Member q (waiting p) → Member q (one_more waiting d p)
 one_more_was waiting d q p m =
     put_at_case (λ (ds : List Datagram). Member q ds) d.dst.0 (waiting d.dst.0 ++ d ∷ []) waiting p
     (λ is. member-append_left q (waiting d.dst.0) (d ∷ []) (subst (λ (x : ℕ). Member q (waiting x)) is m)) (λ no. m)
 
+-- the one more waits
 one_more_has : (waiting : ℕ → List Datagram) (d q : Datagram) → d ≡ q → Member q (one_more waiting d q.dst.0)
 one_more_has waiting d q is =
     let P : Datagram → Type 0 = λ x. Member x (one_more waiting d x.dst.0) in
@@ -163,6 +170,7 @@ push_delivers logs waiting port e d is src number i =
 abbrev pub one_less : (ℕ → List Datagram) → ℕ → List Datagram → List Datagram → ℕ → List Datagram
 one_less waiting port front back = put_at port (front ++ back) waiting
 
+-- what waits with one less waited, and is one of the others
 pub one_less_was : (waiting : ℕ → List Datagram) (port : ℕ) (front : List Datagram) (d : Datagram) (back : List Datagram) (q : Datagram) (p : ℕ)
     → waiting port ≡ front ++ d ∷ back → Member q (one_less waiting port front back p) → Member q (waiting p) × (p ≡ port → Member q (front ++ back))
 one_less_was waiting port front d back q p was =
@@ -173,6 +181,7 @@ one_less_was waiting port front d back q p was =
     ))
     (λ no m. (m, λ here. absurd (no here)))
 
+-- what waited and is not the one waits on
 one_less_keeps : (waiting : ℕ → List Datagram) (port : ℕ) (front : List Datagram) (d : Datagram) (back : List Datagram) (q : Datagram) (p : ℕ)
     → waiting port ≡ front ++ d ∷ back → Member q (waiting p) → (p ≡ port → d ≡ q → ⊥) → Member q (one_less waiting port front back p)
 one_less_keeps waiting port front d back q p was m other =

@@ -99,6 +99,7 @@ pushed_before logs port e d p =
     put_at_case (λ (log : List Entry). PushedIn d log → ((p ≡ port) × (e.act ≡ Push d)) ⊎ PushedIn d (logs p)) port (e ∷ logs port) logs p
     (λ is h. elim h [ inl now ↦ inl (is, now) | inr k ↦ inr (subst (λ (x : ℕ). PushedIn d (logs x)) (sym is) k) ]) (λ other h. inr h)
 
+-- what had waited still had, by longer logs
 had_waited_still : (logs : ℕ → List Entry) (port : ℕ) (e : Entry) (p : ℕ) (before : List Entry) (act : Act) → HadWaited logs p before act
     → HadWaited (more_logs logs port e) p before act
 had_waited_still logs port e p before (Handle d answer) h = (h.0, pushed_still logs port e d d.src.0 h.1, h.2)
@@ -106,6 +107,7 @@ had_waited_still logs port e p before (Next index op answer) h = tt
 had_waited_still logs port e p before (Push d) h = tt
 had_waited_still logs port e p before (Poll c) h = tt
 
+-- so of a whole log
 all_had_waited_still : (logs : ℕ → List Entry) (port : ℕ) (e : Entry) (p : ℕ) (log : List Entry) → AllHadWaited logs p log → AllHadWaited (more_logs logs port e) p log
 all_had_waited_still logs port e p [] h = tt
 all_had_waited_still logs port e p (x ∷ before) h =
@@ -118,6 +120,7 @@ more_numbered logs port e n new p =
     put_at_case (λ (log : List Entry). AreNumbered p log) port (e ∷ logs port) logs p
     (λ is. subst (λ (x : ℕ). AreNumbered x (e ∷ logs port)) (sym is) (n port, new)) (λ other. n p)
 
+-- each log's handled datagrams had waited, with one more entry
 pub more_handled : (logs : ℕ → List Entry) (port : ℕ) (e : Entry) → ((p : ℕ) → AllHadWaited logs p (logs p)) → HadWaited logs port (logs port) e.act
     → (p : ℕ) → AllHadWaited (more_logs logs port e) p (more_logs logs port e p)
 more_handled logs port e n new p =

@@ -38,6 +38,7 @@ pub record RankFits (ports : ℕ) (r : Rank) : Type 0 where
   pub few : length r.ops ≤ law_ops
   pub ops : list_all (instr_fits ports) r.ops ≡ true
 
+-- a fair rank
 a_rank : (ports : ℕ) (r : Rank) → rank_fits ports law_ops r ≡ true → RankFits ports r
 unfolding rank_fits features_fit
 a_rank ports r h =
@@ -49,9 +50,11 @@ a_rank ports r h =
     let f : r.features < 32 = ltb-true _ _ e.0 in
     record { features = omega arith; few = leb-true _ _ c.1; ops = b.1 }
 
+-- no rank
 no_rank_fits : (ports : ℕ) → RankFits ports no_rank
 no_rank_fits ports = record { features = omega arith; few = omega arith; ops = refl }
 
+-- the rank of a number, or none
 some_rank : (ports : ℕ) (rs : List Rank) (n : ℕ) → list_all (rank_fits ports law_ops) rs ≡ true → RankFits ports (get_or rs n no_rank)
 some_rank ports [] n h = no_rank_fits ports
 some_rank ports (r ∷ rs) zero h = a_rank ports r (and_parts (rank_fits ports law_ops r) (list_all (rank_fits ports law_ops) rs) h).0
@@ -63,6 +66,7 @@ pub record JobFits (job : Job) : Type 0 where
   pub ports : port_count job ≤ 16
   pub ranks : (port : ℕ) → RankFits (port_count job) (rank_of job port)
 
+-- a fair job has it
 pub fair_job : (job : Job) → IsTrue (is_fair law_ops job) → JobFits job
 unfolding is_fair is_within rank_of
 fair_job job h =
@@ -81,17 +85,20 @@ unfolding deed_by_next
 did_by_next ports ops index (Some instr) (DidAnswer what) h is = all_at (instr_fits ports) ops index instr h is
 did_by_next ports ops index _ _ h is = tt
 
+-- a push is no instruction
 did_by_push : (ports : ℕ) (body : Body) → DidFits ports (deed_by_push body)
 unfolding deed_by_push
 did_by_push ports (Note note) = tt
 did_by_push ports (Between from to load) = tt
 
+-- a handling is no instruction
 did_by_handle : (ports : ℕ) (src : PortNo) (body : Body) (answer : Handled) → DidFits ports (deed_by_handle src body answer)
 unfolding deed_by_handle
 did_by_handle ports src (Note note) (TookAnswer entered) = tt
 did_by_handle ports src (Between from to load) (TookAnswer entered) = tt
 did_by_handle ports src _ _ = tt
 
+-- what an act did is of the program
 did_fits : (ports : ℕ) (ops : List Instr) (act : Act) → list_all (instr_fits ports) ops ≡ true → DidFits ports (deed_of ops act)
 unfolding deed_of
 did_fits ports ops (Next index op answer) h = did_by_next ports ops index (slice_get ops index) answer h refl
@@ -105,22 +112,26 @@ unfolding deeds
 all_did_fit ports ops [] h = tt
 all_did_fit ports ops (e ∷ before) h = (all_did_fit ports ops before h, did_fits ports ops e.act h)
 
+-- an instruction takes nothing
 taken_by_next : (o : Option Instr) (answer : Answer) → TakenFits (deed_by_next o answer)
 unfolding deed_by_next
 taken_by_next (Some instr) (DidAnswer what) = tt
 taken_by_next _ _ = tt
 
+-- a push takes nothing
 taken_by_push : (body : Body) → TakenFits (deed_by_push body)
 unfolding deed_by_push
 taken_by_push (Note note) = tt
 taken_by_push (Between from to load) = tt
 
+-- a handling takes what fits
 taken_by_handle : (src : PortNo) (body : Body) (answer : Handled) → BodyFits body → TakenFits (deed_by_handle src body answer)
 unfolding deed_by_handle
 taken_by_handle src (Between from to load) (TookAnswer entered) h = item_fits load h
 taken_by_handle src (Note note) (TookAnswer entered) h = tt
 taken_by_handle src _ _ h = tt
 
+-- what an act took fits
 taken_fits : (ops : List Instr) (act : Act) → HandledFits act → TakenFits (deed_of ops act)
 unfolding deed_of
 taken_fits ops (Next index op answer) h = taken_by_next (slice_get ops index) answer
@@ -140,11 +151,13 @@ unfolding of_life
 life_did ports c [] h = tt
 life_did ports c (d ∷ before) h = at_of_life (AllDidFit ports) c d before (λ s. (life_did ports c before h.0, h.1)) (λ s. life_did ports c before h.0)
 
+-- what a life took is some of what its port took
 pub life_taken : (c : Connid) (log : List Deed) → AllTakenFit log → AllTakenFit (of_life c log)
 unfolding of_life
 life_taken c [] h = tt
 life_taken c (d ∷ before) h = at_of_life AllTakenFit c d before (λ s. (life_taken c before h.0, h.1)) (λ s. life_taken c before h.0)
 
+-- a life did no more than its port
 pub life_count : (c : Connid) (log : List Deed) → did_count (of_life c log) ≤ did_count log
 unfolding of_life deed_count
 life_count c [] = omega arith
@@ -152,22 +165,26 @@ life_count c (d ∷ before) =
     let was = life_count c before in
     at_of_life (λ (log : List Deed). did_count log ≤ did_count before + is_did d) c d before (λ s. omega arith) (λ s. omega arith)
 
+-- an instruction counts one at most
 did_next : (o : Option Instr) (answer : Answer) → is_did (deed_by_next o answer) ≤ 1
 unfolding deed_by_next is_did
 did_next (Some instr) (DidAnswer what) = omega arith
 did_next _ _ = omega arith
 
+-- a push counts none
 did_push : (body : Body) → is_did (deed_by_push body) ≤ 0
 unfolding deed_by_push is_did
 did_push (Note note) = omega arith
 did_push (Between from to load) = omega arith
 
+-- a handling counts none
 did_handle : (src : PortNo) (body : Body) (answer : Handled) → is_did (deed_by_handle src body answer) ≤ 0
 unfolding deed_by_handle is_did
 did_handle src (Note note) (TookAnswer entered) = omega arith
 did_handle src (Between from to load) (TookAnswer entered) = omega arith
 did_handle src _ _ = omega arith
 
+-- an act counts no more than an instruction
 did_one : (ops : List Instr) (act : Act) → is_did (deed_of ops act) ≤ is_next act
 unfolding deed_of is_next is_did
 did_one ops (Next index op answer) = did_next (slice_get ops index) answer
@@ -175,6 +192,7 @@ did_one ops (Push d) = did_push d.body
 did_one ops (Handle d answer) = did_handle d.src d.body answer
 did_one ops (Poll c) = omega arith
 
+-- no more instructions did than were done
 pub did_instructions : (ops : List Instr) (log : List Entry) → did_count (deeds ops log) ≤ count is_next log
 unfolding deeds deed_count count
 did_instructions ops [] = omega arith
@@ -183,6 +201,7 @@ did_instructions ops (e ∷ before) =
     let b = did_one ops e.act in
     omega arith
 
+-- an act leaves the count within the program
 next_act_within : (job : Job) (port : ℕ) (s : Scene) (e : Entry) (before : List Entry) (act : Act) → e.port.0 ≡ port → Does job class_of s before e act
     → count is_next before ≤ length (rank_of job port).ops → count is_next before + is_next act ≤ length (rank_of job port).ops
 unfolding is_next

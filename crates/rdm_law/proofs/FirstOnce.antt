@@ -72,6 +72,7 @@ rtm_by_turn own k log (Replies r) to item number tag opt form h g is =
     let same : r.item ≡ Spelled (Rtm number tag opt form) = cc in
     absurd (owed_rtm own (heard_by own.limits.first log) log r number tag opt form (turned_owed own r k log h) same)
 
+-- a pushed packet that opens a message had the turn
 pushed_rtm : (job : Job) (port : ℕ) (from : Connid) (to : Life) (load : Load) (d : Datagram) (log : List Entry) (number : MsgNo) (tag : Option ℕ) (opt : Opt) (form : Form)
     → (p : PushedTurn job port from to load d log) → item_of load ≡ Spelled (Rtm number tag opt form) → RtmTurn (own_of job (life_of port from)) p.place (of_life from (deeds_at job port log))
 pushed_rtm job port from to load d log number tag opt form p is =
@@ -144,6 +145,7 @@ pub record HasMessage (from : Life) (d : Datagram) : Type 0 where
   pub form : Form
   pub item_is : item_of load ≡ Spelled (Rtm number tag opt form)
 
+-- what was pushed by a source was pushed by its port
 pushed_there : (logs : ℕ → List Entry) (d : Datagram) (l : Life) → d.src ≡ l.port → PushedIn d (logs d.src.0) → PushedIn d (logs l.port.0)
 pushed_there logs d l is h = subst (λ (x : ℕ). PushedIn d (logs x)) (ap (λ (x : PortNo). x.0) is) h
 
@@ -160,6 +162,7 @@ message_once job i j w d q fair plain p hd hq md mq =
     let same : a.1.place ≡ b.1.place = life_opens_once job i j w a.1.place b.1.place fair plain p x y in
     placed_once job i.port.0 i.connid d q b.1.place log (subst (λ (k : ℕ). PlacedAt job i.port.0 i.connid d k log) same a.1.placed) b.1.placed
 
+-- where nothing was heard
 heard_none : (o : Option Head) → ((h : Head) → o ≡ Some h → ⊥) → is_some o ≡ false
 heard_none None f = refl
 heard_none (Some h) f = absurd (f h refl)

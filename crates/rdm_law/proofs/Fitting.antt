@@ -57,6 +57,7 @@ abbrev pub AllHandledFit : List Entry → Type 0
 AllHandledFit [] = Unit {0}
 AllHandledFit (e ∷ before) = AllHandledFit before × HandledFits e.act
 
+-- what bytes are read as fits
 packet_item_fits : (bytes : List ℕ) (o : Option Packet) → packet_in bytes ≡ o → ItemFits (packet_item o)
 unfolding packet_item
 packet_item_fits bytes None is = tt

@@ -36,16 +36,20 @@ use Rattle.rdm_law.proofs.TurnsFit.{turn_fits}
 use Rattle.rdm_law.proofs.Sound.{GoesWell}
 use Rattle.rdm_law.proofs.FairJobs.{JobFits, fair_job, all_did_fit, all_taken_fit, life_did, life_taken, life_count, did_instructions, next_within}
 
+-- none is not some
 none_some : (c : Connid) → None ≡ Some c → ⊥
 none_some c h = cc
 
+-- a poll opens and closes nothing
 stays_polled : (o : Option Connid) → open_after o Polled ≡ o
 unfolding open_after
 stays_polled o = refl
 
+-- none is nothing that goes
 goes_none : (to : Life) (item : Item) → None ≡ Some (Goes to item) → ⊥
 goes_none to item h = cc
 
+-- the identifier that is open after a deed is in its range
 opened_by_next : (connid : Connid) (ports : ℕ) (before : Option Connid) (d : Deed) → ((c : Connid) → before ≡ Some c → c.0 < 4294967296) → DidFits ports d → open_after before d ≡ Some connid
     → connid.0 < 4294967296
 unfolding open_after instr_fits
@@ -61,21 +65,25 @@ unfolding open_life
 open_fits ports [] c h is = cc
 open_fits ports (d ∷ before) c h is = opened_by_next c ports (open_life before) d (λ x e. open_fits ports before x h.0 e) h.1 is
 
+-- no instruction opens or closes where there is none
 none_next : (index : ℕ) (o : Option Connid) (answer : Answer) → open_after o (deed_by_next (slice_get [] index) answer) ≡ o
 unfolding open_after deed_by_next
 none_next index o answer = refl
 
+-- a push opens and closes nothing
 none_push : (o : Option Connid) (body : Body) → open_after o (deed_by_push body) ≡ o
 unfolding open_after deed_by_push
 none_push o (Note note) = refl
 none_push o (Between from to load) = refl
 
+-- a handling opens and closes nothing
 none_handle : (o : Option Connid) (src : PortNo) (body : Body) (answer : Handled) → open_after o (deed_by_handle src body answer) ≡ o
 unfolding open_after deed_by_handle
 none_handle o src (Note note) (TookAnswer entered) = refl
 none_handle o src (Between from to load) (TookAnswer entered) = refl
 none_handle o src _ _ = refl
 
+-- no act opens or closes where there is no program
 none_act : (o : Option Connid) (act : Act) → open_after o (deed_of [] act) ≡ o
 unfolding deed_of
 none_act o (Next index op answer) = none_next index o answer
@@ -109,6 +117,7 @@ unfolding turn_going
 turn_of_going None to item h = cc
 turn_of_going (Some t) to item h = (t, refl, h)
 
+-- what goes out of an open life is its turn
 pub life_goes : (ports : ℕ) (own : Own) (port_log log : List Deed) (to : Life) (item : Item) → going (life_scene ports own port_log log) ≡ Some (Goes to item)
     → (t : Turn) × (turn own (heard_by own.limits.first log) log ≡ Some t) × (turn_going (Some t) ≡ Some (Goes to item))
 unfolding going life_going
@@ -129,6 +138,7 @@ pub record LifeFits (job : Job) (port : ℕ) (log : List Entry) (c : Connid) : T
   pub deeds_fit : DeedsFit (port_count job) job.limits.first (of_life c (deeds_at job port log))
   pub taken : AllTakenFit (of_life c (deeds_at job port log))
 
+-- the deeds of each life fit
 pub life_fits : (job : Job) (port : ℕ) (log : List Entry) (c : Connid) → JobFits job → Local job port log → AllHandledFit log → LifeFits job port log c
 unfolding deeds_at own_of
 life_fits job port log c fair l h =
@@ -164,6 +174,7 @@ life_begins job port log c fair is =
       features = rank.features;
     }
 
+-- what goes out of an open life can go
 open_goes_well : (job : Job) (port : ℕ) (log : List Entry) (to : Life) (item : Item) (c : Connid) → JobFits job → Local job port log → AllHandledFit log
     → open_life (deeds_at job port log) ≡ Some c → going (own_scene job port (deeds_at job port log)) ≡ Some (Goes to item) → CanGo item
 unfolding own_of heard_by

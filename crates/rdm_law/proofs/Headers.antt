@@ -29,6 +29,7 @@ fields_length [] = 0
 fields_length (Number size value ∷ fs) = size + fields_length fs
 fields_length (Data bytes ∷ fs) = length bytes + fields_length fs
 
+-- fields are spelled as long as they are
 spelled_length : (fs : List Field) → length (fields_bytes fs) ≡ fields_length fs
 unfolding fields_bytes field_bytes fields_length
 spelled_length [] = refl
@@ -42,16 +43,19 @@ spelled_length (Data bytes ∷ fs) =
     let c = spelled_length fs in
     omega arith
 
+-- fields after fields
 fields_length-append : (fs gs : List Field) → fields_length (fs ++ gs) ≡ fields_length fs + fields_length gs
 unfolding fields_length
 fields_length-append [] gs = omega arith
 fields_length-append (Number size value ∷ fs) gs = let a = fields_length-append fs gs in omega arith
 fields_length-append (Data bytes ∷ fs) gs = let a = fields_length-append fs gs in omega arith
 
+-- the base header has four bytes
 head_length : (kind flags : ℕ) → fields_length (head_fields kind flags) ≡ 4
 unfolding head_fields base_fields fields_length
 head_length kind flags = refl
 
+-- a number of four bytes ahead of fields
 number_length : (number : ℕ) (fs : List Field) → fields_length (Number 4 number ∷ fs) ≡ 4 + fields_length fs
 unfolding fields_length
 number_length number fs = refl
@@ -73,21 +77,25 @@ rtm_length number tag opt form =
     let g = number_length number.0 (form_fields form) in
     omega arith
 
+-- a tag has eight bytes
 tag_length : (tag : Option ℕ) → fields_length (tag_fields tag) ≡ cond (is_some tag) 8 0
 unfolding tag_fields fields_length
 tag_length None = refl
 tag_length (Some tag) = refl
 
+-- so has the tag that stands for it in the choice
 tag_like_length : (tagged : Bool) → fields_length (tag_fields (then_some tagged 0)) ≡ cond tagged 8 0
 unfolding tag_fields fields_length
 tag_like_length true = refl
 tag_like_length false = refl
 
+-- CQ data has eight bytes
 cq_data_length : (cq_data : Option ℕ) → fields_length (cq_data_fields cq_data) ≡ cond (is_some cq_data) 8 0
 unfolding cq_data_fields fields_length
 cq_data_length None = refl
 cq_data_length (Some n) = refl
 
+-- how long the optional headers of a life are
 opt_length : (life : Life) (raw : Bool) (cq_data : Option ℕ) → fields_length (opt_fields (opt_for life raw cq_data)) ≡ cond raw 36 4 + cond (is_some cq_data) 8 0
 unfolding opt_fields opt_for raw_fields connid_fields fields_length
 opt_length life true cq_data =
@@ -100,6 +108,7 @@ opt_length life false cq_data =
     let c = cq_data_length cq_data in
     omega arith
 
+-- so long are those that stand for them in the choice
 opt_like_length : (cq_data raw : Bool) → fields_length (opt_fields (opt_like cq_data raw)) ≡ cond raw 36 4 + cond cq_data 8 0
 unfolding opt_fields raw_fields cq_data_fields connid_fields fields_length
 opt_like_length true true = refl
@@ -120,10 +129,12 @@ common_short tagged cq_data raw =
     let c = cond_below cq_data 8 0 8 (omega arith) (omega arith) in
     omega arith
 
+-- no bytes of data
 no_data : fields_length (last_fields (F.Eager [])) ≡ 0
 unfolding last_fields fields_length
 no_data = refl
 
+-- an eager packet has no header of its own
 no_header : fields_length (form_fields (F.Eager [])) ≡ 0
 unfolding form_fields fields_length
 no_header = refl
@@ -157,6 +168,7 @@ ChosenBy fits runt n LongCts = fits ≡ false
 ChosenBy fits runt n LongRead = fits ≡ false
 ChosenBy fits runt n (Runt k) = (fits ≡ false) × (runt ≡ true) × (n ≡ k)
 
+-- which tests each branch of the choice passed
 chosen_by : (fits read runt medium : Bool) (n : ℕ) → ChosenBy fits runt n (cond fits Eager (cond read (cond runt (Runt n) LongRead) (cond medium Medium LongCts)))
 chosen_by true read runt medium n = tt
 chosen_by false true true medium n = (refl, refl, refl)
@@ -179,6 +191,7 @@ pub record PieceFits (top : ℕ) (x : Piece) : Type 0 where
   pub within : x.offset + length x.bytes ≤ top
   pub bytes : AreBytes x.bytes
 
+-- each cut has some of the bytes, within them
 cut_fits : (fuel size offset : ℕ) (bytes : List ℕ) (top : ℕ) (x : Piece) → 0 < size → 0 < length bytes → offset + length bytes ≤ top → AreBytes bytes
     → Member x (cut fuel size offset bytes) → PieceFits top x
 unfolding cut

@@ -18,6 +18,7 @@ waited_before : (logs : ℕ → List Entry) (e : Entry) (before : List Entry) (p
 waited_before logs e before p =
     at_log_of (λ (log : List Entry). AllHadWaited logs p log → AllHadWaited logs p (log_of p before)) p e before (λ is h. h.0) (λ other h. h)
 
+-- what the newest entry handled had waited
 waited_newest : (logs : ℕ → List Entry) (e : Entry) (before : List Entry) → ((p : ℕ) → AllHadWaited logs p (log_of p (e ∷ before)))
     → HadWaited logs e.port.0 (log_of e.port.0 before) e.act
 waited_newest logs e before h =
@@ -38,12 +39,14 @@ other_entry logs d e before (Next index op answer) n pushed waited mine = tt
 other_entry logs d e before (Push q) n pushed waited mine = tt
 other_entry logs d e before (Poll c) n pushed waited mine = tt
 
+-- a datagram that its port did not handle was not handled before, nor by the newest entry
 unhandled_newest : (d : Datagram) (e : Entry) (before : List Entry) → IsUnhandled d (log_of d.dst.0 (e ∷ before))
     → IsUnhandled d (log_of d.dst.0 before) × (e.port.0 ≡ d.dst.0 → IsOther d e.act)
 unhandled_newest d e before =
     at_log_of (λ (log : List Entry). IsUnhandled d log → IsUnhandled d (log_of d.dst.0 before) × (e.port.0 ≡ d.dst.0 → IsOther d e.act)) d.dst.0 e before
     (λ is h. (h.0, λ here. h.1)) (λ other h. (h, λ here. absurd (other here)))
 
+-- a datagram that its port did not handle was handled by no port
 pub unhandled_by_all : (logs : ℕ → List Entry) (d : Datagram) (history : List Entry) → ((p : ℕ) → AreNumbered p (logs p)) → PushedIn d (logs d.src.0)
     → ((p : ℕ) → AllHadWaited logs p (log_of p history)) → IsUnhandled d (log_of d.dst.0 history) → IsUnhandled d history
 unhandled_by_all logs d [] n pushed waited h = tt
@@ -53,6 +56,7 @@ unhandled_by_all logs d (e ∷ before) n pushed waited h =
       other_entry logs d e before e.act n pushed (waited_newest logs e before waited) k.1,
     )
 
+-- what an entry handled comes from a push, once
 comes_from : (logs : ℕ → List Entry) (e : Entry) (before : List Entry) (act : Act) → ((p : ℕ) → AreNumbered p (logs p))
     → ((p : ℕ) → AllHadWaited logs p (log_of p before)) → HadWaited logs e.port.0 (log_of e.port.0 before) act → ComesFrom logs before e act
 comes_from logs e before (Handle d answer) n waited h =
@@ -62,6 +66,7 @@ comes_from logs e before (Next index op answer) n waited h = tt
 comes_from logs e before (Push d) n waited h = tt
 comes_from logs e before (Poll c) n waited h = tt
 
+-- so of a whole history
 delivered_from : (logs : ℕ → List Entry) (history : List Entry) → ((p : ℕ) → AreNumbered p (logs p)) → ((p : ℕ) → AllHadWaited logs p (log_of p history))
     → IsDelivered logs history
 delivered_from logs [] n waited = tt

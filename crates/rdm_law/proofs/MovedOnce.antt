@@ -35,6 +35,7 @@ unfoldable pub handled_in : List Entry → List Datagram
 handled_in [] = []
 handled_in (e ∷ before) = handled_by e.act ++ handled_in before
 
+-- an act handles one, if it is a handling
 one_handled : (act : Act) → length (handled_by act) ≡ is_handling act
 unfolding handled_by is_handling
 one_handled (Handle d answer) = refl
@@ -42,6 +43,7 @@ one_handled (Next index op answer) = refl
 one_handled (Push d) = refl
 one_handled (Poll c) = refl
 
+-- as many were handled as handlings are in the log
 handled_count : (log : List Entry) → length (handled_in log) ≡ count is_handling log
 unfolding handled_in count
 handled_count [] = refl
@@ -56,6 +58,7 @@ pub record Came (logs : ℕ → List Entry) (port : ℕ) (d : Datagram) : Type 0
   pub for_it : d.dst.0 ≡ port
   pub pushed : PushedIn d (logs d.src.0)
 
+-- what an act handled came
 came_by : (logs : ℕ → List Entry) (port : ℕ) (before : List Entry) (act : Act) (d : Datagram) → HadWaited logs port before act → Member d (handled_by act) → Came logs port d
 unfolding handled_by
 came_by logs port before (Handle q answer) d h (inl is) = subst (Came logs port) is (record { for_it = h.0; pushed = h.1 })
@@ -64,6 +67,7 @@ came_by logs port before (Next index op answer) d h m = elim m [ ]
 came_by logs port before (Push q) d h m = elim m [ ]
 came_by logs port before (Poll c) d h m = elim m [ ]
 
+-- what a log handled came
 handled_came : (logs : ℕ → List Entry) (port : ℕ) (log : List Entry) (d : Datagram) → AllHadWaited logs port log → Member d (handled_in log) → Came logs port d
 unfolding handled_in
 handled_came logs port [] d h m = elim m [ ]
@@ -73,6 +77,7 @@ handled_came logs port (e ∷ before) d h m =
       | inr k ↦ handled_came logs port before d h.0 k
     ]
 
+-- what an act doesn't handle differs from what it does
 act_differs : (d : Datagram) (act : Act) (q : Datagram) → IsOther d act → Member q (handled_by act) → Differ d q
 unfolding handled_by
 act_differs d (Handle x answer) q o (inl is) = subst (λ (y : Datagram). Differ d y) is o
@@ -91,6 +96,7 @@ unhandled_differs d (e ∷ before) q u m =
       | inr k ↦ unhandled_differs d before q u.0 k
     ]
 
+-- lists of datagrams apart that differ from each other
 apart_append : (xs ys : List Datagram) → AreApart xs → AreApart ys → ((x y : Datagram) → Member x xs → Member y ys → Differ x y) → AreApart (xs ++ ys)
 apart_append [] ys a b c = b
 apart_append (x ∷ xs) ys a b c =
@@ -99,6 +105,7 @@ apart_append (x ∷ xs) ys a b c =
       apart_append xs ys a.1 b (λ y z m k. c y z (inr m) k),
     )
 
+-- what one act handled is apart
 one_apart : (act : Act) → AreApart (handled_by act)
 unfolding handled_by
 one_apart (Handle d answer) = ((λ q m. elim m [ ]), tt)
@@ -106,6 +113,7 @@ one_apart (Next index op answer) = tt
 one_apart (Push d) = tt
 one_apart (Poll c) = tt
 
+-- what the newest act handled differs from all that was handled before
 newest_differs : (logs : ℕ → List Entry) (port : ℕ) (before : List Entry) (act : Act) (x y : Datagram) → HadWaited logs port before act → Member x (handled_by act)
     → Member y (handled_in before) → Differ x y
 unfolding handled_by
@@ -115,6 +123,7 @@ newest_differs logs port before (Next index op answer) x y h m k = elim m [ ]
 newest_differs logs port before (Push d) x y h m k = elim m [ ]
 newest_differs logs port before (Poll c) x y h m k = elim m [ ]
 
+-- what a log handled is apart
 handled_apart : (logs : ℕ → List Entry) (port : ℕ) (log : List Entry) → AllHadWaited logs port log → AreApart (handled_in log)
 unfolding handled_in
 handled_apart logs port [] h = tt
@@ -125,9 +134,11 @@ handled_apart logs port (e ∷ before) h =
 abbrev pub came_to : World → ℕ → List Datagram
 came_to w port = handled_in (w.logs port) ++ w.stashes port
 
+-- what is in a stash waits
 stash_waits : (w : World) (port : ℕ) (d : Datagram) → Delivers w.logs (waiting_in w) → Member d (w.stashes port) → Waits w.logs port d
 stash_waits w port d i m = i.waits port d (member-append_left d (w.stashes port) (w.queues port) m)
 
+-- all that came to a port came
 all_came : (w : World) (port : ℕ) (d : Datagram) → Delivers w.logs (waiting_in w) → Member d (came_to w port) → Came w.logs port d
 all_came w port d i m =
     elim (member-append_cases d (handled_in (w.logs port)) (w.stashes port) m) [
@@ -135,10 +146,12 @@ all_came w port d i m =
       | inr k ↦ (let v = stash_waits w port d i k in record { for_it = v.for_it; pushed = v.pushed })
     ]
 
+-- the front of a list apart is apart
 front_apart : (xs ys : List Datagram) → AreApart (xs ++ ys) → AreApart xs
 front_apart [] ys a = tt
 front_apart (x ∷ xs) ys a = ((λ q m. a.0 q (member-append_left q xs ys m)), front_apart xs ys a.1)
 
+-- what came to a port is apart
 came_apart : (w : World) (port : ℕ) → Delivers w.logs (waiting_in w) → AreApart (came_to w port)
 came_apart w port i =
     apart_append (handled_in (w.logs port)) (w.stashes port) (handled_apart w.logs port (w.logs port) (i.handled port)) (front_apart (w.stashes port) (w.queues port) (i.apart port))
@@ -149,6 +162,7 @@ unfoldable pub came_below : World → ℕ → List Datagram
 came_below w zero = []
 came_below w (suc n) = came_below w n ++ came_to w n
 
+-- it was pushed, for one of those ports
 came_in : (w : World) (n : ℕ) (d : Datagram) → Delivers w.logs (waiting_in w) → Member d (came_below w n) → (d.dst.0 < n) × PushedIn d (w.logs d.src.0)
 unfolding came_below
 came_in w zero d i m = elim m [ ]
@@ -166,6 +180,7 @@ ports_differ w x y i hx hy apart s n =
     let one : x ≡ y = pushed_once x.src.0 (w.logs x.src.0) x y (i.numbered x.src.0) hx there (sym n) in
     apart (ap (λ (d : Datagram). d.dst.0) one)
 
+-- what came to some ports is apart
 came_below_apart : (w : World) (n : ℕ) → Delivers w.logs (waiting_in w) → AreApart (came_below w n)
 unfolding came_below
 came_below_apart w zero i = tt
@@ -178,6 +193,7 @@ came_below_apart w (suc n) i =
       let here = b.for_it in
       ports_differ w x y i a.1 b.pushed (λ same. absurd (omega arith)))
 
+-- how much came to some ports
 came_length : (w : World) (n : ℕ) → length (came_below w n) ≡ sum_below (λ p. count is_handling (w.logs p) + length (w.stashes p)) n
 unfolding came_below sum_below
 came_length w zero = refl
@@ -193,10 +209,12 @@ unfoldable pub pushed_by : Act → List Datagram
 pushed_by (Push d) = d ∷ []
 pushed_by _ = []
 
+-- so of a whole history
 unfoldable pub pushed_in : List Entry → List Datagram
 pushed_in [] = []
 pushed_in (e ∷ before) = pushed_by e.act ++ pushed_in before
 
+-- an act pushes one at most
 one_pushed : (act : Act) → length (pushed_by act) ≤ 1
 unfolding pushed_by
 one_pushed (Push d) = omega arith
@@ -204,6 +222,7 @@ one_pushed (Next index op answer) = omega arith
 one_pushed (Handle d answer) = omega arith
 one_pushed (Poll c) = omega arith
 
+-- no more was pushed than there are entries
 pushed_fewer : (history : List Entry) → length (pushed_in history) ≤ length history
 unfolding pushed_in
 pushed_fewer [] = omega arith
@@ -213,6 +232,7 @@ pushed_fewer (e ∷ before) =
     let c = length-append (pushed_by e.act) (pushed_in before) in
     omega arith
 
+-- what an act pushed is among what it pushed
 pushed_member : (d : Datagram) (act : Act) → act ≡ Push d → Member d (pushed_by act)
 unfolding pushed_by
 pushed_member d act is = (let P : Act → Type 0 = λ x. Member d (pushed_by x) in subst P (sym is) (inl refl))
@@ -238,18 +258,22 @@ moved_fewer job w history n s joint =
     let b = pushed_fewer history in
     omega arith
 
+-- the log of the newest entry's port is one longer
 log_longer : (e : Entry) (before : List Entry) → length (log_of e.port.0 (e ∷ before)) ≡ length (log_of e.port.0 before) + 1
 log_longer e before = at_log_of (λ (log : List Entry). length log ≡ length (log_of e.port.0 before) + 1) e.port.0 e before (λ is. omega arith) (λ other. absurd (other refl))
 
+-- other logs are as long as before
 log_same : (e : Entry) (before : List Entry) (p : ℕ) → (p ≡ e.port.0 → ⊥) → length (log_of p (e ∷ before)) ≡ length (log_of p before)
 log_same e before p other = at_log_of (λ (log : List Entry). length log ≡ length (log_of p before)) p e before (λ is. absurd (other (sym is))) (λ no. refl)
 
+-- the log of an entry's port is not empty
 never_empty : (e : Entry) (before : List Entry) → log_of e.port.0 (e ∷ before) ≡ [] → ⊥
 never_empty e before none =
     let a = log_longer e before in
     let b = ap (λ (log : List Entry). length log) none in
     absurd (omega arith)
 
+-- zeros have the sum zero
 none_sum : (n : ℕ) → sum_below (λ p. 0) n ≡ 0
 unfolding sum_below
 none_sum zero = refl
@@ -260,6 +284,7 @@ outside_before : (n : ℕ) (e : Entry) (before : List Entry) → ((p : ℕ) → 
 outside_before n e before h p past =
     at_log_of (λ (log : List Entry). log ≡ [] → log_of p before ≡ []) p e before (λ is none. cc) (λ other none. none) (h p past)
 
+-- the newest entry's port is below n
 inside : (n : ℕ) (e : Entry) (before : List Entry) → ((p : ℕ) → n ≤ p → log_of p (e ∷ before) ≡ []) → e.port.0 < n
 inside n e before h =
     elim (cases_lt e.port.0 n) [
@@ -276,6 +301,7 @@ entries_sum n (e ∷ before) h =
     let more = sum_change (λ p. length (log_of p before)) (λ p. length (log_of p (e ∷ before))) e.port.0 n 1 (inside n e before h) (log_same e before) (log_longer e before) in
     omega arith
 
+-- what ports have of the changes: entries, and datagrams that came
 sum_parts : (w : World) (n : ℕ) → sum_below (measure w) n ≡ sum_below (λ p. length (w.logs p)) n + sum_below (λ p. count is_handling (w.logs p) + length (w.stashes p)) n
 unfolding sum_below measure
 sum_parts w zero = refl

@@ -35,26 +35,31 @@ unfoldable pub did_as : (Instr → ℕ) → Deed → ℕ
 did_as f (Did instr) = f instr
 did_as f _ = 0
 
+-- an instruction that did counts as it does in the program
 did_as_next : (f : Instr → ℕ) (instr : Instr) (answer : Answer) → did_as f (deed_by_next (Some instr) answer) ≤ f instr
 unfolding deed_by_next did_as
 did_as_next f instr (DidAnswer what) = omega arith
 did_as_next f instr _ = omega arith
 
+-- a push counts none
 did_as_push : (f : Instr → ℕ) (body : Body) → did_as f (deed_by_push body) ≤ 0
 unfolding deed_by_push did_as
 did_as_push f (Note note) = omega arith
 did_as_push f (Between from to load) = omega arith
 
+-- a handling counts none
 did_as_handle : (f : Instr → ℕ) (src : PortNo) (body : Body) (answer : Handled) → did_as f (deed_by_handle src body answer) ≤ 0
 unfolding deed_by_handle did_as
 did_as_handle f src (Note note) (TookAnswer entered) = omega arith
 did_as_handle f src (Between from to load) (TookAnswer entered) = omega arith
 did_as_handle f src _ _ = omega arith
 
+-- the sum over one instruction more
 sum_take_more : (f : Instr → ℕ) (ops : List Instr) (n : ℕ) (x : Instr) → slice_get ops n ≡ Some x → sum_by f (take (n + 1) ops) ≡ sum_by f (take n ops) + f x
 sum_take_more f ops n x h =
     sum_by_more f ops n x (slice_get_within ops n x h) ∙ ap (λ (y : Instr). sum_by f (take n ops) + f y) (get_or_from_slice_get ops n x x h)
 
+-- an act counts no more than the instructions that it goes on by
 act_counts : (job : Job) (port : ℕ) (f : Instr → ℕ) (s : Scene) (e : Entry) (before : List Entry) (act : Act) → e.port.0 ≡ port → Does job class_of s before e act
     → sum_by f (take (count is_next before) (rank_of job port).ops) + did_as f (deed_of (rank_of job port).ops act)
     ≤ sum_by f (take (count is_next before + is_next act) (rank_of job port).ops)
@@ -84,6 +89,7 @@ act_counts job port f s e before (Poll c) p does =
     let last : count is_next before ≡ count is_next before + 0 = omega arith in
     subst P last (omega arith)
 
+-- what did counts no more than the instructions that were done
 counts_taken : (job : Job) (port : ℕ) (f : Instr → ℕ) (log : List Entry) → Local job port log
     → deed_count (did_as f) (deeds (rank_of job port).ops log) ≤ sum_by f (take (count is_next log) (rank_of job port).ops)
 unfolding deeds deed_count count

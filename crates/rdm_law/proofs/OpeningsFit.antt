@@ -32,6 +32,7 @@ pub record LimitsFit (limits : EpLimits) : Type 0 where
   pub credits : 0 < limits.credits
   pub credits_top : limits.credits < 4294967296
 
+-- fair limits have it
 pub limits_are : (limits : EpLimits) → limits_fit limits ≡ true → LimitsFit limits
 unfolding limits_fit is_within
 limits_are limits h =
@@ -58,6 +59,7 @@ opens_fit own s form o f a b c =
     let headers : HeadersFit s.message.opt = subst HeadersFit (sym f.opt_is) (headers_fit own.life f.raw s.req.cq_data o.port o.connid f.cq_data) in
     rtm_from s.message.no s.message.tag s.message.opt form f.no tag headers a b c
 
+-- the number of a send as packets carry it is in its range
 send_below : (own : Own) (s : Sent) → SentFits own s → s.message.send.0 < 4294967296
 send_below own s f = subst (λ (x : OpId). x.0 < 4294967296) (sym f.send_is) f.number
 
@@ -119,15 +121,18 @@ Chosen own s f kind =
     ChosenBy (nat_le (length s.message.bytes) (eager_room (is_some s.req.tag) (is_some s.req.cq_data) f.raw own.limits))
     (nat_lt 0 own.limits.runt && both_have 4 own.features f.known) (min own.limits.runt (length s.message.bytes - 1)) kind
 
+-- a send's protocol was chosen by its length
 pub chosen_kind : (own : Own) (s : Sent) (f : SentFits own s) (kind : Kind) → s.kind ≡ kind → Chosen own s f kind
 chosen_kind own s f kind is =
     subst (Chosen own s f) (sym f.kind_is ∙ is)
     (choice_is (length s.message.bytes) (is_some s.req.tag) (is_some s.req.cq_data) f.raw own.features f.known own.limits)
 
+-- a whole message
 pub eager_fits : (own : Own) (s : Sent) → OwnFits own → SentFits own s → fits (rtm s.message (F.Eager s.message.bytes)) ≡ true
 unfolding form_fits form_fields last_fields
 eager_fits own s o f = opens_fit own s (F.Eager s.message.bytes) o f refl refl (all_fields (Data s.message.bytes ∷ []) (data_field s.message.bytes f.bytes, tt))
 
+-- a segment
 pub segment_fits : (own : Own) (s : Sent) (x : Piece) → OwnFits own → SentFits own s → PieceFits (length s.message.bytes) x → fits (rtm s.message (medium_form s.message x)) ≡ true
 unfolding form_fits form_fields last_fields
 segment_fits own s x o f p =
@@ -139,6 +144,7 @@ segment_fits own s x o f p =
     (all_fields (Number 8 (length s.message.bytes) ∷ Number 8 x.offset ∷ []) (long_field (length s.message.bytes) (omega arith), (long_field x.offset (omega arith), tt)))
     (all_fields (Data x.bytes ∷ []) (data_field x.bytes p.bytes, tt))
 
+-- a first part that asks for grants
 pub first_fits : (own : Own) (s : Sent) (bytes : List ℕ) → OwnFits own → LimitsFit own.limits → SentFits own s → 0 < length bytes → length bytes < length s.message.bytes → AreBytes bytes
     → fits (rtm s.message (long_cts_form own.limits s.message bytes)) ≡ true
 unfolding form_fits form_fields last_fields
@@ -150,6 +156,7 @@ first_fits own s bytes o l f some less small =
     (long_field (length s.message.bytes) (omega arith), (word_field s.message.send.0 (send_below own s f), (word_field own.limits.credits l.credits_top, tt))))
     (all_fields (Data bytes ∷ []) (data_field bytes small, tt))
 
+-- a message to be read
 pub read_fits : (own : Own) (s : Sent) → OwnFits own → SentFits own s → 0 < length s.message.bytes
     → fits (rtm s.message (F.LongRead (length s.message.bytes) s.message.send s.message.iov)) ≡ true
 unfolding form_fits form_fields last_fields
@@ -162,6 +169,7 @@ read_fits own s o f some =
     (long_field (length s.message.bytes) (omega arith), (word_field s.message.send.0 (send_below own s f), (word_field (length s.message.iov) (omega arith), tt))))
     iov.1
 
+-- a segment of the first part ahead of a read
 pub runt_fits : (own : Own) (s : Sent) (runt : ℕ) (x : Piece) → OwnFits own → SentFits own s → 0 < runt → runt < length s.message.bytes → PieceFits runt x
     → fits (rtm s.message (runt_form s.message runt x)) ≡ true
 unfolding form_fits form_fields last_fields

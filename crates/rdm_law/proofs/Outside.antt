@@ -47,10 +47,12 @@ use Rattle.rdm_law.proofs.Quiet.{going_to}
 use Rattle.rdm_law.proofs.QuietSettled.{GoesToRanks}
 use Rattle.rdm_law.proofs.Ranks.{LifeIs, LivesAre, turn_is_to, next_note_to}
 
+-- an entry is in the log of its port alone
 entry_elsewhere : (job : Job) (w : World) (port p : ℕ) (act : Act) → (p ≡ port → ⊥) → (with_entry job w port act).logs p ≡ w.logs p
 unfolding with_entry
 entry_elsewhere job w port p act other = put_at_there port _ w.logs p other
 
+-- an instruction
 next_elsewhere : (job : Job) (w : World) (port p : ℕ) (o : Option Instr) → (p ≡ port → ⊥) → (step_next job w port o).logs p ≡ w.logs p
 unfolding step_next
 next_elsewhere job w port p None other = refl
@@ -58,6 +60,7 @@ next_elsewhere job w port p (Some instr) other =
     chosen (λ (v : World). v.logs p ≡ w.logs p) (is_entry (answer_of (scene_in job w port) instr) && not (is_worn job (w.logs port))) _ w
     (λ yes. entry_elsewhere job w port p _ other) (λ no. refl)
 
+-- a push
 push_elsewhere : (job : Job) (w : World) (port p : ℕ) (o : Option Going) → (p ≡ port → ⊥) → (step_push job w port o).logs p ≡ w.logs p
 unfolding step_push with_push
 push_elsewhere job w port p None other = refl
@@ -65,6 +68,7 @@ push_elsewhere job w port p (Some g) other =
     chosen (λ (v : World). v.logs p ≡ w.logs p) (is_worn job (w.logs port) || nat_le job.inbox (length (w.queues (datagram_of job w port g).dst.0))) w _
     (λ yes. refl) (λ no. entry_elsewhere job w port p (Push (datagram_of job w port g)) other)
 
+-- a handling
 handle_elsewhere : (job : Job) (w : World) (port p place : ℕ) (o : Option Datagram) → (p ≡ port → ⊥) → (with_handle job w port place o).logs p ≡ w.logs p
 unfolding with_handle
 handle_elsewhere job w port p place None other = refl
@@ -72,6 +76,7 @@ handle_elsewhere job w port p place (Some d) other =
     chosen (λ (v : World). v.logs p ≡ w.logs p) (is_again_early class_of (scene_in job w port) d || is_worn_by job (w.logs port) d) w _
     (λ yes. refl) (λ no. entry_elsewhere job w port p _ other)
 
+-- a poll
 poll_elsewhere : (job : Job) (w : World) (port p : ℕ) (o : Option Completion) → (p ≡ port → ⊥) → (with_poll job w port o).logs p ≡ w.logs p
 unfolding with_poll
 poll_elsewhere job w port p None other = refl
@@ -90,9 +95,11 @@ choice_elsewhere job w (Choice.Poll port) p other = poll_elsewhere job w port p 
 abbrev pub OutsideEmpty : Job → World → Type 0
 OutsideEmpty job w = (port : ℕ) → port_count job ≤ port → w.logs port ≡ []
 
+-- each choice of a rank keeps it
 pub outside_keeps : (job : Job) → Keeps job (OutsideEmpty job)
 outside_keeps job w c rank empty port past = choice_elsewhere job w c port (λ is. absurd (omega arith)) ∙ empty port past
 
+-- before any step
 pub outside_new : (job : Job) → OutsideEmpty job new_world
 outside_new job port past = refl
 
@@ -108,27 +115,32 @@ pushed_by_rank job w d empty h =
 abbrev pub OfRank : ℕ → Life → Type 0
 OfRank ports l = l.port.0 < ports
 
+-- a handled datagram of a rank
 handled_of : (ports : ℕ) (src : PortNo) (body : Body) (answer : Handled) → src.0 < ports → LifeIs (OfRank ports) (deed_by_handle src body answer)
 unfolding deed_by_handle
 handled_of ports src (Between from to load) (TookAnswer entered) h = h
 handled_of ports src (Note note) (TookAnswer entered) h = tt
 handled_of ports src _ _ h = tt
 
+-- an inserted life of a rank
 instr_of : (ports : ℕ) (instr : Instr) → instr_fits ports instr ≡ true → LifeIs (OfRank ports) (Did instr)
 unfolding instr_fits is_rank
 instr_of ports (Insert life) h = ltb-true _ _ (and_parts _ _ h).0
 instr_of ports _ h = tt
 
+-- the deed of an instruction
 next_of : (ports : ℕ) (o : Option Instr) (answer : Answer) → DidFits ports (deed_by_next o answer) → LifeIs (OfRank ports) (deed_by_next o answer)
 unfolding deed_by_next
 next_of ports (Some instr) (DidAnswer what) h = instr_of ports instr h
 next_of ports _ _ h = tt
 
+-- a push is of no life
 push_of : (ports : ℕ) (body : Body) → LifeIs (OfRank ports) (deed_by_push body)
 unfolding deed_by_push
 push_of ports (Note note) = tt
 push_of ports (Between from to load) = tt
 
+-- each act
 act_of : (job : Job) (w : World) (port : ℕ) (before : List Entry) (ops : List Instr) (act : Act) → OutsideEmpty job w → HadWaited w.logs port before act
     → DidFits (port_count job) (deed_of ops act) → LifeIs (OfRank (port_count job)) (deed_of ops act)
 unfolding deed_of
@@ -145,30 +157,36 @@ log_of_ranks job w port ops [] empty h fit = tt
 log_of_ranks job w port ops (e ∷ before) empty h fit =
     (log_of_ranks job w port ops before empty h.0 fit.0, act_of job w port before ops e.act empty h.1 fit.1)
 
+-- the deeds of a life are some of the port's
 life_of_ranks : (P : Life → Type 0) (c : Connid) (log : List Deed) → LivesAre P log → LivesAre P (of_life c log)
 unfolding of_life
 life_of_ranks P c [] h = tt
 life_of_ranks P c (d ∷ before) h = at_of_life (LivesAre P) c d before (λ s. (life_of_ranks P c before h.0, h.1)) (λ s. life_of_ranks P c before h.0)
 
+-- a turn is no note
 turn_no_note : (o : Option Turn) (n : OwedNote) → turn_going o ≡ Some (GoesNote n) → ⊥
 unfolding turn_going
 turn_no_note None n h = cc
 turn_no_note (Some (Replies r)) n h = cc
 turn_no_note (Some (Sends s p)) n h = cc
 
+-- what goes out of a life is no note
 no_note : (s : Scene) (now : Option Connid) (n : OwedNote) → life_going now s ≡ Some (GoesNote n) → ⊥
 unfolding life_going
 no_note s None n h = cc
 no_note s (Some c) n h = turn_no_note (turn s.own s.ms s.log) n h
 
+-- the next note of a port goes to a rank
 scene_note : (job : Job) (port : ℕ) (log : List Deed) (n : OwedNote) → AllDidFit (port_count job) log
     → next_note (own_scene job port log).ports (own_scene job port log).own.life.port.0 (own_scene job port log).port_log ≡ Some n → n.to.0 < port_count job
 unfolding own_scene scene
 scene_note job port log n did is = next_note_to (port_count job) _ log n did is
 
+-- what goes out of the open life is no note
 life_no_note : (s : Scene) (n : OwedNote) → life_going s.now s ≡ Some (GoesNote n) → ⊥
 life_no_note s n h = no_note s s.now n h
 
+-- a note that goes out is the next one
 note_of : (o : Option OwedNote) (others : Option Going) (n : OwedNote) → note_going o others ≡ Some (GoesNote n) → ((m : OwedNote) → others ≡ Some (GoesNote m) → ⊥) → o ≡ Some n
 unfolding note_going
 note_of None others n h never = absurd (never n h)

@@ -24,26 +24,32 @@ abbrev pub EachFits : List Field → Type 0
 EachFits [] = Unit {0}
 EachFits (f ∷ fs) = (field_fits f ≡ true) × EachFits fs
 
+-- so all fields of the list fit
 pub all_fields : (fs : List Field) → EachFits fs → list_all field_fits fs ≡ true
 all_fields [] h = refl
 all_fields (f ∷ fs) h = and_from (field_fits f) (list_all field_fits fs) h.0 (all_fields fs h.1)
 
+-- a number of one byte
 byte_field : (n : ℕ) → n < 256 → field_fits (Number 1 n) ≡ true
 unfolding field_fits
 byte_field n h = lt-ltb n 256 h
 
+-- a number of two bytes
 half_field : (n : ℕ) → n < 65536 → field_fits (Number 2 n) ≡ true
 unfolding field_fits
 half_field n h = lt-ltb n 65536 h
 
+-- a number of four bytes
 pub word_field : (n : ℕ) → n < 4294967296 → field_fits (Number 4 n) ≡ true
 unfolding field_fits
 word_field n h = lt-ltb n 4294967296 h
 
+-- a number of eight bytes
 pub long_field : (n : ℕ) → n < 18446744073709551616 → field_fits (Number 8 n) ≡ true
 unfolding field_fits
 long_field n h = lt-ltb n 18446744073709551616 h
 
+-- bytes
 pub data_field : (bytes : List ℕ) → AreBytes bytes → field_fits (Data bytes) ≡ true
 unfolding field_fits
 data_field bytes h = h
@@ -98,6 +104,7 @@ handshake_fits features connid a b =
     (all_fields (Number 4 4 ∷ Number 8 features ∷ []) (word_field 4 (omega arith), (long_field features a, tt))))
     (all_fields (Number 4 connid.0 ∷ []) (word_field connid.0 b, tt)))
 
+-- a packet type is small
 kind_small : (form : Form) → type_of form ≤ 192
 unfolding type_of
 kind_small (Eager bytes) = omega arith
@@ -111,6 +118,7 @@ pub cond_below : (b : Bool) (m n top : ℕ) → m ≤ top → n ≤ top → cond
 cond_below true m n top h k = h
 cond_below false m n top h k = k
 
+-- flags have two bytes
 flags_small : (tag : Option ℕ) (opt : Opt) → rtm_flags tag opt < 65536
 unfolding rtm_flags opt_flags
 flags_small tag opt =
@@ -120,11 +128,13 @@ flags_small tag opt =
     let d = cond_below (is_some opt.connid) 32768 0 32768 (omega arith) (omega arith) in
     omega arith
 
+-- a tag
 tag_fits : (tag : Option ℕ) → option_fits tag ≡ true → list_all field_fits (tag_fields tag) ≡ true
 unfolding tag_fields option_fits
 tag_fits None h = refl
 tag_fits (Some tag) h = all_fields (Number 8 tag ∷ []) (long_field tag (ltb-true _ _ h), tt)
 
+-- CQ data
 cq_data_fits : (cq_data : Option ℕ) → option_fits cq_data ≡ true → list_all field_fits (cq_data_fields cq_data) ≡ true
 unfolding cq_data_fields option_fits
 cq_data_fits None h = refl
@@ -135,6 +145,7 @@ pub record HeadersFit (opt : Opt) : Type 0 where
   pub one : opt_fits opt ≡ true
   pub fields : list_all field_fits (opt_fields opt) ≡ true
 
+-- the optional headers of a life fit
 pub headers_fit : (life : Life) (raw : Bool) (cq_data : Option ℕ) → life.port.0 < 4294967296 → life.connid.0 < 4294967296 → option_fits cq_data ≡ true
     → HeadersFit (opt_for life raw cq_data)
 unfolding opt_for opt_fits opt_fields raw_fields connid_fields field_fits

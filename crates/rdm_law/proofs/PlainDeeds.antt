@@ -66,6 +66,7 @@ IsPlainPacket first (Rtm number tag opt (Eager bytes)) = number.0 ≡ first
 IsPlainPacket first (Handshake words connid) = Unit {0}
 IsPlainPacket first _ = ⊥
 
+-- so of what a datagram is read as
 abbrev pub IsPlainLoad : (first : ℕ) → Item → Type 0
 IsPlainLoad first (Spelled p) = IsPlainPacket first p
 IsPlainLoad first _ = ⊥
@@ -90,16 +91,19 @@ abbrev pub AreWithPeer : Own → (peer : Life) → List Deed → Type 0
 AreWithPeer own peer [] = Unit {0}
 AreWithPeer own peer (d ∷ before) = AreWithPeer own peer before × IsWithPeer own peer d
 
+-- what a deed inserts is the other life
 inserted_peer : (own : Own) (peer : Life) (port : ℕ) (d : Deed) (l : Life) → IsWithPeer own peer d → inserted_by port d ≡ Some l → l ≡ peer
 unfolding inserted_by
 inserted_peer own peer port (Did (Insert life)) l h is = sym (then_some_parts _ life l is).1 ∙ h.0
 inserted_peer own peer port _ l h is = cc
 
+-- what a deed takes from is the other life
 seen_peer : (own : Own) (peer : Life) (port : ℕ) (d : Deed) (l : Life) → IsWithPeer own peer d → seen_by port d ≡ Some l → l ≡ peer
 unfolding seen_by
 seen_peer own peer port (Took from item) l h is = sym (then_some_parts _ from l is).1 ∙ h.0
 seen_peer own peer port _ l h is = cc
 
+-- what was inserted last is the other life
 last_inserted_peer : (own : Own) (peer : Life) (port : ℕ) (log : List Deed) (l : Life) → AreWithPeer own peer log → last_inserted log port ≡ Some l → l ≡ peer
 unfolding last_inserted
 last_inserted_peer own peer port [] l h is = cc
@@ -109,6 +113,7 @@ last_inserted_peer own peer port (d ∷ before) l h is =
       | inr a ↦ last_inserted_peer own peer port before l h.0 a.1
     ]
 
+-- what was taken from first is the other life
 first_seen_peer : (own : Own) (peer : Life) (port : ℕ) (log : List Deed) (l : Life) → AreWithPeer own peer log → first_seen log port ≡ Some l → l ≡ peer
 unfolding first_seen
 first_seen_peer own peer port [] l h is = cc
@@ -127,6 +132,7 @@ current_peer own peer port log l h is =
       | inr a ↦ first_seen_peer own peer port log l h a.1
     ]
 
+-- the same life takes the place of none
 same_other : (life : Life) (o : Option Life) → ((old : Life) → o ≡ Some old → old ≡ life) → other_life life o ≡ []
 unfolding other_life
 same_other life None h = refl
@@ -140,6 +146,7 @@ unfolding forgotten_by
 insert_forgets_none own peer life before h is =
     same_other life (current before life.port.0) (λ old e. current_peer own peer life.port.0 before old h e ∙ sym is)
 
+-- the first of two tests of which the second holds
 and_true : (b : Bool) → (b && true) ≡ false → b ≡ false
 and_true true h = cc
 and_true false h = refl
@@ -165,6 +172,7 @@ no_overlap s from own item h =
     let g = first_none _ _ _ f.1 in
     (first_none _ _ _ g.1).0
 
+-- a packet of the other life that was taken is built
 plain_packet : (own : Own) (ports : ℕ) (port_log before : List Deed) (from : Life) (p : Packet) → IsPlainPacket own.limits.first p
     → item_class (life_scene ports own port_log before) from own.life.connid (Spelled p) ≡ None → IsPlainItem own before from (Spelled p)
 plain_packet own ports port_log before from (Rtm number tag opt (Eager bytes)) h none =
@@ -178,6 +186,7 @@ plain_packet own ports port_log before from (Cts send recv size connid) h none =
 plain_packet own ports port_log before from (CtsData recv offset connid bytes) h none = h
 plain_packet own ports port_log before from (Eor send recv connid) h none = h
 
+-- so is what a datagram was read as
 plain_item : (own : Own) (ports : ℕ) (port_log before : List Deed) (from : Life) (item : Item) → IsPlainLoad own.limits.first item
     → item_class (life_scene ports own port_log before) from own.life.connid item ≡ None → IsPlainItem own before from item
 plain_item own ports port_log before from (Spelled p) h none = plain_packet own ports port_log before from p h none
@@ -185,6 +194,7 @@ plain_item own ports port_log before from (Asks a) h none = h
 plain_item own ports port_log before from (Gives g) h none = h
 plain_item own ports port_log before from Garbled h none = h
 
+-- an instruction that did is built
 plain_instr : (own : Own) (peer : Life) (before : List Deed) (instr : Instr) → AreWithPeer own peer before → IsPlainOp own peer instr → OpensNone instr → IsPlainInstr own before instr
 plain_instr own peer before (OpenLife connid) h k no_open = no_open
 plain_instr own peer before (Insert life) h k no_open = insert_forgets_none own peer life before h k
@@ -193,6 +203,7 @@ plain_instr own peer before (Cancel recv) h k no_open = k
 plain_instr own peer before CloseLife h k no_open = k
 plain_instr own peer before _ h k no_open = tt
 
+-- each deed is built
 plain_deed : (own : Own) (peer : Life) (before : List Deed) (d : Deed) → AreWithPeer own peer before → IsWithPeer own peer d → LifeStep own before d → IsPlainDeed own before d
 plain_deed own peer before (Did instr) h k step = plain_instr own peer before instr h k.0 k.1
 plain_deed own peer before (Took from item) h k step = plain_item own step.0 step.1 before from item k.1 step.2

@@ -34,12 +34,14 @@ use Rattle.rdm_law.proofs.OpCounts.{send_count, did_as}
 use Rattle.rdm_law.proofs.PlainDeeds.{IsPlainPacket, IsPlainLoad, AreWithPeer}
 use Rattle.rdm_law.proofs.PlainTurns.{IsPlainGoing, all_eager, plain_owed, plain_sends, plain_kind}
 
+-- what passes a test is no longer than the list
 filter_shorter : {A : Type 0} (p : A → Bool) (xs : List A) → length (filter p xs) ≤ length xs
 filter_shorter p [] = omega arith
 filter_shorter {A} p (x ∷ xs) =
     let shorter = filter_shorter p xs in
     (elim (p x) as (λ b. length (cond b (x ∷ filter p xs) (filter p xs)) ≤ suc (length xs)) [ true ↦ omega arith | false ↦ omega arith ])
 
+-- no more sends go to a life than there are
 sends_to_fewer : (sents : List Sent) (to : Life) → length (sends_to sents to) ≤ length sents
 unfolding sends_to
 sends_to_fewer sents to = filter_shorter (λ (s : Sent). same_life s.to to) sents
@@ -53,15 +55,18 @@ only_number own ms log s m one =
     let fewer = sends_to_fewer (sends own ms log) s.to in
     omega arith
 
+-- the one packet of a whole message
 only_opening : (own : Own) (s : Sent) (p : Packet) → s.kind ≡ Eager → Member p (openings own.limits s.message s.kind) → rtm s.message (F.Eager s.message.bytes) ≡ p
 unfolding openings
 only_opening own s p is m =
     let one : Member p (openings own.limits s.message Eager) = subst (λ (k : Kind). Member p (openings own.limits s.message k)) is m in
     elim one [ inl same ↦ same | inr never ↦ elim never [ ] ]
 
+-- a whole message is not a granted one
 eager_no_long : Eager ≡ LongCts → ⊥
 eager_no_long h = cc
 
+-- the next packet of a plain send is its message's
 plain_send : (own : Own) (peer : Life) (ms : Messages) (log : List Deed) (t : Turn) → AreWithPeer own peer log → ((s : Sent) → Member s (sends own ms log) → SentFits own s)
     → length (sends own ms log) ≤ 1 → (r : SendTurn own log (pushed_of own ms log) (sends own ms log) t) → (r.sent.to ≡ peer) × IsPlainPacket own.limits.first r.packet
 plain_send own peer ms log t k fit one r =
@@ -106,11 +111,13 @@ plain_turn own peer ms log (Sends s p) to item k heads fit one is goes =
           (sym to_is ∙ sym (ap (λ (x : Sent). x.to) sent) ∙ plain.0, subst (IsPlainLoad own.limits.first) item_is (subst (IsPlainPacket own.limits.first) packet plain.1))
     ]
 
+-- a deed sends once at most, if it is a send that did
 sent_by_deed : (before : List Deed) (d : Deed) → length (sent_life before d) ≤ did_as send_count d
 unfolding sent_life did_as send_count
 sent_by_deed before (Did (Send req)) = option_length (current before req.to.0)
 sent_by_deed before _ = omega arith
 
+-- no more lives are sent to than sends did
 lives_by_sends : (log : List Deed) → length (sent_lives log) ≤ deed_count (did_as send_count) log
 unfolding sent_lives deed_count
 lives_by_sends [] = omega arith

@@ -40,6 +40,7 @@ pub record PlainWorld (job : Job) (i j : Life) (w : World) : Type 0 where
   pub sound : Sound job w
   pub has : HasPlain i j job.limits.first w
 
+-- before any step
 pub new_plain_world : (job : Job) (i j : Life) → PlainWorld job i j new_world
 new_plain_world job i j = record { sound = new_sound job; has = new_plain i j job.limits.first }
 
@@ -63,9 +64,11 @@ life_plain job i j log c plain l h is =
     let P : Connid → Type 0 = λ x. IsPlain (own_of job (life_of i.port.0 x)) (of_life x (deeds_at job i.port.0 log)) in
     subst P (sym same) (plain_life (own_of job i) j (of_life i.connid (deeds_at job i.port.0 log)) (life_local job i.port.0 i.connid log l) (life_with_peer job i j log plain.apart plain.rank_i l h))
 
+-- none is not some
 none_is_some : (c : Connid) → None ≡ Some c → ⊥
 none_is_some c h = cc
 
+-- the log of a port with an open life
 open_plain : (job : Job) (i j : Life) (port : ℕ) (log : List Entry) (c : Connid) → PlainJob job i j → Local job port log → ArePlainHandles i j job.limits.first port log
     → open_life (deeds_at job port log) ≡ Some c → IsPlain (own_of job (life_of port c)) (of_life c (deeds_at job port log))
 unfolding deeds_at
@@ -133,15 +136,18 @@ pub record SendsOnce (job : Job) : Type 0 where
 abbrev pub sender_life : {job : Job} → SendsOnce job → Life
 sender_life f = record { port = record { 0 = 0 }; connid = f.sender }
 
+-- the life of the receiver
 abbrev pub receiver_life : {job : Job} → SendsOnce job → Life
 receiver_life f = record { port = record { 0 = 1 }; connid = f.receiver }
 
+-- a short message has room in one packet
 short_fits : (own : Own) (req : SendReq) → req.len ≤ 190 → 256 ≤ own.limits.mtu → FitsOnePacket own req
 short_fits own req short mtu = λ raw.
     let a = eager_room_is (is_some req.tag) (is_some req.cq_data) raw own.limits in
     let b = common_short (is_some req.tag) (is_some req.cq_data) raw in
     le-leb req.len (eager_room (is_some req.tag) (is_some req.cq_data) raw own.limits) (omega arith)
 
+-- the program of the sender is plain
 sending_rank : (own : Own) (peer : Life) (sender : Connid) (text : List ℕ) (req : SendReq) (count : ℕ) → own.life.connid ≡ sender → FitsOnePacket own req
     → PlainRank own peer (OpenLife sender ∷ Insert peer ∷ Reg text ∷ Send req ∷ Wait count ∷ [])
 unfolding open_count send_count
@@ -176,6 +182,7 @@ sending_rank own peer sender text req count mine fits = record {
   one_send = omega arith;
 }
 
+-- the program of the receiver is plain
 receiving_rank : (own : Own) (peer : Life) (receiver : Connid) (zeros : List ℕ) (req : RecvReq) (count : ℕ) → own.life.connid ≡ receiver
     → PlainRank own peer (OpenLife receiver ∷ Reg zeros ∷ Recv req ∷ Wait count ∷ [])
 unfolding open_count send_count
@@ -204,11 +211,13 @@ receiving_rank own peer receiver zeros req count mine = record {
   one_send = omega arith;
 }
 
+-- past two ranks there is none
 past_two : (a b : Rank) (port : ℕ) → (port ≡ 0 → ⊥) → (port ≡ 1 → ⊥) → (get_or (a ∷ b ∷ []) port no_rank).ops ≡ []
 past_two a b zero h k = absurd (h refl)
 past_two a b (suc zero) h k = absurd (k refl)
 past_two a b (suc (suc port)) h k = refl
 
+-- the two ports are different
 zero_one : (m n : ℕ) → m ≡ 0 → n ≡ 1 → m ≡ n → ⊥
 zero_one m n a b h = absurd (omega arith)
 

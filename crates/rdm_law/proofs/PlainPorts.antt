@@ -58,6 +58,7 @@ IsPlainHandle i j first port (Next index op answer) = Unit {0}
 IsPlainHandle i j first port (Push d) = Unit {0}
 IsPlainHandle i j first port (Poll c) = Unit {0}
 
+-- so of a whole log
 abbrev pub ArePlainHandles : (i j : Life) (first port : ℕ) → List Entry → Type 0
 ArePlainHandles i j first port [] = Unit {0}
 ArePlainHandles i j first port (e ∷ before) = ArePlainHandles i j first port before × IsPlainHandle i j first port e.act
@@ -72,16 +73,19 @@ DidIs P (Took from item) = Unit {0}
 DidIs P Polled = Unit {0}
 DidIs P Nothing = Unit {0}
 
+-- an instruction that did is what it is where it is next
 did_next : (P : Instr → Type 0) (o : Option Instr) (answer : Answer) → ((instr : Instr) → o ≡ Some instr → P instr) → DidIs P (deed_by_next o answer)
 unfolding deed_by_next
 did_next P (Some instr) (DidAnswer what) h = h instr refl
 did_next P _ _ h = tt
 
+-- a push is no instruction
 did_push : (P : Instr → Type 0) (body : Body) → DidIs P (deed_by_push body)
 unfolding deed_by_push
 did_push P (Note note) = tt
 did_push P (Between from to load) = tt
 
+-- a handling is no instruction
 did_handle : (P : Instr → Type 0) (src : PortNo) (body : Body) (answer : Handled) → DidIs P (deed_by_handle src body answer)
 unfolding deed_by_handle
 did_handle P src (Note note) (TookAnswer entered) = tt
@@ -96,6 +100,7 @@ did_member ops (Push d) = did_push (λ instr. Member instr ops) d.body
 did_member ops (Handle d answer) = did_handle (λ instr. Member instr ops) d.src d.body answer
 did_member ops (Poll c) = tt
 
+-- what is open after a deed of the program is the program's life
 opened_here : (own : Own) (peer : Life) (ops : List Instr) (o : Option Connid) (d : Deed) (c : Connid) → PlainRank own peer ops → DidIs (λ instr. Member instr ops) d
     → ((x : Connid) → o ≡ Some x → x ≡ own.life.connid) → open_after o d ≡ Some c → c ≡ own.life.connid
 unfolding open_after
@@ -110,6 +115,7 @@ open_is own peer ops [] c rank is = cc
 open_is own peer ops (e ∷ before) c rank is =
     opened_here own peer ops (open_life (deeds ops before)) (deed_of ops e.act) c rank (did_member ops e.act) (λ x h. open_is own peer ops before x rank h) is
 
+-- what is open after a deed was opened by it or before
 opened_counts : (o : Option Connid) (d : Deed) (c : Connid) (n : ℕ) → ((x : Connid) → o ≡ Some x → 1 ≤ n) → open_after o d ≡ Some c → 1 ≤ n + did_as open_count d
 unfolding open_after did_as open_count
 opened_counts o (Did (OpenLife x)) c n was is = omega arith
@@ -136,10 +142,12 @@ no_open (Await from what) h = tt
 no_open (Wait count) h = tt
 no_open CloseLife h = tt
 
+-- a plain packet is a plain item
 spelled_plain : (first : ℕ) (p : Packet) → IsPlainPacket first p → IsPlainLoad first (packet_item (Some p))
 unfolding packet_item
 spelled_plain first p h = h
 
+-- where all opens are counted the newest deed is none
 none_more : (before : List Deed) (d : Deed) (n : ℕ) → 1 ≤ deed_count (did_as open_count) before → deed_count (did_as open_count) (d ∷ before) ≤ n → n ≤ 1 → did_as open_count d ≤ 0
 unfolding deed_count
 none_more before d n once all most = omega arith
@@ -161,6 +169,7 @@ took_peer own i j port d (Between from to (Given g)) answer mine apart h dst = e
 took_peer own i j port d (Note note) (TookAnswer entered) mine apart h dst = tt
 took_peer own i j port d _ _ mine apart h dst = tt
 
+-- an instruction that did has to do with the other life alone
 did_with_peer : (own : Own) (peer : Life) (ops : List Instr) (d : Deed) → PlainRank own peer ops → DidIs (λ instr. Member instr ops) d
     → did_as open_count d ≤ 0 → DidIs (λ instr. IsPlainOp own peer instr × OpensNone instr) d
 did_with_peer own peer ops (Did instr) rank m none = (rank.plain instr m, no_open instr none)
@@ -171,17 +180,20 @@ did_with_peer own peer ops (Took from item) rank m none = tt
 did_with_peer own peer ops Polled rank m none = tt
 did_with_peer own peer ops Nothing rank m none = tt
 
+-- so has the deed of an instruction
 next_with_peer : (own : Own) (peer : Life) (o : Option Instr) (answer : Answer) → DidIs (λ instr. IsPlainOp own peer instr × OpensNone instr) (deed_by_next o answer)
     → IsWithPeer own peer (deed_by_next o answer)
 unfolding deed_by_next
 next_with_peer own peer (Some instr) (DidAnswer what) h = h
 next_with_peer own peer _ _ h = tt
 
+-- so has a push
 push_with_peer : (own : Own) (peer : Life) (body : Body) → IsWithPeer own peer (deed_by_push body)
 unfolding deed_by_push
 push_with_peer own peer (Note note) = tt
 push_with_peer own peer (Between from to load) = tt
 
+-- so has each act
 act_with_peer : (own : Own) (i j : Life) (port : ℕ) (ops : List Instr) (act : Act) → i.port.0 ≡ port → (i.port.0 ≡ j.port.0 → ⊥) → PlainRank own j ops
     → did_as open_count (deed_of ops act) ≤ 0 → IsPlainHandle i j own.limits.first port act → IsWithPeer own j (deed_of ops act)
 unfolding deed_of

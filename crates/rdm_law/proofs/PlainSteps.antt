@@ -37,18 +37,21 @@ pub record HasPlain (i j : Life) (first : ℕ) (w : World) : Type 0 where
 pub new_plain : (i j : Life) (first : ℕ) → HasPlain i j first new_world
 new_plain i j first = record { handled = λ port. tt; waiting = λ port d m. elim m [ ] }
 
+-- handled datagrams are plain with one more that is
 handled_plain : (i j : Life) (first : ℕ) (logs : ℕ → List Entry) (port : ℕ) (e : Entry) → ((p : ℕ) → ArePlainHandles i j first p (logs p)) → IsPlainHandle i j first port e.act
     → (p : ℕ) → ArePlainHandles i j first p (put_at port (e ∷ logs port) logs p)
 handled_plain i j first logs port e h new p =
     put_at_case (λ (log : List Entry). ArePlainHandles i j first p log) port (e ∷ logs port) logs p
     (λ is. subst (λ (x : ℕ). ArePlainHandles i j first x (e ∷ logs port)) (sym is) (h port, new)) (λ other. h p)
 
+-- such an act handles nothing
 quiet_handle : (i j : Life) (first port : ℕ) (act : Act) → IsQuiet act → IsPlainHandle i j first port act
 quiet_handle i j first port (Next index op answer) q = tt
 quiet_handle i j first port (Push d) q = tt
 quiet_handle i j first port (Handle d answer) q = elim q [ ]
 quiet_handle i j first port (Poll c) q = tt
 
+-- an entry that neither pushes nor handles
 quiet_plain : (job : Job) (i j : Life) (first : ℕ) (w : World) (port : ℕ) (act : Act) → IsQuiet act → HasPlain i j first w → HasPlain i j first (with_entry job w port act)
 unfolding with_entry
 quiet_plain job i j first w port act q h = record {
@@ -56,6 +59,7 @@ quiet_plain job i j first w port act q h = record {
   waiting = h.waiting;
 }
 
+-- an instruction
 next_plain : (job : Job) (i j : Life) (first : ℕ) (w : World) (port : ℕ) (o : Option Instr) → HasPlain i j first w → HasPlain i j first (step_next job w port o)
 unfolding step_next next_act
 next_plain job i j first w port None h = h
@@ -63,12 +67,14 @@ next_plain job i j first w port (Some instr) h =
     chosen (HasPlain i j first) (is_entry (answer_of (scene_in job w port) instr) && not (is_worn job (w.logs port))) _ w
     (λ yes. quiet_plain job i j first w port (next_act (w.logs port) instr (answer_of (scene_in job w port) instr)) tt h) (λ no. h)
 
+-- a poll
 poll_plain : (job : Job) (i j : Life) (first : ℕ) (w : World) (port : ℕ) (o : Option Completion) → HasPlain i j first w → HasPlain i j first (with_poll job w port o)
 unfolding with_poll
 poll_plain job i j first w port None h = h
 poll_plain job i j first w port (Some c) h =
     chosen (HasPlain i j first) (is_worn job (w.logs port)) w _ (λ yes. h) (λ no. quiet_plain job i j first w port (Poll c) tt h)
 
+-- what waits is plain with one more that is
 more_plain : (i j : Life) (first : ℕ) (w : World) (d : Datagram) → HasPlain i j first w → IsPlainBody i j first d d.body
     → (port : ℕ) (q : Datagram) → Member q (one_more (waiting_in w) d port) → IsPlainBody i j first q q.body × (q.dst.0 ≡ port)
 more_plain i j first w d h new port q m =
@@ -77,6 +83,7 @@ more_plain i j first w d h new port q m =
       | inr k ↦ h.waiting port q k
     ]
 
+-- a push
 push_plain : (job : Job) (i j : Life) (first : ℕ) (w : World) (port : ℕ) (d : Datagram) → IsPlainBody i j first d d.body → HasPlain i j first w
     → HasPlain i j first (with_push job w port d)
 unfolding with_push with_entry
@@ -87,6 +94,7 @@ push_plain job i j first w port d new h =
       waiting = λ p q m. more_plain i j first w d h new p q (subst (λ (ds : List Datagram). Member q ds) (queue_more w d p) m);
     })
 
+-- the next datagram
 goes_plain : (job : Job) (i j : Life) (w : World) (port : ℕ) (o : Option Going) → IsTrue (is_fair law_ops job) → PlainJob job i j → Sound job w
     → going (own_scene job port (deeds_at job port (w.logs port))) ≡ o → HasPlain i j job.limits.first w → HasPlain i j job.limits.first (step_push job w port o)
 unfolding step_push datagram_of scene_in
@@ -96,6 +104,7 @@ goes_plain job i j w port (Some (Goes to item)) fair plain s is h =
     push_plain job i j job.limits.first w port (datagram_of job w port (Goes to item))
     (any_goes job i j port (w.logs port) to item (datagram_of job w port (Goes to item)) fair plain (s.local port) (s.handled port) (h.handled port) is refl refl) h
 
+-- a fetch
 fetch_plain : (job : Job) (i j : Life) (first : ℕ) (w : World) (port : ℕ) → HasPlain i j first w → HasPlain i j first (after_fetch job w port)
 unfolding after_fetch
 fetch_plain job i j first w port h = record {
@@ -103,6 +112,7 @@ fetch_plain job i j first w port h = record {
   waiting = λ p d m. h.waiting p d (subst (λ (ds : List Datagram). Member d ds) (fetch_waits job w port p) m);
 }
 
+-- a handling
 handle_plain : (job : Job) (i j : Life) (first : ℕ) (w : World) (port place : ℕ) (o : Option Datagram) → slice_get (w.stashes port) place ≡ o → HasPlain i j first w
     → HasPlain i j first (with_handle job w port place o)
 unfolding with_handle with_entry

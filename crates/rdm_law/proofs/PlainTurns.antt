@@ -30,6 +30,7 @@ use Rattle.rdm_law.proofs.Owed.{NewReply, OwedIn, shape_in, recv_in}
 use Rattle.rdm_law.proofs.SentFits.{SentFits}
 use Rattle.rdm_law.proofs.PlainDeeds.{FitsOnePacket, IsPlainLoad, IsWithPeer, AreWithPeer, current_peer}
 
+-- a head that a plain packet tells is of one packet
 plain_head : (first : ℕ) (source : Life) (n : ℕ) (from : Life) (item : Item) (h : Head) → IsPlainLoad first item → head_by source n (Took from item) ≡ Some h → h.shape ≡ S.Eager
 unfolding head_by head_of shape_of
 plain_head first source n from (Spelled (Rtm number tag opt (F.Eager bytes))) h k is =
@@ -40,11 +41,13 @@ plain_head first source n from (Spelled (Rtm number tag opt (F.LongRead size sen
 plain_head first source n from (Spelled (Rtm number tag opt (F.Runt size send iov runt offset bytes))) h k is = elim k [ ]
 plain_head first source n from _ h k is = cc
 
+-- so is one that a deed tells
 peer_head : (own : Own) (peer source : Life) (n : ℕ) (d : Deed) (h : Head) → IsWithPeer own peer d → head_by source n d ≡ Some h → h.shape ≡ S.Eager
 unfolding head_by
 peer_head own peer source n (Took from item) h k is = plain_head own.limits.first source n from item h k.1 is
 peer_head own peer source n _ h k is = cc
 
+-- so is one that was heard
 heard_eager : (own : Own) (peer source : Life) (n : ℕ) (log : List Deed) (h : Head) → AreWithPeer own peer log → heard_head log source n ≡ Some h → h.shape ≡ S.Eager
 unfolding heard_head
 heard_eager own peer source n [] h k is = cc
@@ -54,6 +57,7 @@ heard_eager own peer source n (d ∷ before) h k is =
       | inr a ↦ peer_head own peer source n d h k.1 a.1
     ]
 
+-- so is a head, or none
 eager_or_none : (o : Option Head) → ((h : Head) → o ≡ Some h → h.shape ≡ S.Eager) → (unwrap_or o no_head).shape ≡ S.Eager
 eager_or_none None f = refl
 eager_or_none (Some h) f = f h refl
@@ -67,6 +71,7 @@ all_eager own peer log k source n = eager_or_none (heard_head log source n) (λ 
 abbrev pub IsPlainGoing : Own → (peer to : Life) → Item → Type 0
 IsPlainGoing own peer to item = (to ≡ peer) × IsPlainLoad own.limits.first item
 
+-- a whole message owes no ask
 no_ask : (shape : Shape) (recv : OpId) (ask : ReadAsk) → shape ≡ S.Eager → Member ask (asks_for shape recv) → ⊥
 unfolding asks_for
 no_ask S.Eager recv ask is m = m
@@ -75,6 +80,7 @@ no_ask (S.LongCts send credits) recv ask is m = m
 no_ask (S.LongRead send iov) recv ask is m = cc
 no_ask (S.Runt send iov runt) recv ask is m = cc
 
+-- a whole message owes no end
 no_end : (own : Own) (shape : Shape) (recv send : OpId) → shape ≡ S.Eager → end_for own shape recv ≡ Spelled (Eor send recv own.life.connid) ∷ [] → ⊥
 unfolding end_for
 no_end own S.Eager recv send is h = cc
@@ -83,6 +89,7 @@ no_end own (S.LongCts s credits) recv send is h = cc
 no_end own (S.LongRead s iov) recv send is h = cc
 no_end own (S.Runt s iov runt) recv send is h = cc
 
+-- a whole message is not granted
 no_long : (send : OpId) (credits : ℕ) → S.Eager ≡ S.LongCts send credits → ⊥
 no_long send credits h = cc
 
@@ -103,6 +110,7 @@ plain_reply own peer heads sents d before r eager k (inr (inr (inr (inr new)))) 
     let took : IsWithPeer own peer (Took r.to (Asks new.ask)) = subst (IsWithPeer own peer) new.took k in
     elim took.1 [ ]
 
+-- each reply that was owed is a handshake to the other life
 pub plain_owed : (own : Own) (peer : Life) (ms : Messages) (log : List Deed) (r : Reply) → ((source : Life) (n : ℕ) → (ms.head source n).shape ≡ S.Eager) → AreWithPeer own peer log
     → OwedIn own ms r log → IsPlainGoing own peer r.to r.item
 plain_owed own peer ms [] r eager k i = elim i [ ]
@@ -114,11 +122,13 @@ pub record PlainSent (own : Own) (peer : Life) (s : Sent) : Type 0 where
   pub to : s.to ≡ peer
   pub fits : FitsOnePacket own s.req
 
+-- a new send of such a request is plain
 new_plain : (own : Own) (before : List Deed) (count messages : ℕ) (req : SendReq) (to peer : Life) (bytes : List ℕ) → to ≡ peer → FitsOnePacket own req
     → PlainSent own peer (new_sent own before count messages req to bytes)
 unfolding new_sent
 new_plain own before count messages req to peer bytes is fits = record { to = is; fits = fits }
 
+-- each send of a plain life is plain
 pub plain_sends : (own : Own) (peer : Life) (ms : Messages) (log : List Deed) → AreWithPeer own peer log → (s : Sent) → Member s (sends own ms log) → PlainSent own peer s
 unfolding sends
 plain_sends own peer ms [] k s m = elim m [ ]
@@ -134,6 +144,7 @@ plain_sends own peer ms (d ∷ before) k s m =
     (current_peer own peer n.req.to.0 before n.to k.0 n.current) did.0))
     s m
 
+-- a message that has room in one packet goes in one
 eager_chosen : (n : ℕ) (tagged cq_data raw : Bool) (features : ℕ) (known : Option ℕ) (limits : EpLimits) → nat_le n (eager_room tagged cq_data raw limits) ≡ true
     → choose n tagged cq_data raw features known limits ≡ Eager
 unfolding choose

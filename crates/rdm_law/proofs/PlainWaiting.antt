@@ -52,6 +52,7 @@ unfolding of_open_life is_heard heard_head
 open_unheard job i j w port n d None fair plain p m has = refl
 open_unheard job i j w port n d (Some c) fair plain p m has = waits_unheard job i j w port c d n fair plain p m has
 
+-- a packet that opens a message of a life is one
 has_message : (i : Life) (d : Datagram) (from to : Connid) (bytes : List ℕ) (number : MsgNo) (tag : Option ℕ) (opt : Opt) (form : Form) → d.body ≡ Between from to (PacketLoad bytes)
     → life d.src from ≡ i → packet_in bytes ≡ Some (Rtm number tag opt form) → HasMessage i d
 unfolding item_of packet_item
@@ -86,6 +87,7 @@ packet_built job i j w port d from to bytes (Cts send recv size connid) o fair p
 packet_built job i j w port d from to bytes (CtsData recv offset connid data') o fair plain world m body is packet h = h
 packet_built job i j w port d from to bytes (Eor send recv connid) o fair plain world m body is packet h = h
 
+-- what waits is built
 body_built : (job : Job) (i j : Life) (w : World) (port : ℕ) (d : Datagram) (body : Body) (o : Option Connid) → IsTrue (is_fair law_ops job) → PlainJob job i j → PlainWorld job i j w
     → Member d (waiting_in w port) → d.body ≡ body → IsPlainBody i j job.limits.first d body
     → IsBuiltBody (own_of job (life_at port o)) (of_open_life o (deeds_at job port (w.logs port))) d body

@@ -49,22 +49,26 @@ pub record PlainJob (job : Job) (i j : Life) : Type 0 where
 pub swapped : (job : Job) (i j : Life) → PlainJob job i j → PlainJob job j i
 swapped job i j p = record { apart = λ e. p.apart (sym e); rank_i = p.rank_j; rank_j = p.rank_i; others = λ port a b. p.others port b a }
 
+-- so of the lives that a datagram goes between
 swapped_between : (i j from to : Life) → IsBetween i j from to → IsBetween j i from to
 swapped_between i j from to (inl a) = inr a
 swapped_between i j from to (inr a) = inl a
 
+-- so of what a datagram has in it
 pub swapped_body : (i j : Life) (first : ℕ) (d : Datagram) (body : Body) → IsPlainBody i j first d body → IsPlainBody j i first d body
 swapped_body i j first d (Note note) h = tt
 swapped_body i j first d (Between from to (PacketLoad bytes)) h = (swapped_between i j (life d.src from) (life d.dst to) h.0, h.1)
 swapped_body i j first d (Between from to (Ask a)) h = h
 swapped_body i j first d (Between from to (Given g)) h = h
 
+-- so of what an act handles
 swapped_handle : (i j : Life) (first port : ℕ) (act : Act) → IsPlainHandle i j first port act → IsPlainHandle j i first port act
 swapped_handle i j first port (Handle d answer) h = (swapped_body i j first d d.body h.0, h.1)
 swapped_handle i j first port (Next index op answer) h = tt
 swapped_handle i j first port (Push d) h = tt
 swapped_handle i j first port (Poll c) h = tt
 
+-- so of what a log handled
 pub swapped_handles : (i j : Life) (first port : ℕ) (log : List Entry) → ArePlainHandles i j first port log → ArePlainHandles j i first port log
 swapped_handles i j first port [] h = tt
 swapped_handles i j first port (e ∷ before) h = (swapped_handles i j first port before h.0, swapped_handle i j first port e.act h.1)
@@ -113,12 +117,15 @@ open_goes job i j log to item c d fair plain l fit h is goes src dst =
     let to_j : life d.dst to.connid ≡ j = ap (λ x. life x to.connid) dst ∙ goes_to.0 in
     plain_load i j job.limits.first d c to.connid item (inl (from_i, to_j)) goes_to.1 (goes_well job fair i.port.0 log to item l fit goes)
 
+-- none is not some
 nothing_some : (c : Connid) → None ≡ Some c → ⊥
 nothing_some c h = cc
 
+-- a datagram of a port is of a life's port
 of_port : (l : Life) (d : Datagram) (port : ℕ) → port ≡ l.port.0 → d.src.0 ≡ port → d.src ≡ l.port
 of_port l d port is src = ap (λ (n : ℕ). let x : PortNo = record { 0 = n } in x) (src ∙ is)
 
+-- what goes out of a port with an open life
 opened_goes : (job : Job) (i j : Life) (port : ℕ) (log : List Entry) (to : Life) (item : Item) (c : Connid) (d : Datagram) → IsTrue (is_fair law_ops job) → PlainJob job i j
     → Local job port log → AllHandledFit log → ArePlainHandles i j job.limits.first port log → open_life (deeds_at job port log) ≡ Some c
     → going (own_scene job port (deeds_at job port log)) ≡ Some (Goes to item) → d.src.0 ≡ port → d.dst ≡ to.port

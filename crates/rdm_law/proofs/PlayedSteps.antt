@@ -53,6 +53,7 @@ turn_keeps job P keeps port w is h =
     let pc : P c = first_handle_keeps job P keeps n port 0 b is pb in
     keeps c (Choice.Poll port) is pc
 
+-- the parts of some ports
 pub turns_keep : (job : Job) (P : World → Type 0) → Keeps job P → (ports : List ℕ) (w : World) → ((port : ℕ) → Member port ports → port < port_count job) → P w
     → P (turns_of job w ports)
 unfolding turns_of

@@ -74,10 +74,12 @@ end_agrees job w history port played is =
     ap (λ (log : List Entry). Q log (left_at job port (scene_in job w port) (w.logs port))) (sym is)
     ∙ ap (λ (left : Option Answer). Q (log_of port history) left) (left_agrees job port w history played is)
 
+-- functions that are the same make the same list
 map_alike : {A B : Type 0} (f g : A → B) (xs : List A) → ((x : A) → f x ≡ g x) → map f xs ≡ map g xs
 map_alike f g [] h = refl
 map_alike {A} {B} f g (x ∷ xs) h = ap (λ (y : B). y ∷ map f xs) (h x) ∙ ap (λ (ys : List B). g x ∷ ys) (map_alike f g xs h)
 
+-- tests that are the same pass the same lists
 any_alike : {A : Type 0} (f g : A → Bool) (xs : List A) → ((x : A) → f x ≡ g x) → list_any f xs ≡ list_any g xs
 any_alike f g [] h = refl
 any_alike f g (x ∷ xs) h = ap (λ (b : Bool). b || list_any f xs) (h x) ∙ ap (λ (b : Bool). g x || b) (any_alike f g xs h)

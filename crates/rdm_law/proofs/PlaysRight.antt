@@ -43,6 +43,7 @@ unfolding stashed_end end_in end_of
 exact_end job history stashed port is =
     ap (λ (n : ℕ). let x : End = record (end_in job history port) { waiting = n } in x) is
 
+-- functions that are the same on a list make the same list
 map_members : {A B : Type 0} (f g : A → B) (xs : List A) → ((x : A) → Member x xs → f x ≡ g x) → map f xs ≡ map g xs
 map_members f g [] h = refl
 map_members {A} {B} f g (x ∷ xs) h = ap (λ (y : B). y ∷ map f xs) (h x (inl refl)) ∙ ap (λ (ys : List B). g x ∷ ys) (map_members f g xs (λ y m. h y (inr m)))

@@ -28,9 +28,11 @@ pub record Still (w v : World) : Type 0 where
   pub queues : (p : ℕ) → v.queues p ≡ w.queues p
   pub stashes : (p : ℕ) → v.stashes p ≡ w.stashes p
 
+-- a world is as it is
 pub still_refl : (w : World) → Still w w
 still_refl w = record { changes = refl; logs = λ p. refl; queues = λ p. refl; stashes = λ p. refl }
 
+-- one after the other
 pub still_then : (w v u : World) → Still w v → Still v u → Still w u
 still_then w v u a b = record {
   changes = b.changes ∙ a.changes;
@@ -68,16 +70,20 @@ abbrev pub PlaceQuiet : Job → ℕ → List Entry → List Datagram → ℕ →
 PlaceQuiet job port log stash place =
     (d : Datagram) → slice_get stash place ≡ Some d → (is_again_early class_of (own_scene job port (deeds_at job port log)) d || is_worn_by job log d) ≡ true
 
+-- none is not some
 pub none_some : {A : Type 0} {o : Option A} {x : A} → o ≡ None → o ≡ Some x → ⊥
 none_some a b = cc
 
+-- one option has one value
 pub some_same : {A : Type 0} {o : Option A} {x y : A} → o ≡ Some x → o ≡ Some y → x ≡ y
 some_same a b = cc
 
+-- an entry is a change
 pub entry_grows : (job : Job) (w : World) (port : ℕ) (act : Act) → w.changes < (with_entry job w port act).changes
 unfolding with_entry
 entry_grows job w port act = omega arith
 
+-- the next instruction, if there is one
 next_by : (job : Job) (w : World) (port : ℕ) (o : Option Instr) → instruction_left job port (w.logs port) ≡ o → Outcome w (step_next job w port o) (NextQuiet job port (w.logs port))
 unfolding step_next scene_in
 next_by job w port None is = inr (still_refl w, λ instr h. absurd (none_some is h))
@@ -95,6 +101,7 @@ pub next_outcome : (job : Job) (w : World) (port : ℕ) → Outcome w (after_cho
 unfolding after_choice
 next_outcome job w port = next_by job w port (instruction_left job port (w.logs port)) refl
 
+-- the next completion, if there is one
 poll_by : (job : Job) (w : World) (port : ℕ) (o : Option Completion) → next_completion (own_scene job port (deeds_at job port (w.logs port))) ≡ o
     → Outcome w (with_poll job w port o) (PollQuiet job port (w.logs port))
 unfolding with_poll
@@ -108,11 +115,13 @@ pub poll_outcome : (job : Job) (w : World) (port : ℕ) → Outcome w (after_cho
 unfolding after_choice scene_in
 poll_outcome job w port = poll_by job w port (next_completion (own_scene job port (deeds_at job port (w.logs port)))) refl
 
+-- a datagram goes to its port
 goes_where : (job : Job) (w : World) (port : ℕ) (g : Going) → (datagram_of job w port g).dst.0 ≡ going_to g
 unfolding datagram_of going_to
 goes_where job w port (GoesNote note) = refl
 goes_where job w port (Goes to item) = refl
 
+-- the next datagram, if there is one
 push_by : (job : Job) (w : World) (port : ℕ) (o : Option Going) → going (own_scene job port (deeds_at job port (w.logs port))) ≡ o
     → Outcome w (step_push job w port o) (PushQuiet job port (w.logs port) w.queues)
 unfolding step_push with_push with_entry

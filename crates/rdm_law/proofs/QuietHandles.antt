@@ -19,29 +19,36 @@ use Rattle.rdm_law.proofs.Sound.{chosen, or_false}
 use Rattle.rdm_law.proofs.Quiet.{Still, still_refl, still_then, Outcome, PlaceQuiet, none_some, some_same, entry_grows, next_outcome, push_outcome, poll_outcome}
 use Rattle.rdm_law.proofs.PlayedSteps.{Keeps, first_handle_keeps}
 
+-- no step makes fewer changes
 pub at_most : (w v : World) (Why : Type 0) → Outcome w v Why → w.changes ≤ v.changes
 at_most w v Why (inl less) = omega arith
 at_most w v Why (inr a) = let e = a.0.changes in omega arith
 
+-- a queue of which nothing is fetched is empty
 no_more : (ds : List Datagram) (n : ℕ) → min n (length ds) ≡ 0 → 0 < n → ds ≡ []
 no_more [] n h some = refl
 no_more (d ∷ ds) n h some = absurd (omega arith)
 
+-- of an empty queue nothing is fetched
 empty_min : (n : ℕ) (ds : List Datagram) → ds ≡ [] → min n (length ds) ≡ 0
 empty_min n ds is = (let e : length ds ≡ 0 = ap (λ (l : List Datagram). length l) is in omega arith)
 
+-- nothing without its first elements
 drop_none : (n : ℕ) → ◌≡◌ {A = List Datagram} (drop n []) []
 drop_none zero = refl
 drop_none (suc n) = refl
 
+-- the first elements of nothing
 take_none : (n : ℕ) → ◌≡◌ {A = List Datagram} (take n []) []
 take_none zero = refl
 take_none (suc n) = refl
 
+-- the second of two tests of which the first is denied
 not_or : (a b : Bool) → a ≡ true → (not a || b) ≡ true → b ≡ true
 not_or true b h k = k
 not_or false b h k = cc
 
+-- a fetch of something is a change
 fetch_moves : (job : Job) (w : World) (port : ℕ) → 0 < min job.inbox (length (w.queues port)) → w.changes < (after_fetch job w port).changes
 unfolding after_fetch
 fetch_moves job w port moved = omega arith
@@ -59,6 +66,7 @@ fetch_still job w port none = record {
       ∙ ap (λ (x : ℕ). w.stashes x) (sym is)) (λ other. refl);
 }
 
+-- a fetch
 fetch_outcome : (job : Job) (w : World) (port : ℕ) → 0 < job.inbox → Outcome w (after_fetch job w port) (w.queues port ≡ [])
 fetch_outcome job w port some =
     elim (cases_lt 0 (min job.inbox (length (w.queues port)))) [
@@ -66,6 +74,7 @@ fetch_outcome job w port some =
       | inr none ↦ (let empty = no_more (w.queues port) job.inbox (omega arith) some in inr (fetch_still job w port empty, empty))
     ]
 
+-- the datagram at a place, if there is one
 place_by : (job : Job) (w : World) (port place : ℕ) (o : Option Datagram) → slice_get (w.stashes port) place ≡ o
     → Outcome w (with_handle job w port place o) (PlaceQuiet job port (w.logs port) (w.stashes port) place)
 unfolding with_handle with_entry scene_in
@@ -93,6 +102,7 @@ still_place job port w v place s q =
     let Q : List Datagram → Type 0 = λ ds. PlaceQuiet job port (w.logs port) ds place in
     subst Q (s.stashes port) (subst P (s.logs port) q)
 
+-- the datagram at a pick
 pick_outcome : (job : Job) (w : World) (port pick : ℕ) → Outcome w (after_pick job w port pick) (pick < length (w.stashes port) → PlaceQuiet job port (w.logs port) (w.stashes port) pick)
 unfolding after_pick after_handle_at
 pick_outcome job w port pick =
@@ -130,6 +140,7 @@ try_outcome job w port pick some =
       ]
     ]
 
+-- the choice to handle
 pub handle_outcome : (job : Job) (w : World) (port pick : ℕ) → 0 < job.inbox → Outcome w (after_choice job w (Choice.Handle port pick)) (TryQuiet job port w pick)
 unfolding after_choice
 handle_outcome job w port pick some = try_outcome job w port pick some
@@ -149,6 +160,7 @@ grows_keeps job n some w c rank h = let more = choice_grows job w c some in omeg
 abbrev pub PlacesQuiet : Job → ℕ → World → ℕ → Type 0
 PlacesQuiet job port w pick = (k : ℕ) → pick ≤ k → k < length (w.stashes port) → PlaceQuiet job port (w.logs port) (w.stashes port) k
 
+-- where the last try changed nothing no place is left after it
 same_length : (job : Job) (port pick : ℕ) (w v : World) → Still w v → is_last_try port pick w v ≡ true → length (w.stashes port) ≤ pick + 1
 unfolding is_last_try
 same_length job port pick w v s last =
@@ -203,6 +215,7 @@ tries_outcome job (suc fuel) port pick w some rank enough =
 abbrev pub HandleQuiet : Job → ℕ → World → Type 0
 HandleQuiet job port w = (w.queues port ≡ []) × PlacesQuiet job port w 0
 
+-- tries of which there is at least one
 handle_suc : (job : Job) (fuel : ℕ) (w : World) (port : ℕ) → 0 < job.inbox → port < port_count job → length (w.stashes port) ≤ fuel
     → Outcome w (after_first_handle (suc fuel) job port 0 w) (HandleQuiet job port w)
 unfolding after_first_handle try_then

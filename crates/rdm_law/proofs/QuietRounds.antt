@@ -34,6 +34,7 @@ still_push job port w v s q g goes =
     let R : List Entry → Type 0 = λ log. (is_worn job log || nat_le job.inbox (length (w.queues (going_to g)))) ≡ true in
     subst R (s.logs port) (subst Q (s.queues (going_to g)) (q g (subst P (sym (s.logs port)) goes)))
 
+-- so of all that a port could do
 pub still_turn : (job : Job) (port : ℕ) (w v : World) → Still w v → TurnQuiet job port v → TurnQuiet job port w
 still_turn job port w v s q = record {
   next = subst (NextQuiet job port) (s.logs port) q.next;
@@ -44,9 +45,11 @@ still_turn job port w v s q = record {
       still_place job port w v k s (q.places k low (subst (λ (ds : List Datagram). k < length ds) (sym (s.stashes port)) high));
 }
 
+-- and back
 pub still_back : (w v : World) → Still w v → Still v w
 still_back w v s = record { changes = sym s.changes; logs = λ p. sym (s.logs p); queues = λ p. sym (s.queues p); stashes = λ p. sym (s.stashes p) }
 
+-- so of what it could handle
 still_handle : (job : Job) (port : ℕ) (w v : World) → Still w v → HandleQuiet job port v → HandleQuiet job port w
 still_handle job port w v s h =
     (sym (s.queues port) ∙ h.0, λ k low high. still_place job port w v k s (h.1 k low (subst (λ (ds : List Datagram). k < length ds) (sym (s.stashes port)) high)))
@@ -85,6 +88,7 @@ turn_outcome job w port some rank =
 abbrev pub AllQuiet : Job → List ℕ → World → Type 0
 AllQuiet job ports w = (port : ℕ) → Member port ports → TurnQuiet job port w
 
+-- the parts of some ports
 turns_outcome : (job : Job) (ports : List ℕ) (w : World) → 0 < job.inbox → ((port : ℕ) → Member port ports → port < port_count job) → Outcome w (turns_of job w ports) (AllQuiet job ports w)
 unfolding turns_of
 turns_outcome job [] w some ranks = inr (still_refl w, λ port m. elim m [ ])

@@ -40,12 +40,14 @@ use Rattle.rdm_law.proofs.QuietRounds.{TurnQuiet, AllQuiet}
 abbrev pub GoesToRanks : Job → World → Type 0
 GoesToRanks job w = (port : ℕ) (g : Going) → going (own_scene job port (deeds_at job port (w.logs port))) ≡ Some g → going_to g < port_count job
 
+-- an answer that makes no entry, or yields to the end of the clock
 no_entry_left : (entry worn : Bool) (a : Answer) → is_entry a ≡ entry → (entry && not worn) ≡ false → is_entry (cond (entry && worn) Worn a) ≡ false
 unfolding is_entry
 no_entry_left true true a is h = refl
 no_entry_left true false a is h = cc
 no_entry_left false worn a is h = is
 
+-- the next instruction would be no entry
 quiet_left : (job : Job) (port : ℕ) (log : List Entry) (o : Option Instr) → instruction_left job port log ≡ o → NextQuiet job port log
     → is_no_entry (left_answer job (own_scene job port (deeds_at job port log)) log o) ≡ true
 unfolding left_answer is_no_entry answer_or_worn
@@ -54,6 +56,7 @@ quiet_left job port log (Some instr) is q =
     let a = answer_of (own_scene job port (deeds_at job port log)) instr in
     ap (λ (b : Bool). not b) (no_entry_left (is_entry a) (is_worn job log) a refl (q instr is))
 
+-- nothing goes out
 quiet_push : (job : Job) (port : ℕ) (log : List Entry) (queues : ℕ → List Datagram) (o : Option Going) → 0 < job.inbox → going (own_scene job port (deeds_at job port log)) ≡ o
     → ((g : Going) → o ≡ Some g → queues (going_to g) ≡ []) → PushQuiet job port log queues → (is_none o || is_worn job log) ≡ true
 quiet_push job port log queues None some is empty q = refl
@@ -66,15 +69,18 @@ quiet_push job port log queues (Some g) some is empty q =
           absurd (omega arith)
     ]
 
+-- no completion is left
 quiet_poll : (job : Job) (port : ℕ) (log : List Entry) (o : Option Completion) → next_completion (own_scene job port (deeds_at job port log)) ≡ o → PollQuiet job port log
     → (is_none o || is_worn job log) ≡ true
 quiet_poll job port log None is q = refl
 quiet_poll job port log (Some c) is q = q c is
 
+-- there is no next completion
 next_is_none : (s : Scene) → next_completion_is_none s ≡ is_none (next_completion s)
 unfolding next_completion_is_none next_completion
 next_is_none s = refl
 
+-- a test that each element passes
 all_from_members : {A : Type 0} (p : A → Bool) (xs : List A) → ((x : A) → Member x xs → p x ≡ true) → list_all p xs ≡ true
 all_from_members p [] h = refl
 all_from_members p (x ∷ xs) h = and_from (p x) (list_all p xs) (h x (inl refl)) (all_from_members p xs (λ y m. h y (inr m)))
@@ -96,6 +102,7 @@ waits_quiet job w history port d s joint played q m =
     subst P (sym (joint.logs_are port)) place in
     subst (λ (b : Bool). (b || is_worn_by job (log_of port history) d) ≡ true) (early_agreed job port history d (all_free job) played there.for_it there.pushed there.fresh) own
 
+-- the next instruction answers the same by both accounts
 left_is : (job : Job) (port : ℕ) (history log : List Entry) → Played job history
     → left_answer job (own_scene job port (deeds_at job port (log_of port history))) log (instruction_left job port log)
     ≡ left_answer job (sent_scene job port history) log (instruction_left job port log)

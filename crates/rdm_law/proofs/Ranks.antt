@@ -40,20 +40,24 @@ LifeIs P (Did (Insert life)) = P life
 LifeIs P (Took from item) = P from
 LifeIs P _ = Unit {0}
 
+-- so of all deeds
 abbrev pub LivesAre : (Life → Type 0) → List Deed → Type 0
 LivesAre P [] = Unit {0}
 LivesAre P (d ∷ before) = LivesAre P before × LifeIs P d
 
+-- what a deed inserts
 inserted_is : (P : Life → Type 0) (port : ℕ) (d : Deed) (l : Life) → LifeIs P d → inserted_by port d ≡ Some l → P l
 unfolding inserted_by
 inserted_is P port (Did (Insert life)) l h is = subst P (then_some_parts _ life l is).1 h
 inserted_is P port _ l h is = cc
 
+-- what a deed takes from
 seen_is : (P : Life → Type 0) (port : ℕ) (d : Deed) (l : Life) → LifeIs P d → seen_by port d ≡ Some l → P l
 unfolding seen_by
 seen_is P port (Took from item) l h is = subst P (then_some_parts _ from l is).1 h
 seen_is P port _ l h is = cc
 
+-- what was inserted last
 last_inserted_is : (P : Life → Type 0) (port : ℕ) (log : List Deed) (l : Life) → LivesAre P log → last_inserted log port ≡ Some l → P l
 unfolding last_inserted
 last_inserted_is P port [] l h is = cc
@@ -63,6 +67,7 @@ last_inserted_is P port (d ∷ before) l h is =
       | inr a ↦ last_inserted_is P port before l h.0 a.1
     ]
 
+-- what was taken from first
 first_seen_is : (P : Life → Type 0) (port : ℕ) (log : List Deed) (l : Life) → LivesAre P log → first_seen log port ≡ Some l → P l
 unfolding first_seen
 first_seen_is P port [] l h is = cc
@@ -81,6 +86,7 @@ current_is P port log l h is =
       | inr a ↦ first_seen_is P port log l h a.1
     ]
 
+-- a new send goes to its life
 new_to : (P : Life → Type 0) (own : Own) (before : List Deed) (count messages : ℕ) (req : SendReq) (to : Life) (bytes : List ℕ) → P to → P (new_sent own before count messages req to bytes).to
 unfolding new_sent
 new_to P own before count messages req to bytes h = h
@@ -99,6 +105,7 @@ sends_are_to P own ms (d ∷ before) h s m =
         (current_is P n.req.to.0 before n.to h.0 n.current)))
     s m
 
+-- a life that was taken from
 took_is : (P : Life → Type 0) (from : Life) (item : Item) (log : List Deed) → LivesAre P log → Member (Took from item) log → P from
 took_is P from item [] h m = elim m [ ]
 took_is P from item (d ∷ before) h (inl is) = (let mine : LifeIs P (Took from item) = subst (LifeIs P) is h.1 in mine)
@@ -111,6 +118,7 @@ pair_is P first heads log p h m =
     let t = heard_taken log p.message.life p.message.no.0 heard.0 heard.1 in
     took_is P p.message.life _ log h t.took
 
+-- a reply that a deed makes owed
 reply_is : (P : Life → Type 0) (own : Own) (ms : Messages) (d : Deed) (before : List Deed) (r : Reply) → LivesAre P (d ∷ before) → NewReply own ms.head (sends own ms before) d before r → P r.to
 reply_is P own ms d before r h (inl new) = (let mine : LifeIs P (Took r.to new.item) = subst (LifeIs P) new.took h.1 in mine)
 reply_is P own ms d before r h (inr (inl new)) = subst P new.to_is (pair_is P own.limits.first ms.head (d ∷ before) new.pair h new.member)
@@ -118,6 +126,7 @@ reply_is P own ms d before r h (inr (inr (inl new))) = subst P new.to_is (pair_i
 reply_is P own ms d before r h (inr (inr (inr (inl new)))) = subst P new.to_is (pair_is P own.limits.first ms.head (d ∷ before) new.pair h new.member)
 reply_is P own ms d before r h (inr (inr (inr (inr new)))) = (let mine : LifeIs P (Took r.to (Asks new.ask)) = subst (LifeIs P) new.took h.1 in mine)
 
+-- a reply that was owed
 owed_is : (P : Life → Type 0) (own : Own) (ms : Messages) (log : List Deed) (r : Reply) → LivesAre P log → OwedIn own ms r log → P r.to
 owed_is P own ms [] r h i = elim i [ ]
 owed_is P own ms (d ∷ before) r h (inl new) = reply_is P own ms d before r h new
@@ -167,6 +176,7 @@ notes_are_to ports port (d ∷ before) n h m =
       | inr k ↦ note_is_to ports port d n h.1 k
     ]
 
+-- the next note goes to a rank
 pub next_note_to : (ports port : ℕ) (log : List Deed) (n : OwedNote) → AllDidFit ports log → next_note ports port log ≡ Some n → n.to.0 < ports
 unfolding next_note
 next_note_to ports port log n h is = notes_are_to ports port log n h (slice_get-member (notes ports port log) _ n is)

@@ -22,6 +22,7 @@ put_length at bytes region h =
     let d = length-drop (at + length bytes) region in
     omega arith
 
+-- what is put within one of the regions leaves all sizes
 change_at_sizes : (at : ℕ) (bytes : List ℕ) (n : ℕ) (rs : List (List ℕ)) → at + length bytes ≤ get_or (map length rs) n 0
     → map length (change_at (put at bytes) n rs) ≡ map length rs
 unfolding change_at
@@ -40,6 +41,7 @@ written_length ms (Gone n) req = le_of_eq (length-replicate req.len 0)
 abbrev pub AllWithin : List ℕ → List Receive → Type 0
 AllWithin ns recvs = (r : Receive) → Member r recvs → IsWithin ns r
 
+-- one end leaves all sizes
 after_end_sizes : (ms : Messages) (e : RecvEnd) (recvs : List Receive) (o : Option Receive) (rs : List (List ℕ)) → ((r : Receive) → o ≡ Some r → Member r recvs)
     → AllWithin (map length rs) recvs → map length (after_end ms e o rs) ≡ map length rs
 unfolding after_end
@@ -49,10 +51,12 @@ after_end_sizes ms e recvs (Some r) rs is within =
     let b = written_length ms e r.req in
     change_at_sizes r.req.at (written_by ms e r.req) r.req.region.0 rs (omega arith)
 
+-- the receive of a number is one of the receives
 numbered_member : (recvs : List Receive) (n : ℕ) (r : Receive) → receive_numbered recvs n ≡ Some r → Member r recvs
 unfolding receive_numbered
 numbered_member recvs n r h = (find_member _ r recvs h).0
 
+-- ends in order leave all sizes
 after_ends_sizes : (ms : Messages) (recvs : List Receive) (es : List RecvEnd) (rs : List (List ℕ)) → AllWithin (map length rs) recvs
     → map length (after_ends ms recvs es rs) ≡ map length rs
 unfolding after_ends
@@ -77,11 +81,13 @@ region_sizes first ms (d ∷ before) fit =
 pub region_size : (first : ℕ) (ms : Messages) (log : List Deed) (n : ℕ) → AllRangesFit log → length (get_or (regions first ms log) n []) ≡ get_or (sizes log) n 0
 region_size first ms log n fit = get_or-sizes (regions first ms log) n ∙ ap (λ (ns : List ℕ). get_or ns n 0) (region_sizes first ms log fit)
 
+-- an element, or zero, is within what bounds all elements
 get_or_bound : (ns : List ℕ) (n top : ℕ) → ((k : ℕ) → Member k ns → k ≤ top) → get_or ns n 0 ≤ top
 get_or_bound [] n top h = omega arith
 get_or_bound (k ∷ ns) zero top h = h k (inl refl)
 get_or_bound (k ∷ ns) (suc n) top h = get_or_bound ns n top (λ x m. h x (inr m))
 
+-- each size is that of a region that was registered
 size_member : (ports : ℕ) (log : List Deed) (k : ℕ) → AllDidFit ports log → Member k (sizes log) → k ≤ len_max
 unfolding sizes
 size_member ports [] k fit m = elim m [ ]

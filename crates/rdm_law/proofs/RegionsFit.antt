@@ -26,6 +26,7 @@ DidFits ports (Took from item) = Unit {0}
 DidFits ports Polled = Unit {0}
 DidFits ports Nothing = Unit {0}
 
+-- so of all deeds
 abbrev pub AllDidFit : (ports : ℕ) → List Deed → Type 0
 AllDidFit ports [] = Unit {0}
 AllDidFit ports (d ∷ before) = AllDidFit ports before × DidFits ports d
@@ -38,12 +39,14 @@ MessagesFit ms = (source : Life) (n : ℕ) → AreBytes (ms.bytes source n)
 abbrev pub AllAreBytes : List (List ℕ) → Type 0
 AllAreBytes regions = (r : List ℕ) → Member r regions → AreBytes r
 
+-- bytes that are put into bytes
 put_fits : (at : ℕ) (bytes region : List ℕ) → AreBytes bytes → AreBytes region → AreBytes (put at bytes region)
 unfolding put
 put_fits at bytes region h k =
     bytes_append (take at region ++ bytes) (drop (at + length bytes) region) (bytes_append (take at region) bytes (bytes_front at region k) h)
     (bytes_rest (at + length bytes) region k)
 
+-- bytes that are put into one of the regions
 change_at_fits : (at : ℕ) (bytes : List ℕ) (n : ℕ) (rs : List (List ℕ)) → AreBytes bytes → AllAreBytes rs → AllAreBytes (change_at (put at bytes) n rs)
 unfolding change_at
 change_at_fits at bytes n [] h k r m = elim m [ ]
@@ -52,17 +55,20 @@ change_at_fits at bytes zero (x ∷ rs) h k r (inr m) = k r (inr m)
 change_at_fits at bytes (suc n) (x ∷ rs) h k r (inl is) = k r (inl is)
 change_at_fits at bytes (suc n) (x ∷ rs) h k r (inr m) = change_at_fits at bytes n rs h (λ y z. k y (inr z)) r m
 
+-- what an end of a receive writes
 written_fits : (ms : Messages) (e : RecvEnd) (req : RecvReq) → MessagesFit ms → AreBytes (written_by ms e req)
 unfolding written_by kept_bytes
 written_fits ms (Filled p) req h = bytes_front req.len (ms.bytes p.message.life p.message.no.0) (h p.message.life p.message.no.0)
 written_fits ms (Withdrawn n) req h = refl
 written_fits ms (Gone n) req h = zeros_bytes req.len
 
+-- the regions after one end
 after_end_fits : (ms : Messages) (e : RecvEnd) (o : Option Receive) (rs : List (List ℕ)) → MessagesFit ms → AllAreBytes rs → AllAreBytes (after_end ms e o rs)
 unfolding after_end
 after_end_fits ms e None rs h k = k
 after_end_fits ms e (Some r) rs h k = change_at_fits r.req.at (written_by ms e r.req) r.req.region.0 rs (written_fits ms e r.req h) k
 
+-- the regions after ends in order
 after_ends_fit : (ms : Messages) (recvs : List Receive) (es : List RecvEnd) (rs : List (List ℕ)) → MessagesFit ms → AllAreBytes rs → AllAreBytes (after_ends ms recvs es rs)
 unfolding after_ends
 after_ends_fit ms recvs [] rs h k = k
@@ -116,15 +122,18 @@ RangeFits before (Did (Recv req)) = req.at + req.len ≤ get_or (sizes before) r
 RangeFits before (Did (Send req)) = req.at + req.len ≤ get_or (sizes before) req.region.0 0
 RangeFits before _ = Unit {0}
 
+-- so of all deeds
 abbrev pub AllRangesFit : List Deed → Type 0
 AllRangesFit [] = Unit {0}
 AllRangesFit (d ∷ before) = AllRangesFit before × RangeFits before d
 
+-- an element, or zero, is no greater than in a longer list
 pub get_or-more : (xs ys : List ℕ) (n : ℕ) → get_or xs n 0 ≤ get_or (xs ++ ys) n 0
 get_or-more [] ys n = omega arith
 get_or-more (x ∷ xs) ys zero = omega arith
 get_or-more (x ∷ xs) ys (suc n) = get_or-more xs ys n
 
+-- the length of an element is the element of the lengths
 pub get_or-sizes : (rs : List (List ℕ)) (n : ℕ) → length (get_or rs n []) ≡ get_or (map length rs) n 0
 get_or-sizes [] n = refl
 get_or-sizes (r ∷ rs) zero = refl
@@ -134,10 +143,12 @@ get_or-sizes (r ∷ rs) (suc n) = get_or-sizes rs n
 abbrev pub IsWithin : List ℕ → Receive → Type 0
 IsWithin ns r = r.req.at + r.req.len ≤ get_or ns r.req.region.0 0
 
+-- sizes of regions are only added
 sizes_more : (d : Deed) (before : List Deed) (n : ℕ) → get_or (sizes before) n 0 ≤ get_or (sizes (d ∷ before)) n 0
 unfolding sizes
 sizes_more d before n = get_or-more (sizes before) (map length (region_by d)) n
 
+-- a receive that a deed accepts lies in its region
 received_within : (rs : List Receive) (before : List Deed) (d : Deed) (r : Receive) → RangeFits before d → Member r (received_by rs before d) → IsWithin (sizes before) r
 unfolding received_by
 received_within rs before (Did (Recv req)) r h (inl is) = subst (IsWithin (sizes before)) is h

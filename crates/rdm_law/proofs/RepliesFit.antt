@@ -52,6 +52,7 @@ ShapeFits (S.Runt send iov runt) size = send.0 < 4294967296
 abbrev pub HeadsFit : Heads → Type 0
 HeadsFit heads = (source : Life) (n : ℕ) → ShapeFits (heads source n).shape (heads source n).length
 
+-- the numbers of a form's shape are in their ranges
 form_shape : (form : Form) → list_all field_fits (form_fields form) ≡ true → ShapeFits (shape_of form) (size_of form)
 unfolding form_fields shape_of size_of field_fits
 form_shape (Eager bytes) h = tt
@@ -69,6 +70,7 @@ form_shape (Runt size send iov runt offset bytes) h =
     let b = and_parts (field_fits (Number 4 send.0)) _ a.1 in
     ltb-true send.0 4294967296 b.0
 
+-- so are those of a head that a deed tells
 head_by_fits : (source : Life) (n : ℕ) (d : Deed) (h : Head) → TakenFits d → head_by source n d ≡ Some h → ShapeFits h.shape h.length
 unfolding head_by head_of
 head_by_fits source n (Took from (Spelled (Rtm number tag opt form))) h fit is =
@@ -76,6 +78,7 @@ head_by_fits source n (Took from (Spelled (Rtm number tag opt form))) h fit is =
     (form_shape form (rtm_fits number tag opt form fit).header)
 head_by_fits source n _ h fit is = cc
 
+-- so are those of a head that was heard
 heard_fits : (log : List Deed) (source : Life) (n : ℕ) (h : Head) → AllTakenFit log → heard_head log source n ≡ Some h → ShapeFits h.shape h.length
 unfolding heard_head
 heard_fits [] source n h fit is = cc
@@ -85,6 +88,7 @@ heard_fits (d ∷ before) source n h fit is =
       | inr a ↦ head_by_fits source n d h fit.1 a.1
     ]
 
+-- so are those of a head, or of none
 head_or_none : (o : Option Head) → ((h : Head) → o ≡ Some h → ShapeFits h.shape h.length) → ShapeFits (unwrap_or o no_head).shape (unwrap_or o no_head).length
 head_or_none None f = tt
 head_or_none (Some h) f = f h refl
@@ -94,6 +98,7 @@ pub heads_fit : (log : List Deed) → AllTakenFit log → HeadsFit (heads_by log
 unfolding heads_by
 heads_fit log fit source n = head_or_none (heard_head log source n) (λ h is. heard_fits log source n h fit is)
 
+-- a window is no longer than its message
 window_of_bound : (limits : EpLimits) (head : Head) (shape : Shape) (granted : ℕ) → window_of limits head shape granted ≤ head.length
 unfolding window_of
 window_of_bound limits head (S.LongCts send credits) granted = omega arith
@@ -118,6 +123,7 @@ pub record OwnFits (own : Own) : Type 0 where
   pub connid : own.life.connid.0 < 4294967296
   pub features : own.features < 18446744073709551616
 
+-- the number of a pair's receive is in its range
 pair_recv : (ports : ℕ) (own : Own) (heads : Heads) (log : List Deed) (p : Pair) → DeedsFit ports own.limits.first log → Member p (pairs own.limits.first heads log)
     → p.recv.id.0 < 4294967296
 pair_recv ports own heads log p fit m =
@@ -126,6 +132,7 @@ pair_recv ports own heads log p fit m =
     let c = fit.count in
     omega arith
 
+-- so is the number of the send that an end names
 end_send : (own : Own) (shape : Shape) (recv send : OpId) (size : ℕ) → end_for own shape recv ≡ Spelled (Eor send recv own.life.connid) ∷ [] → ShapeFits shape size → send.0 < 4294967296
 unfolding end_for
 end_send own (S.LongRead s iov) recv send size is h = (let e : s ≡ send = cc in subst (λ (x : OpId). x.0 < 4294967296) e h)
@@ -155,6 +162,7 @@ new_reply_fits ports own ms d before r o h k fit (inr (inr (inr (inr new)))) =
     let s = sent_fits ports own ms before h (deeds_fit_before ports own.limits.first d before fit) new.sent new.member in
     subst CanGo (sym new.is) (bytes_front new.ask.length (drop new.ask.at new.sent.message.bytes) (bytes_rest new.ask.at new.sent.message.bytes s.bytes))
 
+-- each reply that was owed can go
 owed_fits : (ports : ℕ) (own : Own) (ms : Messages) (log : List Deed) (r : Reply) → OwnFits own → MessagesFit ms → HeadsFit ms.head → DeedsFit ports own.limits.first log
     → OwedIn own ms r log → CanGo r.item
 owed_fits ports own ms [] r o h k fit i = elim i [ ]

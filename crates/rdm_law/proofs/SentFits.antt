@@ -31,15 +31,18 @@ is_did _ = 0
 abbrev pub did_count : List Deed → ℕ
 did_count log = deed_count is_did log
 
+-- an option has one value at most
 pub option_length : {A : Type 0} (o : Option A) → length (option_to_list o) ≤ 1
 option_length None = omega arith
 option_length (Some x) = omega arith
 
+-- a deed sends once at most, if it is an instruction that did
 lives_by_deed : (before : List Deed) (d : Deed) → length (sent_life before d) ≤ is_did d
 unfolding sent_life is_did
 lives_by_deed before (Did (Send req)) = option_length (current before req.to.0)
 lives_by_deed before _ = omega arith
 
+-- no more lives are sent to than instructions did
 sent_lives_count : (log : List Deed) → length (sent_lives log) ≤ did_count log
 unfolding sent_lives deed_count
 sent_lives_count [] = omega arith
@@ -57,6 +60,7 @@ sends_count own ms log =
     let c = sent_lives_count log in
     omega arith
 
+-- a deed accepts one receive at most, if it is an instruction that did
 received_count : (rs : List Receive) (before : List Deed) (d : Deed) → length (received_by rs before d) ≤ is_did d
 unfolding received_by is_did
 received_count rs before (Did (Recv req)) = omega arith
@@ -96,6 +100,7 @@ pub record RequestFits (req : SendReq) : Type 0 where
   pub tag : option_fits req.tag ≡ true
   pub cq_data : option_fits req.cq_data ≡ true
 
+-- a send that is fair has its numbers in their ranges
 request_fits : (ports : ℕ) (req : SendReq) → instr_fits ports (Send req) ≡ true → RequestFits req
 unfolding instr_fits range_fits
 request_fits ports req h =
@@ -106,15 +111,18 @@ request_fits ports req h =
     let e = and_parts _ _ d.0 in
     record { key = ltb-true _ _ e.0; tag = b.1; cq_data = a.1 }
 
+-- one of the regions, or none, is of bytes
 get_or_bytes : (rs : List (List ℕ)) (n : ℕ) → AllAreBytes rs → AreBytes (get_or rs n [])
 get_or_bytes [] n h = refl
 get_or_bytes (r ∷ rs) zero h = h r (inl refl)
 get_or_bytes (r ∷ rs) (suc n) h = get_or_bytes rs n (λ x m. h x (inr m))
 
+-- a range of a region is of bytes
 range_bytes : (rs : List (List ℕ)) (region at len : ℕ) → AllAreBytes rs → AreBytes (range_of rs region at len)
 unfolding range_of
 range_bytes rs region at len h = bytes_front len (drop at (get_or rs region [])) (bytes_rest at (get_or rs region []) (get_or_bytes rs region h))
 
+-- a range that ends within its region is as long as it says
 range_length : (rs : List (List ℕ)) (region at len : ℕ) → at + len ≤ length (get_or rs region []) → length (range_of rs region at len) ≡ len
 unfolding range_of
 range_length rs region at len h =
@@ -122,6 +130,7 @@ range_length rs region at len h =
     let b = length-drop at (get_or rs region []) in
     omega arith
 
+-- a new send of such a request fits
 made_fits : (own : Own) (before : List Deed) (count messages : ℕ) (req : SendReq) (to : Life) (bytes : List ℕ) → count < 4294967296
     → own.limits.first + messages < 4294967296 → RequestFits req → AreBytes bytes → length bytes ≡ req.len → req.at + req.len ≤ len_max
     → SentFits own (new_sent own before count messages req to bytes)
@@ -151,10 +160,12 @@ pub record DeedsFit (ports first : ℕ) (log : List Deed) : Type 0 where
   pub numbers : AllNumbersFit first log
   pub count : did_count log < 4294967296
 
+-- so it was before the newest deed
 pub deeds_fit_before : (ports first : ℕ) (d : Deed) (before : List Deed) → DeedsFit ports first (d ∷ before) → DeedsFit ports first before
 unfolding deed_count
 deeds_fit_before ports first d before fit = record { did = fit.did.0; ranges = fit.ranges.0; numbers = fit.numbers.0; count = (let c = fit.count in omega arith) }
 
+-- the send that a deed makes fits
 new_fits : (ports : ℕ) (own : Own) (ms : Messages) (d : Deed) (before : List Deed) (s : Sent) → MessagesFit ms → DeedsFit ports own.limits.first (d ∷ before)
     → NewSent own ms before (sends own ms before) d s → SentFits own s
 new_fits ports own ms d before s h fit n =

@@ -34,6 +34,7 @@ use Rattle.rdm_law.proofs.Fitting.{AreBytes, ItemFits}
 pub all_parts : {A : Type 0} (p : A → Bool) (xs ys : List A) → list_all p (xs ++ ys) ≡ true → (list_all p xs ≡ true) × (list_all p ys ≡ true)
 all_parts p xs ys h = and_parts (list_all p xs) (list_all p ys) (sym (list_all-append p xs ys) ∙ h)
 
+-- a test that all elements of each of two lists pass, those of both pass
 pub all_append : {A : Type 0} (p : A → Bool) (xs ys : List A) → list_all p xs ≡ true → list_all p ys ≡ true → list_all p (xs ++ ys) ≡ true
 all_append p xs ys h k = list_all-append p xs ys ∙ and_from (list_all p xs) (list_all p ys) h k
 
@@ -58,12 +59,15 @@ all_member p (y ∷ xs) x h (inr m) = all_member p xs x (and_parts (p y) (list_a
 pub bytes_front : (n : ℕ) (bytes : List ℕ) → AreBytes bytes → AreBytes (take n bytes)
 bytes_front n bytes h = (all_parts (λ b. nat_lt b 256) (take n bytes) (drop n bytes) (subst AreBytes (sym (take-append-drop n bytes)) h)).0
 
+-- the rest of bytes
 pub bytes_rest : (n : ℕ) (bytes : List ℕ) → AreBytes bytes → AreBytes (drop n bytes)
 bytes_rest n bytes h = (all_parts (λ b. nat_lt b 256) (take n bytes) (drop n bytes) (subst AreBytes (sym (take-append-drop n bytes)) h)).1
 
+-- bytes after bytes
 pub bytes_append : (xs ys : List ℕ) → AreBytes xs → AreBytes ys → AreBytes (xs ++ ys)
 bytes_append xs ys h k = all_append (λ b. nat_lt b 256) xs ys h k
 
+-- zeros are bytes
 pub zeros_bytes : (n : ℕ) → AreBytes (replicate n 0)
 zeros_bytes zero = refl
 zeros_bytes (suc n) = zeros_bytes n
@@ -78,6 +82,7 @@ pub record RtmFits (number : MsgNo) (tag : Option ℕ) (form : Form) : Type 0 wh
   pub header : list_all field_fits (form_fields form) ≡ true
   pub last : list_all field_fits (last_fields form) ≡ true
 
+-- the fields of the header, and those that come last
 pub rtm_fits : (number : MsgNo) (tag : Option ℕ) (opt : Opt) (form : Form) → fits (Rtm number tag opt form) ≡ true → RtmFits number tag form
 unfolding layout
 rtm_fits number tag opt form h =
@@ -138,10 +143,12 @@ abbrev pub TakenFits : Deed → Type 0
 TakenFits (Took from item) = ItemFits item
 TakenFits _ = Unit {0}
 
+-- so of all deeds
 abbrev pub AllTakenFit : List Deed → Type 0
 AllTakenFit [] = Unit {0}
 AllTakenFit (d ∷ before) = AllTakenFit before × TakenFits d
 
+-- the bytes of a message that a deed took
 carried_fit : (ps : List Pair) (source : Life) (n : ℕ) (d : Deed) (x : Piece) → TakenFits d → carried_by ps source n d ≡ Some x → AreBytes x.bytes
 unfolding carried_by
 carried_fit ps source n (Took from item) x fit h =
@@ -151,6 +158,7 @@ carried_fit ps source n (Took from item) x fit h =
     ]) h
 carried_fit ps source n _ x fit h = cc
 
+-- a byte that a piece has at a place
 byte_in_fits : (x : Piece) (place b : ℕ) → AreBytes x.bytes → byte_in x place ≡ Some b → b < 256
 unfolding byte_in
 byte_in_fits x place b fit h =
@@ -163,6 +171,7 @@ byte_in_fits x place b fit h =
 abbrev pub PiecesFit : List Piece → Type 0
 PiecesFit ps = (x : Piece) → Member x ps → AreBytes x.bytes
 
+-- a byte that pieces have at a place
 byte_at_fits : (ps : List Piece) (place b : ℕ) → PiecesFit ps → byte_at ps place ≡ Some b → b < 256
 unfolding byte_at
 byte_at_fits [] place b fit h = cc
@@ -172,6 +181,7 @@ byte_at_fits (x ∷ ps) place b fit h =
       | inr k ↦ byte_at_fits ps place b (λ y m. fit y (inr m)) k.1
     ]
 
+-- an element of an option's list is the option's value
 option_member : {A : Type 0} (o : Option A) (x : A) → Member x (option_to_list o) → o ≡ Some x
 option_member None x m = elim m [ ]
 option_member (Some y) x (inl is) = ap Some is
@@ -187,6 +197,7 @@ carried_pieces_fit first heads (d ∷ before) source n fit x m =
       | inr k ↦ carried_fit (pairs first heads before) source n d x fit.1 (option_member (carried_by (pairs first heads before) source n d) x k)
     ]
 
+-- a byte, or zero where none is
 byte_or_zero : (o : Option ℕ) → ((b : ℕ) → o ≡ Some b → b < 256) → nat_lt (unwrap_or o 0) 256 ≡ true
 byte_or_zero None h = refl
 byte_or_zero (Some b) h = lt-ltb b 256 (h b refl)

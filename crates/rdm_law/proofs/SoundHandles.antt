@@ -34,6 +34,7 @@ fetch_waits job w port p =
       | false ↦ λ is. refl
     ]) refl
 
+-- a fetch
 fetch_sound : (job : Job) (w : World) (port : ℕ) → Sound job w → Sound job (after_fetch job w port)
 unfolding after_fetch
 fetch_sound job w port s = record {
@@ -72,9 +73,11 @@ stash_less w port place d r p =
       | false ↦ λ is. refl
     ]) refl
 
+-- what waited, where one of the stash stood between two parts
 pub stash_was : (w : World) (port place : ℕ) (d : Datagram) (r : Removed (w.stashes port) place d) → waiting_in w port ≡ r.front ++ d ∷ (r.back ++ w.queues port)
 stash_was w port place d r = ap (λ (ds : List Datagram). ds ++ w.queues port) r.was ∙ append_assoc r.front (d ∷ r.back) (w.queues port)
 
+-- a handling
 handle_sound : (job : Job) (w : World) (port place : ℕ) (o : Option Datagram) → slice_get (w.stashes port) place ≡ o → Sound job w → Sound job (with_handle job w port place o)
 unfolding with_handle with_entry scene_in
 handle_sound job w port place None is s = s

@@ -36,12 +36,14 @@ new_sound job = record {
   };
 }
 
+-- such an act handles nothing
 quiet_handled : (act : Act) → IsQuiet act → HandledFits act
 quiet_handled (Next index op answer) q = tt
 quiet_handled (Push d) q = tt
 quiet_handled (Handle d answer) q = elim q [ ]
 quiet_handled (Poll c) q = tt
 
+-- such an act moves the clock by one
 quiet_stamp : (now : ℕ) (act : Act) → IsQuiet act → stamp_after now act ≡ now + 1
 unfolding stamp_after
 quiet_stamp now (Next index op answer) q = refl
@@ -63,6 +65,7 @@ quiet_sound job w port act q worn does s =
       delivers = quiet_delivers w.logs (waiting_in w) port (entry_of job port (w.logs port) act) q s.delivers;
     }
 
+-- an instruction
 pub next_sound : (job : Job) (w : World) (port : ℕ) (o : Option Instr) → instruction_left job port (w.logs port) ≡ o → Sound job w → Sound job (step_next job w port o)
 unfolding step_next next_act scene_in instruction_left
 next_sound job w port None is s = s
@@ -74,6 +77,7 @@ next_sound job w port (Some instr) is s =
     quiet_sound job w port (Next (count is_next (w.logs port)) (op_of instr) answer) tt (not-true _ both.1) (refl, (instr, is, refl, refl), both.0) s)
     (λ no. s)
 
+-- a poll
 pub poll_sound : (job : Job) (w : World) (port : ℕ) (o : Option Completion) → next_completion (own_scene job port (deeds_at job port (w.logs port))) ≡ o → Sound job w
     → Sound job (with_poll job w port o)
 unfolding with_poll next_completion
@@ -93,6 +97,7 @@ queue_more w d p =
       | false ↦ λ is. refl
     ]) refl
 
+-- what waits fits with one more that does
 more_fit : (w : World) (d : Datagram) → ((port : ℕ) (q : Datagram) → Member q (waiting_in w port) → BodyFits q.body) → BodyFits d.body
     → (port : ℕ) (q : Datagram) → Member q (one_more (waiting_in w) d port) → BodyFits q.body
 more_fit w d was new port q m =
@@ -121,6 +126,7 @@ push_sound job w port d fit does s =
           (push_delivers w.logs (waiting_in w) port (entry_of job port (w.logs port) (Push d)) d refl (ap (λ x. x.0) push.0) push.1 s.delivers);
     })
 
+-- the next datagram
 pub goes_sound : (job : Job) (w : World) (port : ℕ) (o : Option Going) → GoesWell job → going (own_scene job port (deeds_at job port (w.logs port))) ≡ o → Sound job w
     → Sound job (step_push job w port o)
 unfolding step_push datagram_of scene_in

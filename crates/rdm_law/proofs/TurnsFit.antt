@@ -39,6 +39,7 @@ use Rattle.rdm_law.proofs.PacketsFit.{data_fits}
 use Rattle.rdm_law.proofs.Headers.{fields_length, PieceFits, pieces_fit, common_length, common_short}
 use Rattle.rdm_law.proofs.OpeningsFit.{LimitsFit, chosen_kind, longer, room_is, eager_fits, segment_fits, first_fits, read_fits, runt_fits, size_below}
 
+-- what holds of the one element of a list
 only_one : {A : Type 0} (P : A → Type 0) (x y : A) → Member y (x ∷ []) → P x → P y
 only_one P x y (inl is) h = subst P is h
 only_one P x y (inr m) h = elim m [ ]
@@ -51,6 +52,7 @@ some_bytes own s f l h =
     let b = l.mtu in
     omega arith
 
+-- how long the headers ahead of a read are
 runt_header : (own : Own) (s : Sent) (n : ℕ) → SentFits own s → fields_length (form_fields (runt_form s.message n no_bytes)) + fields_length (last_fields (runt_form s.message n no_bytes)) ≡ 56
 unfolding form_fields last_fields fields_length entry_fields
 runt_header own s n f =
@@ -97,6 +99,7 @@ openings_fit own s (Runt n) p o l f is m =
     subst (λ x. fits x ≡ true) r.2
     (runt_fits own s n r.0 o f (omega arith) (omega arith) (subst (λ (k : ℕ). PieceFits k r.0) whole piece))
 
+-- a datagram that was taken fits
 taken_member : (from : Life) (item : Item) (log : List Deed) → AllTakenFit log → Member (Took from item) log → TakenFits (Took from item)
 taken_member from item [] fit m = elim m [ ]
 taken_member from item (d ∷ before) fit (inl is) = subst TakenFits is fit.1
@@ -111,9 +114,11 @@ cts_recv send recv size connid h =
     let b = (and_parts (field_fits (Number 4 send.0)) _ a.1).1 in
     ltb-true recv.0 4294967296 (and_parts (field_fits (Number 4 recv.0)) _ b).0
 
+-- a reply is no send
 pub reply_no_send : (r : Reply) (s : Sent) (p : Packet) → Replies r ≡ Sends s p → ⊥
 reply_no_send r s p h = cc
 
+-- the receive that a grant names has its number in range
 grant_recv : (log : List Deed) (peer : Life) (send : ℕ) (g : Grant) → AllTakenFit log → Member g (grants log peer send) → g.recv < 4294967296
 grant_recv log peer send g fit m =
     let t = grant_taken log peer send g m in
@@ -125,10 +130,12 @@ unfolding is_pushed
 not_pushed s [] h some = absurd (omega arith)
 not_pushed s (p ∷ ps) h some = h
 
+-- the second of two tests that both fail
 or_right_false : (a b : Bool) → (a || b) ≡ false → b ≡ false
 or_right_false true b h = cc
 or_right_false false b h = h
 
+-- a long send that isn't over is not pushed
 long_pushed : (kind : Kind) (over pushed : Bool) → kind ≡ LongCts → cond (is_read kind) over pushed ≡ false → pushed ≡ false
 unfolding is_read
 long_pushed LongCts over pushed is h = h
@@ -137,6 +144,7 @@ long_pushed Medium over pushed is h = cc
 long_pushed LongRead over pushed is h = cc
 long_pushed (Runt n) over pushed is h = cc
 
+-- a long send that isn't over has bytes that were not pushed
 bytes_left : (own : Own) (log : List Deed) (s : Sent) (pushed : List Packet) → s.kind ≡ LongCts → is_over log pushed s ≡ false → Underway own s pushed → 0 < length pushed
     → piece_bytes (pieces_in pushed) < length s.message.bytes
 unfolding is_over
@@ -168,6 +176,7 @@ granted_fits own log s pushed p o l f taken live u some g =
     (bytes_front most (drop done s.message.bytes) (bytes_rest done s.message.bytes f.bytes)) in
     subst (λ x. fits x ≡ true) (sym (g.is ∙ ap (λ (xs : List ℕ). CtsData (op_id g.grant.recv) done own.life.connid xs) g.bytes_are)) fit
 
+-- a send whose openings were pushed has pushed something
 all_opened : (own : Own) (s : Sent) (pushed datas : List Packet) → pushed ≡ openings own.limits s.message s.kind ++ datas → 0 < length pushed
 all_opened own s pushed datas is =
     let a = some_opening own.limits s.message s.kind in

@@ -25,6 +25,7 @@ pub record Split {A : Type 0} (x : A) (xs : List A) : Type 0 where
   pub back : List A
   pub is : xs ≡ front ++ x ∷ back
 
+-- an element of a list has such a split
 pub member_split : {A : Type 0} (x : A) (xs : List A) → Member x xs → Split x xs
 member_split x [] m = elim m [ ]
 member_split x (y ∷ xs) (inl is) = record { front = []; back = xs; is = ap (λ z. z ∷ xs) is }
@@ -76,6 +77,7 @@ pushed_waits act ds d is =
     let Q : Bool → Type 0 = λ b. Member d (cond b (ds ++ d ∷ []) ds) in
     subst P (sym is) (subst Q (sym (eq-eqb d.dst.0 d.dst.0 refl)) (member-append_right d ds (d ∷ []) (inl refl)))
 
+-- a datagram was pushed by the newest entry or before
 newest_or_before : (e : Entry) (before : List Entry) (d : Datagram) → PushedIn d (log_of d.src.0 (e ∷ before)) → (e.act ≡ Push d) ⊎ PushedIn d (log_of d.src.0 before)
 newest_or_before e before d =
     at_log_of (λ (log : List Entry). PushedIn d log → (e.act ≡ Push d) ⊎ PushedIn d (log_of d.src.0 before)) d.src.0 e before (λ is h. h) (λ no h. inr h)

@@ -30,6 +30,7 @@ numbered_before : (e : Entry) (before : List Entry) → PushesNumbered (e ∷ be
 numbered_before e before n port =
     at_log_of (λ (log : List Entry). AreNumbered port log → AreNumbered port (log_of port before)) port e before (λ is h. h.0) (λ other h. h) (n port)
 
+-- the push of the newest entry is numbered
 numbered_newest : (e : Entry) (before : List Entry) → PushesNumbered (e ∷ before) → IsNumbered e.port.0 (log_of e.port.0 before) e.act
 numbered_newest e before n =
     let P : List Entry → Type 0 = λ log. AreNumbered e.port.0 log in
@@ -47,6 +48,7 @@ pushes_next e before d n is =
 pushed_longer : (e : Entry) (before : List Entry) (d : Datagram) (port : ℕ) → PushedIn d (log_of port before) → PushedIn d (log_of port (e ∷ before))
 pushed_longer e before d port h = at_log_of (λ (log : List Entry). PushedIn d log) port e before (λ is. inr h) (λ other. h)
 
+-- a new datagram is none that came over the wire
 new_other : (before : List Entry) (e : Entry) (d : Datagram) (act : Act) → Comes before e act → ((q : Datagram) → PushedIn q (log_of q.src.0 before) → Differ d q) → IsOther d act
 new_other before e d (Handle q answer) c new = new q c.1
 new_other before e d (Next index op answer) c new = tt
@@ -88,6 +90,7 @@ differs q d h s n =
 newest_pushed : (e : Entry) (before : List Entry) (d : Datagram) → d.src.0 ≡ e.port.0 → e.act ≡ Push d → PushedIn d (log_of d.src.0 (e ∷ before))
 newest_pushed e before d src is = at_log_of (λ (log : List Entry). PushedIn d log) d.src.0 e before (λ here. inl is) (λ other. absurd (other (sym src)))
 
+-- datagrams that pass a test stay apart
 filter_apart : (p : Datagram → Bool) (ds : List Datagram) → AreApart ds → AreApart (filter p ds)
 filter_apart p [] a = tt
 filter_apart p (d ∷ ds) a =
