@@ -1,5 +1,5 @@
 -- The changes of a world are the entries, and the datagrams that were moved: those handled and those in the stashes.
-use Rattle.std.proofs.Common.{◌≡◌, ℕ, zero, suc, ◌+◌, ◌-◌, ◌<◌, ◌≤◌, ◌%◌, min, max, Bool, true, false, not, ◌&&◌, ◌||◌, nat_le, List, [], ◌∷◌, ◌++◌, length, take, drop, remove, slice_get, Option, Some, None, refl, arith, ◌⊎◌, inl, inr, sym, ◌∙◌, ap, subst, length-append, length-take}
+use Rattle.std.proofs.Common.{◌≡◌, ℕ, zero, suc, ◌+◌, ◌<◌, ◌%◌, min, max, not, ◌&&◌, ◌||◌, nat_le, List, ◌∷◌, ◌++◌, length, take, remove, slice_get, Option, Some, None, refl, arith, inl, inr, sym, ◌∙◌, ap, subst, length-append, length-take}
 use Rattle.std.proofs.lemmas.Bool.{cases_eq, cases_lt}
 use Rattle.rdm_num.specs.declared.completion.Completion.{Completion}
 use Rattle.rdm_wire.specs.declared.Datagram.{Datagram}
@@ -22,7 +22,6 @@ use Rattle.rdm_model.specs.Takes.{handled_answer, is_again_early}
 use Rattle.rdm_model.specs.Settled.{is_worn, is_worn_by}
 use Rattle.rdm_model.specs.Worlds.{World, new_world, put_at, scene_in, with_entry, next_act, step_next, datagram_of, with_push, step_push, after_fetch, with_handle, after_handle_at, after_pick, step_handle, with_poll, after_choice}
 use Rattle.rdm_law.proofs.Apart.{put_at_here, put_at_there, Removed, removed}
-use Rattle.rdm_law.proofs.DeliverSteps.{IsQuiet}
 use Rattle.rdm_law.proofs.Sound.{chosen, entry_of}
 use Rattle.rdm_law.proofs.PlayedSteps.{Keeps}
 
@@ -141,7 +140,7 @@ entry_moved job w port act none =
     record {
       changes = refl;
       here = (let M : List Entry → Type 0 = λ l. length l + count is_handling l + length (w.stashes port) ≡ length (w.logs port) + count is_handling (w.logs port) + length (w.stashes port) + 1 in
-        subst M (sym log) (one_longer e (w.logs port) (length (w.stashes port)) none));
+          subst M (sym log) (one_longer e (w.logs port) (length (w.stashes port)) none));
       there = λ p other. ap (λ (l : List Entry). length l + count is_handling l + length (w.stashes p)) (put_at_there port (e ∷ w.logs port) w.logs p other);
     }
 
@@ -201,18 +200,20 @@ handle_moved job w port place (Some d) is =
     chosen (λ (v : World). SomeMoved w v port) (is_again_early class_of (scene_in job w port) d || is_worn_by job (w.logs port) d) w _
     (λ yes. (0, moved_none w port))
     (λ no.
-      let r = removed (w.stashes port) place d is in
-      let answer : Handled = handled_answer class_of (scene_in job w port) d in
-      let e = entry_of job port (w.logs port) (Handle d answer) in
-      let logs : put_at port (e ∷ w.logs port) w.logs port ≡ e ∷ w.logs port = put_at_here port (e ∷ w.logs port) w.logs in
-      let stash : put_at port (remove (w.stashes port) place) w.stashes port ≡ remove (w.stashes port) place = put_at_here port (remove (w.stashes port) place) w.stashes in
-      (1, record {
+    let r = removed (w.stashes port) place d is in
+    let answer : Handled = handled_answer class_of (scene_in job w port) d in
+    let e = entry_of job port (w.logs port) (Handle d answer) in
+    let logs : put_at port (e ∷ w.logs port) w.logs port ≡ e ∷ w.logs port = put_at_here port (e ∷ w.logs port) w.logs in
+    let stash : put_at port (remove (w.stashes port) place) w.stashes port ≡ remove (w.stashes port) place = put_at_here port (remove (w.stashes port) place) w.stashes in (
+      1,
+      record {
         changes = refl;
         here = handled_here w port place e d r (put_at port (e ∷ w.logs port) w.logs port) (put_at port (remove (w.stashes port) place) w.stashes port) logs stash (handle_handles_one d answer);
         there = λ p other.
-          ap (λ (l : List Entry). length l + count is_handling l + length (put_at port (remove (w.stashes port) place) w.stashes p)) (put_at_there port (e ∷ w.logs port) w.logs p other)
-          ∙ ap (λ (ds : List Datagram). length (w.logs p) + count is_handling (w.logs p) + length ds) (put_at_there port (remove (w.stashes port) place) w.stashes p other);
-      }))
+            ap (λ (l : List Entry). length l + count is_handling l + length (put_at port (remove (w.stashes port) place) w.stashes p)) (put_at_there port (e ∷ w.logs port) w.logs p other)
+            ∙ ap (λ (ds : List Datagram). length (w.logs p) + count is_handling (w.logs p) + length ds) (put_at_there port (remove (w.stashes port) place) w.stashes p other);
+      },
+    ))
 
 -- each choice
 choice_moved : (job : Job) (w : World) (c : Choice) → SomeMoved w (after_choice job w c) (choice_rank c)

@@ -1,7 +1,5 @@
 -- Over inboxes that deliver, the joint history of the logs is delivered.
-use Rattle.std.proofs.Common.{◌≡◌, ℕ, true, false, cond, eqb-true, List, [], ◌∷◌, refl, sym, ◌∙◌, ap, subst}
-use Rattle.std.proofs.lemmas.Bool.{eqb-false}
-use Rattle.std.specs.Prelude.{◌==◌}
+use Rattle.std.proofs.Common.{◌≡◌, ℕ, List, [], ◌∷◌, refl, sym, ◌∙◌, ap, subst}
 use Rattle.rdm_num.specs.declared.numbers.PortNo.{PortNo}
 use Rattle.rdm_wire.specs.declared.Datagram.{Datagram}
 use Rattle.rdm_model.specs.declared.entry.Entry.{Entry}

@@ -1,12 +1,10 @@
 -- No more datagrams are handled or in stashes than were pushed, so the changes of a world are at most twice its entries.
-use Rattle.std.proofs.Common.{◌≡◌, ℕ, zero, suc, ◌+◌, ◌*◌, ◌<◌, ◌≤◌, Bool, true, false, cond, List, [], ◌∷◌, ◌++◌, length, refl, arith, ◌⊎◌, inl, inr, sym, ◌∙◌, ap, subst, length-append}
-use Rattle.std.specs.Prelude.{◌==◌}
+use Rattle.std.proofs.Common.{◌≡◌, ℕ, zero, suc, ◌+◌, ◌*◌, ◌<◌, ◌≤◌, List, [], ◌∷◌, ◌++◌, length, refl, arith, inl, inr, sym, ◌∙◌, ap, subst, length-append}
 use Rattle.std.proofs.lemmas.Bool.{cases_lt}
 use Rattle.rdm_num.specs.Lists.{Member}
 use Rattle.rdm_num.specs.declared.numbers.PortNo.{PortNo}
 use Rattle.rdm_wire.specs.declared.Datagram.{Datagram}
 use Rattle.rdm_model.specs.declared.job.Job.{Job}
-use Rattle.rdm_model.specs.declared.answer.Handled.{Handled}
 use Rattle.rdm_model.specs.declared.entry.Entry.{Entry}
 use Rattle.rdm_model.specs.declared.entry.Act.{Act}
 use Rattle.rdm_model.specs.declared.entry.Act.TheVariants.{Next, Push, Handle, Poll}
@@ -17,8 +15,8 @@ use Rattle.rdm_model.specs.Wire.{PushedIn, IsOther, IsUnhandled}
 use Rattle.rdm_model.specs.Joint.{IsJoint}
 use Rattle.rdm_model.specs.Worlds.{World}
 use Rattle.rdm_model.proofs.Members.{member-append_cases, member-append_left, member-append_right}
-use Rattle.rdm_law.proofs.Apart.{Differ, DiffersFrom, AreApart}
-use Rattle.rdm_law.proofs.Delivers.{AreNumbered, HadWaited, AllHadWaited, Waits, Delivers, pushed_once}
+use Rattle.rdm_law.proofs.Apart.{Differ, AreApart}
+use Rattle.rdm_law.proofs.Delivers.{HadWaited, AllHadWaited, Waits, Delivers, pushed_once}
 use Rattle.rdm_law.proofs.Sound.{Sound, waiting_in}
 use Rattle.rdm_law.proofs.Waiting.{apart_length}
 use Rattle.rdm_law.proofs.Logs.{at_log_of}
@@ -99,11 +97,10 @@ unhandled_differs d (e ∷ before) q u m =
 -- lists of datagrams apart that differ from each other
 apart_append : (xs ys : List Datagram) → AreApart xs → AreApart ys → ((x y : Datagram) → Member x xs → Member y ys → Differ x y) → AreApart (xs ++ ys)
 apart_append [] ys a b c = b
-apart_append (x ∷ xs) ys a b c =
-    (
-      (λ q m. elim (member-append_cases q xs ys m) [ inl k ↦ a.0 q k | inr k ↦ c x q (inl refl) k ]),
-      apart_append xs ys a.1 b (λ y z m k. c y z (inr m) k),
-    )
+apart_append (x ∷ xs) ys a b c = (
+  (λ q m. elim (member-append_cases q xs ys m) [ inl k ↦ a.0 q k | inr k ↦ c x q (inl refl) k ]),
+  apart_append xs ys a.1 b (λ y z m k. c y z (inr m) k),
+)
 
 -- what one act handled is apart
 one_apart : (act : Act) → AreApart (handled_by act)
@@ -187,11 +184,11 @@ came_below_apart w zero i = tt
 came_below_apart w (suc n) i =
     apart_append (came_below w n) (came_to w n) (came_below_apart w n i) (came_apart w n i)
     (λ x y m k.
-      let a = came_in w n x i m in
-      let b = all_came w n y i k in
-      let less = a.0 in
-      let here = b.for_it in
-      ports_differ w x y i a.1 b.pushed (λ same. absurd (omega arith)))
+    let a = came_in w n x i m in
+    let b = all_came w n y i k in
+    let less = a.0 in
+    let here = b.for_it in
+    ports_differ w x y i a.1 b.pushed (λ same. absurd (omega arith)))
 
 -- how much came to some ports
 came_length : (w : World) (n : ℕ) → length (came_below w n) ≡ sum_below (λ p. count is_handling (w.logs p) + length (w.stashes p)) n
@@ -253,8 +250,8 @@ pushed_among d port (e ∷ before) m =
 moved_fewer : (job : Job) (w : World) (history : List Entry) (n : ℕ) → Sound job w → IsJoint w.logs history → length (came_below w n) ≤ length history
 moved_fewer job w history n s joint =
     let a = apart_length (came_below w n) (pushed_in history) (came_below_apart w n s.delivers) (λ d m.
-        (let P : List Entry → Type 0 = λ log. PushedIn d log in
-          pushed_among d d.src.0 history (subst P (sym (joint.logs_are d.src.0)) (came_in w n d s.delivers m).1))) in
+    (let P : List Entry → Type 0 = λ log. PushedIn d log in
+    pushed_among d d.src.0 history (subst P (sym (joint.logs_are d.src.0)) (came_in w n d s.delivers m).1))) in
     let b = pushed_fewer history in
     omega arith
 

@@ -1,7 +1,6 @@
 -- Ports that are no ranks do nothing, so all that goes out of a fair job's ports goes to ranks.
-use Rattle.std.proofs.Common.{◌≡◌, ℕ, ◌+◌, ◌<◌, ◌≤◌, ◌%◌, max, Bool, true, false, not, ◌&&◌, ◌||◌, nat_le, nat_lt, ltb-true, List, [], ◌∷◌, ◌++◌, length, slice_get, Option, Some, None, IsTrue, refl, arith, ◌⊎◌, inl, inr, sym, ◌∙◌, ap, subst}
+use Rattle.std.proofs.Common.{◌≡◌, ℕ, ◌<◌, ◌≤◌, true, not, ◌&&◌, ◌||◌, nat_le, ltb-true, List, [], ◌∷◌, length, slice_get, Option, Some, None, IsTrue, refl, arith, inl, inr, ◌∙◌, subst}
 use Rattle.std.proofs.lemmas.Bool.{and_parts, cases_lt}
-use Rattle.rdm_num.specs.Lists.{Member}
 use Rattle.rdm_num.specs.Lives.{life}
 use Rattle.rdm_num.specs.declared.numbers.PortNo.{PortNo}
 use Rattle.rdm_num.specs.declared.numbers.Connid.{Connid}
@@ -21,8 +20,8 @@ use Rattle.rdm_model.specs.declared.answer.Handled.TheVariants.{Took as TookAnsw
 use Rattle.rdm_model.specs.declared.entry.Entry.{Entry}
 use Rattle.rdm_model.specs.declared.entry.Act.{Act}
 use Rattle.rdm_model.specs.declared.entry.Act.TheVariants.{Next, Push, Handle, Poll}
-use Rattle.rdm_model.specs.Deeds.{Deed, Did, Took, Item, deed_by_next, deed_by_push, deed_by_handle, deed_of, deeds, open_life, of_life, is_connid}
-use Rattle.rdm_model.specs.Owns.{Own, rank_of, own_of, life_at, port_count}
+use Rattle.rdm_model.specs.Deeds.{Deed, Did, Item, deed_by_next, deed_by_push, deed_by_handle, deed_of, deeds, open_life, of_life}
+use Rattle.rdm_model.specs.Owns.{rank_of, own_of, port_count}
 use Rattle.rdm_model.specs.Jobs.{is_fair, law_ops, instr_fits, is_rank, choice_rank}
 use Rattle.rdm_model.specs.Scenes.{Scene, scene, deeds_at}
 use Rattle.rdm_model.specs.Answers.{answer_of, is_entry}
@@ -31,13 +30,13 @@ use Rattle.rdm_model.specs.Turns.{Turn, Replies, Sends, turn}
 use Rattle.rdm_model.specs.Going.{Going, GoesNote, Goes, turn_going, life_going, note_going, going}
 use Rattle.rdm_model.specs.Notes.{OwedNote, next_note}
 use Rattle.rdm_model.specs.Takes.{is_again_early}
-use Rattle.rdm_model.specs.Settled.{is_worn, is_worn_by, instruction_left}
-use Rattle.rdm_model.specs.Local.{heard_by, own_scene, Local}
+use Rattle.rdm_model.specs.Settled.{is_worn, is_worn_by}
+use Rattle.rdm_model.specs.Local.{heard_by, own_scene}
 use Rattle.rdm_model.specs.Wire.{PushedIn}
-use Rattle.rdm_model.specs.Worlds.{World, new_world, put_at, scene_in, with_entry, step_next, datagram_of, with_push, step_push, after_fetch, with_handle, after_handle_at, after_pick, step_handle, with_poll, next_completion, after_choice}
-use Rattle.rdm_law.proofs.Lives.{life_scene, life_of, opened_scene, at_of_life}
+use Rattle.rdm_model.specs.Worlds.{World, new_world, scene_in, with_entry, step_next, datagram_of, with_push, step_push, after_fetch, with_handle, after_handle_at, after_pick, step_handle, with_poll, after_choice}
+use Rattle.rdm_law.proofs.Lives.{life_of, opened_scene, at_of_life}
 use Rattle.rdm_law.proofs.RegionsFit.{DidFits, AllDidFit}
-use Rattle.rdm_law.proofs.FairJobs.{JobFits, fair_job, all_did_fit}
+use Rattle.rdm_law.proofs.FairJobs.{fair_job, all_did_fit}
 use Rattle.rdm_law.proofs.GoesWell.{life_goes, closed_goes}
 use Rattle.rdm_law.proofs.Apart.{put_at_there}
 use Rattle.rdm_law.proofs.Delivers.{HadWaited, AllHadWaited}

@@ -1,40 +1,28 @@
 -- What is played in a fair job is lawful, by the law of joint histories.
-use Rattle.std.proofs.Common.{◌≡◌, ℕ, ◌≤◌, Bool, ◌||◌, List, [], ◌∷◌, map, length, is_some, Option, Some, None, IsTrue, refl, arith, sym, ◌∙◌, ap, subst, length-append}
+use Rattle.std.proofs.Common.{◌≡◌, ℕ, ◌≤◌, Bool, ◌||◌, List, [], ◌∷◌, map, length, is_some, Option, IsTrue, refl, arith, sym, ◌∙◌, ap, subst, length-append}
 use Rattle.std.specs.List.{list_any}
 use Rattle.rdm_num.specs.Lists.{below}
-use Rattle.rdm_num.specs.declared.numbers.Connid.{Connid}
 use Rattle.rdm_model.specs.declared.job.Job.{Job}
-use Rattle.rdm_model.specs.declared.job.Instr.{Instr}
 use Rattle.rdm_model.specs.declared.answer.Next.{Next as Answer}
 use Rattle.rdm_model.specs.declared.entry.Entry.{Entry}
 use Rattle.rdm_model.specs.declared.report.End.{End}
 use Rattle.rdm_model.specs.declared.report.Report.{Report}
-use Rattle.rdm_model.specs.Deeds.{log_of, open_life, of_life, of_open_life}
-use Rattle.rdm_model.specs.Owns.{Messages, own_of, life_at, port_count}
-use Rattle.rdm_model.specs.Heard.{heard_head}
-use Rattle.rdm_model.specs.Scenes.{Scene, scene, deeds_at}
-use Rattle.rdm_model.specs.Answers.{answer_of}
+use Rattle.rdm_model.specs.Deeds.{log_of}
+use Rattle.rdm_model.specs.Owns.{port_count}
+use Rattle.rdm_model.specs.Scenes.{deeds_at}
 use Rattle.rdm_model.specs.Jobs.{is_fair, law_ops}
-use Rattle.rdm_model.specs.Local.{heard_by, own_scene}
-use Rattle.rdm_model.specs.Lawful.{port_deeds, life_deeds, sent_to, sent_scene}
+use Rattle.rdm_model.specs.Local.{own_scene}
+use Rattle.rdm_model.specs.Lawful.{port_deeds, sent_scene}
 use Rattle.rdm_model.specs.Joint.{IsJoint}
-use Rattle.rdm_model.specs.Matches.{matching}
-use Rattle.rdm_model.specs.Receives.{is_filled}
-use Rattle.rdm_match.specs.Matcher.{is_pair}
-use Rattle.rdm_model.specs.Settled.{instruction_left, left_answer, left_at, answer_or_worn, waiting_datagrams}
+use Rattle.rdm_model.specs.Settled.{instruction_left, left_at, waiting_datagrams}
 use Rattle.rdm_model.specs.Reports.{end_of, end_in, is_stuck}
 use Rattle.rdm_model.specs.Worlds.{World, scene_in}
 use Rattle.rdm_model.specs.Played.{played_world, end_at, IsReportOf}
-use Rattle.rdm_model.proofs.SameRegions.{Agree}
-use Rattle.rdm_model.proofs.SameAnswers.{by_account, AgreesIn, answer_same}
 use Rattle.rdm_law.specs.Law.{JointLaw}
 use Rattle.rdm_law.specs.Right.{stashed_end, IsLawfulReport, PlaysLawfully}
-use Rattle.rdm_law.proofs.Lives.{life_of}
 use Rattle.rdm_law.proofs.Agreed.{left_agreed}
 use Rattle.rdm_law.proofs.Wired.{Played}
 use Rattle.rdm_law.proofs.Joint.{joint_parts}
-use Rattle.rdm_law.proofs.Sent.{SendsAre, agree_sent}
-use Rattle.rdm_law.proofs.SendsAre.{sends_are}
 use Rattle.rdm_law.proofs.Sound.{Sound, waiting_in}
 use Rattle.rdm_law.proofs.SoundSteps.{new_sound}
 use Rattle.rdm_law.proofs.SoundHandles.{choice_sound}

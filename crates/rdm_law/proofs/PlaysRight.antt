@@ -1,5 +1,5 @@
 -- A report of a world where nothing would change anything is right.
-use Rattle.std.proofs.Common.{◌≡◌, ℕ, ◌+◌, ◌*◌, ◌<◌, ◌≤◌, Bool, nat_le, leb-true, ◌&&◌, List, [], ◌∷◌, map, length, IsTrue, refl, arith, ◌⊎◌, inl, inr, sym, ◌∙◌, ap, subst}
+use Rattle.std.proofs.Common.{◌≡◌, ℕ, ◌<◌, ◌≤◌, leb-true, List, [], ◌∷◌, map, length, IsTrue, refl, arith, inl, inr, ◌∙◌, ap}
 use Rattle.std.proofs.lemmas.Bool.{and_parts}
 use Rattle.rdm_num.specs.Lists.{Member, below}
 use Rattle.rdm_model.specs.declared.job.Job.{Job}
@@ -11,7 +11,7 @@ use Rattle.rdm_model.specs.Jobs.{is_fair, law_ops, is_within, bound}
 use Rattle.rdm_model.specs.Settled.{waiting_datagrams}
 use Rattle.rdm_model.specs.Reports.{end_of, end_in, RightReport}
 use Rattle.rdm_model.specs.Worlds.{World, new_world, after_choices}
-use Rattle.rdm_model.specs.Played.{rounds, round_bound, played_world, end_at, IsReportOf, IsPlayed}
+use Rattle.rdm_model.specs.Played.{round_bound, played_world, end_at, IsReportOf, IsPlayed}
 use Rattle.rdm_law.specs.Right.{stashed_end}
 use Rattle.rdm_law.proofs.TheLaw.{the_joint_law}
 use Rattle.rdm_law.proofs.Sound.{Sound}
@@ -60,8 +60,8 @@ quiet_right job w report fair s empty quiet is =
       settled = quiet_settled job w history (some_inbox job fair) s is.history played quiet (goes_to_ranks job w fair s empty);
       stuck = right.stuck;
       ends = is.ends ∙ map_members (end_at job w) (end_in job history) (below (port_count job)) (λ port m.
-        end_agrees job w history port played (is.history.logs_are port)
-        ∙ exact_end job history (λ p. length (w.stashes p)) port (quiet_stash job w history port s is.history played (quiet port m)));
+          end_agrees job w history port played (is.history.logs_are port)
+          ∙ exact_end job history (λ p. length (w.stashes p)) port (quiet_stash job w history port s is.history played (quiet port m)));
     }
 
 -- the world that a fair job ends in has none but ranks act

@@ -1,8 +1,5 @@
 -- A step that changes nothing: why it could not.
-use Rattle.std.proofs.Common.{◌≡◌, ℕ, zero, suc, ◌+◌, ◌-◌, ◌<◌, ◌≤◌, ◌%◌, min, max, Bool, true, false, cond, not, ◌&&◌, ◌||◌, nat_le, leb-true, leb-false, le-leb, eq-eqb, List, [], ◌∷◌, ◌++◌, length, take, drop, remove, slice_get, Option, Some, None, is_none, refl, arith, ◌⊎◌, inl, inr, sym, ◌∙◌, ap, subst, append-nil, eqb-true, mod-eq_of_lt}
-use Rattle.std.specs.Prelude.{◌==◌}
-use Rattle.std.proofs.lemmas.Option.{slice_get_within}
-use Rattle.rdm_num.specs.Lists.{Member}
+use Rattle.std.proofs.Common.{◌≡◌, ℕ, ◌<◌, true, false, not, ◌&&◌, ◌||◌, nat_le, List, length, slice_get, Option, Some, None, refl, arith, ◌⊎◌, inl, inr, ◌∙◌, subst}
 use Rattle.rdm_num.specs.declared.completion.Completion.{Completion}
 use Rattle.rdm_wire.specs.declared.Datagram.{Datagram}
 use Rattle.rdm_model.specs.declared.job.Job.{Job}
@@ -10,16 +7,15 @@ use Rattle.rdm_model.specs.declared.job.Instr.{Instr}
 use Rattle.rdm_model.specs.declared.job.Choice.{Choice}
 use Rattle.rdm_model.specs.declared.entry.Entry.{Entry}
 use Rattle.rdm_model.specs.declared.entry.Act.{Act}
-use Rattle.rdm_model.specs.Scenes.{Scene, deeds_at}
+use Rattle.rdm_model.specs.Scenes.{deeds_at}
 use Rattle.rdm_model.specs.Answers.{answer_of, is_entry}
 use Rattle.rdm_model.specs.Classes.{class_of}
 use Rattle.rdm_model.specs.Going.{Going, GoesNote, Goes, going}
 use Rattle.rdm_model.specs.Takes.{is_again_early}
 use Rattle.rdm_model.specs.Settled.{is_worn, is_worn_by, instruction_left}
 use Rattle.rdm_model.specs.Local.{own_scene}
-use Rattle.rdm_model.specs.Worlds.{World, put_at, scene_in, with_entry, step_next, datagram_of, with_push, step_push, after_fetch, with_handle, after_handle_at, after_pick, step_handle, with_poll, next_completion, after_choice}
-use Rattle.rdm_law.proofs.Apart.{put_at_case}
-use Rattle.rdm_law.proofs.Sound.{chosen, or_false}
+use Rattle.rdm_model.specs.Worlds.{World, scene_in, with_entry, step_next, datagram_of, with_push, step_push, with_poll, next_completion, after_choice}
+use Rattle.rdm_law.proofs.Sound.{chosen}
 
 -- the worlds have the same logs, queues and stashes, and as many changes
 pub record Still (w v : World) : Type 0 where

@@ -1,5 +1,5 @@
 -- A port that looks at its whole stash and changes nothing: why it could not.
-use Rattle.std.proofs.Common.{◌≡◌, ℕ, zero, suc, ◌+◌, ◌-◌, ◌<◌, ◌≤◌, ◌%◌, min, max, Bool, true, false, cond, not, ◌&&◌, ◌||◌, nat_le, leb-true, leb-false, le-leb, eq-eqb, List, [], ◌∷◌, ◌++◌, length, take, drop, remove, slice_get, Option, Some, None, refl, arith, ◌⊎◌, inl, inr, sym, ◌∙◌, ap, subst, append-nil, eqb-true, mod-eq_of_lt}
+use Rattle.std.proofs.Common.{◌≡◌, ℕ, zero, suc, ◌+◌, ◌<◌, ◌≤◌, ◌%◌, min, max, Bool, true, false, not, ◌||◌, nat_le, leb-true, eq-eqb, List, [], ◌∷◌, ◌++◌, length, take, drop, slice_get, Option, Some, None, refl, arith, inl, inr, sym, ◌∙◌, ap, subst, append-nil, mod-eq_of_lt}
 use Rattle.std.specs.Prelude.{◌==◌}
 use Rattle.std.proofs.lemmas.Bool.{cases_lt}
 use Rattle.rdm_wire.specs.declared.Datagram.{Datagram}
@@ -12,11 +12,11 @@ use Rattle.rdm_model.specs.Classes.{class_of}
 use Rattle.rdm_model.specs.Takes.{is_again_early}
 use Rattle.rdm_model.specs.Settled.{is_worn_by}
 use Rattle.rdm_model.specs.Local.{own_scene}
-use Rattle.rdm_model.specs.Worlds.{World, put_at, scene_in, with_entry, after_fetch, with_handle, after_handle_at, after_pick, step_handle, after_choice}
+use Rattle.rdm_model.specs.Worlds.{World, scene_in, with_entry, after_fetch, with_handle, after_handle_at, after_pick, step_handle, after_choice}
 use Rattle.rdm_model.specs.Played.{stop_if, is_last_try, try_then, after_first_handle, handle_any}
 use Rattle.rdm_law.proofs.Apart.{put_at_case}
-use Rattle.rdm_law.proofs.Sound.{chosen, or_false}
-use Rattle.rdm_law.proofs.Quiet.{Still, still_refl, still_then, Outcome, PlaceQuiet, none_some, some_same, entry_grows, next_outcome, push_outcome, poll_outcome}
+use Rattle.rdm_law.proofs.Sound.{chosen}
+use Rattle.rdm_law.proofs.Quiet.{Still, still_refl, still_then, Outcome, PlaceQuiet, none_some, some_same, next_outcome, push_outcome, poll_outcome}
 use Rattle.rdm_law.proofs.PlayedSteps.{Keeps, first_handle_keeps}
 
 -- no step makes fewer changes

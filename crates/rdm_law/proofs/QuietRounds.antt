@@ -1,5 +1,5 @@
 -- Rounds end in one that changes nothing, or make a change each.
-use Rattle.std.proofs.Common.{◌≡◌, ℕ, zero, suc, ◌+◌, ◌<◌, ◌≤◌, Bool, true, false, not, ◌&&◌, ◌||◌, nat_le, eq-eqb, eqb-true, List, [], ◌∷◌, length, Some, refl, arith, ◌⊎◌, inl, inr, sym, ◌∙◌, ap, subst}
+use Rattle.std.proofs.Common.{◌≡◌, ℕ, zero, suc, ◌+◌, ◌<◌, ◌≤◌, Bool, true, false, ◌||◌, nat_le, eqb-true, List, [], ◌∷◌, length, Some, refl, arith, ◌⊎◌, inl, inr, sym, ◌∙◌, subst}
 use Rattle.std.specs.Prelude.{◌==◌}
 use Rattle.std.proofs.lemmas.Bool.{eqb-false}
 use Rattle.rdm_num.specs.Lists.{Member, below}
@@ -9,13 +9,13 @@ use Rattle.rdm_model.specs.declared.job.Choice.{Choice}
 use Rattle.rdm_model.specs.declared.entry.Entry.{Entry}
 use Rattle.rdm_model.specs.Owns.{port_count}
 use Rattle.rdm_model.specs.Scenes.{deeds_at}
-use Rattle.rdm_model.specs.Going.{Going, going}
+use Rattle.rdm_model.specs.Going.{going}
 use Rattle.rdm_model.specs.Settled.{is_worn}
 use Rattle.rdm_model.specs.Local.{own_scene}
 use Rattle.rdm_model.specs.Worlds.{World, after_choice}
 use Rattle.rdm_model.specs.Played.{stop_if, handle_any, turn_of, turns_of, round_of, unless_quiet, rounds}
 use Rattle.rdm_law.proofs.PlayedSteps.{member_below}
-use Rattle.rdm_law.proofs.Quiet.{Still, still_refl, still_then, Outcome, NextQuiet, going_to, PushQuiet, PollQuiet, PlaceQuiet, next_outcome, push_outcome, poll_outcome}
+use Rattle.rdm_law.proofs.Quiet.{Still, still_refl, still_then, Outcome, NextQuiet, going_to, PushQuiet, PollQuiet, next_outcome, push_outcome, poll_outcome}
 use Rattle.rdm_law.proofs.QuietHandles.{at_most, PlacesQuiet, HandleQuiet, handle_any_outcome, still_place}
 
 -- nothing that a port could do would change anything

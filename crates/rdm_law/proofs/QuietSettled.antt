@@ -1,5 +1,5 @@
 -- A world where nothing would change anything has a settled history.
-use Rattle.std.proofs.Common.{◌≡◌, ℕ, zero, suc, ◌+◌, ◌<◌, ◌≤◌, Bool, true, false, cond, not, ◌&&◌, ◌||◌, nat_le, leb-true, List, [], ◌∷◌, ◌++◌, map, length, slice_get, is_none, Option, Some, None, IsTrue, refl, arith, ◌⊎◌, inl, inr, sym, ◌∙◌, ap, subst, append-nil, length-append}
+use Rattle.std.proofs.Common.{◌≡◌, ℕ, zero, suc, ◌<◌, ◌≤◌, Bool, true, false, cond, not, ◌&&◌, ◌||◌, nat_le, leb-true, List, [], ◌∷◌, ◌++◌, length, is_none, Option, Some, None, IsTrue, refl, arith, inl, inr, sym, ◌∙◌, ap, subst, append-nil, length-append}
 use Rattle.std.specs.List.{list_all}
 use Rattle.std.proofs.lemmas.Bool.{and_from, or_cases, cases_lt}
 use Rattle.std.proofs.lemmas.Option.{slice_get_within}
@@ -28,12 +28,10 @@ use Rattle.rdm_law.proofs.Received.{member_at}
 use Rattle.rdm_law.proofs.Wired.{Played}
 use Rattle.rdm_law.proofs.Agreed.{going_agreed, left_agreed, none_agreed, early_agreed}
 use Rattle.rdm_law.proofs.ClassFree.{all_free}
-use Rattle.rdm_law.proofs.PlayedSteps.{member_below}
 use Rattle.rdm_law.proofs.Sound.{Sound, waiting_in}
-use Rattle.rdm_law.proofs.Delivers.{Delivers, AreNumbered}
-use Rattle.rdm_law.proofs.WaitingAll.{WaitsThere, waits_once, waits_by_logs, waiting_count}
-use Rattle.rdm_law.proofs.Quiet.{NextQuiet, going_to, PushQuiet, PollQuiet, PlaceQuiet}
-use Rattle.rdm_law.proofs.QuietHandles.{PlacesQuiet}
+use Rattle.rdm_law.proofs.Delivers.{AreNumbered}
+use Rattle.rdm_law.proofs.WaitingAll.{waits_once, waits_by_logs, waiting_count}
+use Rattle.rdm_law.proofs.Quiet.{NextQuiet, going_to, PushQuiet, PollQuiet}
 use Rattle.rdm_law.proofs.QuietRounds.{TurnQuiet, AllQuiet}
 
 -- what goes out of each port goes to a rank

@@ -1,30 +1,27 @@
 -- In a fair job all that goes out goes to a rank.
-use Rattle.std.proofs.Common.{◌≡◌, ℕ, zero, suc, ◌+◌, ◌-◌, ◌<◌, ◌≤◌, Bool, true, false, cond, not, ◌&&◌, ◌||◌, nat_lt, ltb-true, List, [], ◌∷◌, ◌++◌, map, length, slice_get, Option, Some, None, IsTrue, refl, arith, ◌⊎◌, inl, inr, sym, ◌∙◌, ap, subst}
+use Rattle.std.proofs.Common.{◌≡◌, ℕ, ◌<◌, not, ltb-true, List, [], ◌∷◌, length, Some, inl, inr, sym, subst}
 use Rattle.std.specs.Prelude.{filter, ◌==◌}
-use Rattle.std.proofs.lemmas.Bool.{and_parts, cases_lt}
+use Rattle.std.proofs.lemmas.Bool.{and_parts}
 use Rattle.rdm_num.specs.Lists.{Member, below}
-use Rattle.rdm_num.specs.declared.numbers.Connid.{Connid}
 use Rattle.rdm_num.specs.declared.numbers.Life.{Life}
 use Rattle.rdm_num.specs.declared.request.SendReq.{SendReq}
-use Rattle.rdm_wire.specs.declared.NoteBody.TheVariants.{Opened, Said}
+use Rattle.rdm_wire.specs.declared.NoteBody.TheVariants.{Opened}
 use Rattle.rdm_match.specs.Matcher.{Pair}
-use Rattle.rdm_model.specs.declared.job.Job.{Job}
-use Rattle.rdm_model.specs.declared.job.Instr.{Instr}
-use Rattle.rdm_model.specs.declared.job.Instr.TheVariants.{OpenLife, Insert, Reg, Send, Recv, Cancel, Note, Await, Wait, CloseLife}
-use Rattle.rdm_model.specs.Deeds.{Deed, Did, PushedNote, Pushed, TookNote, Took, Polled, Nothing, Item, Asks}
-use Rattle.rdm_model.specs.Owns.{Own, Messages, Heads, port_count}
+use Rattle.rdm_model.specs.declared.job.Instr.TheVariants.{OpenLife, Insert, Note}
+use Rattle.rdm_model.specs.Deeds.{Deed, Did, Took, Item, Asks}
+use Rattle.rdm_model.specs.Owns.{Own, Messages, Heads}
 use Rattle.rdm_model.specs.Currents.{inserted_by, last_inserted, seen_by, first_seen, current}
-use Rattle.rdm_model.specs.Notes.{OwedNote, note_to, notes_by, notes, is_note_push, next_note}
+use Rattle.rdm_model.specs.Notes.{OwedNote, note_to, notes_by, notes, next_note}
 use Rattle.rdm_model.specs.Matches.{pairs}
 use Rattle.rdm_model.specs.Sends.{Sent, sends_to, new_sent, range_of, sends}
 use Rattle.rdm_model.specs.Regions.{regions}
 use Rattle.rdm_model.specs.Replies.{Reply}
 use Rattle.rdm_model.specs.Turns.{Turn, Replies, Sends, progress, turn}
-use Rattle.rdm_model.specs.Going.{Going, Goes, turn_going}
+use Rattle.rdm_model.specs.Going.{Goes, turn_going}
 use Rattle.rdm_model.specs.Jobs.{instr_fits, is_rank}
 use Rattle.rdm_model.proofs.Members.{or_else_cases, member-append_cases, member-map, member-filter, slice_get-member, then_some_parts}
 use Rattle.rdm_model.proofs.Matches.{pair_heard}
-use Rattle.rdm_model.proofs.Numbers.{NewSent, sends_keep}
+use Rattle.rdm_model.proofs.Numbers.{sends_keep}
 use Rattle.rdm_model.proofs.Turns.{turn_cases}
 use Rattle.rdm_law.proofs.Owed.{NewReply, OwedIn, owed_in}
 use Rattle.rdm_law.proofs.Queue.{owed}
@@ -100,9 +97,9 @@ sends_are_to P own ms (d ∷ before) h s m =
     (λ x old. sends_are_to P own ms before h.0 x old)
     (λ x t old n was. was)
     (λ t n.
-      subst (λ (x : Sent). P x.to) (sym n.is)
-      (new_to P own before (length (sends own ms before)) (length (sends_to (sends own ms before) n.to)) n.req n.to (range_of (regions own.limits.first ms before) n.req.region.0 n.req.at n.req.len)
-        (current_is P n.req.to.0 before n.to h.0 n.current)))
+    subst (λ (x : Sent). P x.to) (sym n.is)
+    (new_to P own before (length (sends own ms before)) (length (sends_to (sends own ms before) n.to)) n.req n.to (range_of (regions own.limits.first ms before) n.req.region.0 n.req.at n.req.len)
+    (current_is P n.req.to.0 before n.to h.0 n.current)))
     s m
 
 -- a life that was taken from

@@ -1,5 +1,5 @@
 -- What a life owes for what it took can go.
-use Rattle.std.proofs.Common.{◌≡◌, ℕ, ◌+◌, ◌<◌, ◌≤◌, Bool, true, false, cond, ◌&&◌, ltb-true, List, [], ◌∷◌, drop, unwrap_or, Option, Some, None, refl, arith, inl, inr, sym, subst}
+use Rattle.std.proofs.Common.{◌≡◌, ℕ, ◌+◌, ◌<◌, ◌≤◌, true, ◌&&◌, ltb-true, List, [], ◌∷◌, drop, unwrap_or, Option, Some, None, refl, arith, inl, inr, sym, subst}
 use Rattle.std.specs.Prelude.{◌==◌}
 use Rattle.std.specs.List.{list_all}
 use Rattle.std.proofs.lemmas.Bool.{and_parts}

@@ -1,7 +1,6 @@
 -- Bytes that are bytes: in parts of lists, in the packets that life took, and so in the messages that came.
 use Rattle.std.proofs.Common.{◌≡◌, ℕ, zero, suc, ◌+◌, ◌-◌, ◌<◌, Bool, true, false, cond, nat_lt, ltb-true, List, [], ◌∷◌, ◌++◌, length, take, drop, replicate, slice_get, unwrap_or, is_some, option_to_list, Option, Some, None, refl, inl, inr, sym, ◌∙◌, ap, subst, take-append-drop, lt-ltb}
 use Rattle.std.specs.List.{list_all}
-use Rattle.std.specs.Bool.{then_some}
 use Rattle.std.proofs.lemmas.Bool.{and_parts, and_from}
 use Rattle.std.proofs.lemmas.List.Folds.{list_all-append, list_all-map}
 use Rattle.rdm_num.specs.Lists.{Member, below}

@@ -1,5 +1,5 @@
 -- What waits in a history waits by the logs.
-use Rattle.std.proofs.Common.{◌≡◌, ℕ, ◌+◌, ◌<◌, ◌≤◌, Bool, true, false, cond, not, ◌&&◌, eqb-true, eq-eqb, List, [], ◌∷◌, ◌++◌, length, refl, arith, true≢false, ◌⊎◌, inl, inr, sym, ◌∙◌, ap, subst, length-append}
+use Rattle.std.proofs.Common.{◌≡◌, ℕ, Bool, true, false, cond, not, eqb-true, eq-eqb, List, [], ◌∷◌, ◌++◌, length, refl, arith, true≢false, inl, inr, sym, ◌∙◌, ap, subst}
 use Rattle.std.specs.Prelude.{◌==◌, filter}
 use Rattle.std.proofs.lemmas.Bool.{and_from}
 use Rattle.rdm_num.specs.Lists.{Member}
@@ -15,9 +15,9 @@ use Rattle.rdm_model.specs.Wire.{PushedIn, IsOther, IsUnhandled, Comes, Wire}
 use Rattle.rdm_model.specs.Joint.{IsJoint}
 use Rattle.rdm_model.specs.Settled.{same_datagram, waiting_after, waiting_datagrams}
 use Rattle.rdm_model.proofs.Members.{member-append_cases, member-filter}
-use Rattle.rdm_law.proofs.Apart.{Differ, DiffersFrom, AreApart, apart_push}
-use Rattle.rdm_law.proofs.Delivers.{IsNumbered, AreNumbered, Delivers, pushed_below}
-use Rattle.rdm_law.proofs.DeliverSteps.{IsNew, next_is_new}
+use Rattle.rdm_law.proofs.Apart.{Differ, AreApart, apart_push}
+use Rattle.rdm_law.proofs.Delivers.{IsNumbered, AreNumbered, Delivers}
+use Rattle.rdm_law.proofs.DeliverSteps.{next_is_new}
 use Rattle.rdm_law.proofs.Logs.{log_of-same, at_log_of}
 use Rattle.rdm_law.proofs.Waiting.{apart_length, waiting_bound}
 
