@@ -1,0 +1,28 @@
+-- Lemmas on the definitions.
+-- Elements of lists, and lives compared:
+pub mod Members
+pub mod Lists
+-- What the matcher of a life keeps:
+pub mod Matches
+pub mod Numbers
+-- Two accounts of the messages that agree on what was heard, and on the bytes of what was received, say the same:
+pub mod SameMatches
+pub mod SameReceives
+pub mod SameRegions
+pub mod SameReplies
+pub mod SameTurns
+pub mod SameCompletions
+pub mod SameAnswers
+pub mod SameNamed
+pub mod SameClasses
+pub mod SameFits
+-- What a log says of its messages stays as it grows:
+pub mod Grows
+pub mod Cuts
+pub mod Rows
+pub mod Opens
+pub mod Turns
+pub mod Pushes
+pub mod Served
+pub mod Sending
+pub mod SentTo
