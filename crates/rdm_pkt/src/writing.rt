@@ -131,7 +131,7 @@ fn rtm_kind(form: &Form, tag: Option<u64>) -> u8
 
 /// The flags of a packet that opens a message.
 #[tactic(auto, unfolding(crate::specs::Grammar::rtm_flags))]
-fn rtm_flags(tag: Option<u64>, opt: &Opt) -> u16
+pub fn rtm_flags(tag: Option<u64>, opt: &Opt) -> u16
     ensures { result ≡ Grammar.rtm_flags tag opt.now }
 {
     let kind = if tag.is_some() { 8 } else { 4 };
