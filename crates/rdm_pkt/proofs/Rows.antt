@@ -1,5 +1,5 @@
 -- When bytes are the packets that do not open a message.
-use Rattle.std.proofs.Common.{◌≡◌, ℕ, zero, suc, ◌+◌, ◌-◌, ◌*◌, ◌<◌, ◌≤◌, ◌^◌, Bool, true, false, List, [], ◌∷◌, ◌++◌, length, drop, map, Option, Some, None, refl, sym, ap, ◌∙◌, append_assoc, arith}
+use Rattle.std.proofs.Common.{◌≡◌, ℕ, zero, suc, ◌+◌, ◌-◌, ◌*◌, ◌<◌, ◌≤◌, ◌^◌, Bool, true, false, List, [], ◌∷◌, ◌++◌, length, drop, map, Option, Some, None, refl, sym, ap, ◌∙◌, append_assoc, append-nil, arith}
 use Rattle.std.specs.Prelude.{nat_le, nat_lt, ◌==◌, ◌&&◌, min}
 use Rattle.std.specs.List.{list_all}
 use Rattle.std.proofs.lemmas.List.{length-drop}
@@ -90,6 +90,21 @@ length-words_at : (place count : ℕ) (bytes : List ℕ) → length (words_at pl
 unfolding words_at
 length-words_at place zero bytes = refl
 length-words_at place (suc n) bytes = let e = length-words_at (place + 8) n bytes in omega (arith, e)
+
+-- one word more is read
+pub words_at-next : (count k : ℕ) (read bytes : List ℕ) → k < count → (read ++ number_at (8 + 8 * k) 8 bytes ∷ []) ++ words_at (8 + 8 * (k + 1)) (count - (k + 1)) bytes ≡ read ++ words_at (8 + 8 * k) (count - k) bytes
+unfolding words_at
+words_at-next count k read bytes more =
+    let left : count - k ≡ suc (count - (k + 1)) = omega arith in
+    let place : 8 + 8 * k + 8 ≡ 8 + 8 * (k + 1) = omega arith in
+    rw (left, place) (append_assoc read (number_at (8 + 8 * k) 8 bytes ∷ []) (words_at (8 + 8 * (k + 1)) (count - (k + 1)) bytes))
+
+-- all words are read
+pub words_at-last : (count k : ℕ) (read bytes : List ℕ) → count ≤ k → read ++ words_at (8 + 8 * k) (count - k) bytes ≡ read
+unfolding words_at
+words_at-last count k read bytes done =
+    let none : count - k ≡ 0 = omega arith in
+    rw none (append-nil read)
 
 -- words that stand there are in their ranges
 fit-words : (place count : ℕ) (more : List Field) (bytes : List ℕ) → AreBytes bytes → fields_fit more ≡ true → fields_fit (map (Number 8) (words_at place count bytes) ++ more) ≡ true

@@ -1,5 +1,5 @@
 //! How packets are read: field after field, each condition of the grammar where its field is read.
-ghost use Rattle.std.specs.Prelude.{◌≡◌, ◌≤◌, ◌<◌, ◌+◌, ◌*◌, ◌&&◌, nat_le, IfOk, length, drop, option_and_then};
+ghost use Rattle.std.specs.Prelude.{◌≡◌, ◌≤◌, ◌<◌, ◌+◌, ◌*◌, ◌&&◌, nat_le, if◌then◌else◌, IfOk, IfSome, length, drop, option_and_then};
 ghost use Rattle.std.specs.Bool.{then_some};
 ghost use Rattle.rdm_hdr.specs.Fields.{number_at, fields_bytes};
 ghost use Rattle.rdm_hdr.specs.Reading.{begins};
@@ -11,7 +11,7 @@ ghost use Rattle.rdm_pkt.specs.Opened.{opening_in};
 use crate::writing::{CONNID_FLAG, VERSION, rtm_flags};
 use crate::{Form, Packet};
 use arrayvec::ArrayVec;
-use rdm_hdr::{NoMemory, Opt, has_bit, read_opt, u16_at, u32_at, u64_at};
+use rdm_hdr::{NoMemory, Opt, has_bit, read_opt, size_if, u16_at, u32_at, u64_at};
 use rdm_num::{Bytes, Connid, Iov, IovEntry, MsgNo, OpId, Words};
 use std::alloc::Global;
 
@@ -182,20 +182,25 @@ fn read_opening(kind: u8, size: usize, bytes: &[u8]) -> Option<Opening>
     requires small { kind < 255 }
     requires least { 8 ≤ size }
     requires most { size ≤ 40 }
-    ensures { result ≡ opening_in kind size bytes.now }
+    ensures value { result ≡ opening_in kind size bytes.now }
+    ensures least { IfSome result (λ opening. size ≤ opening.place) }
+    ensures most { IfSome result (λ opening. opening.place ≤ length bytes.now) }
 {
     if bytes.len() < size {
         return None;
     }
     let flags = u16_at(bytes, 2);
     let tagged = has_bit(3, u64::from(flags));
-    let place = if tagged { size + 8 } else { size };
+    let place = size + size_if(tagged, 8);
     if bytes.len() < place {
         return None;
     }
     let (opt, opt_size) = read_opt(flags, after(bytes, place))?;
-    let tag = if tagged { Some(u64_at(bytes, size)) } else { None };
-    if !opt_fits(&opt) || !has_head(bytes, kind + u8::from(tagged), rtm_flags(tag, &opt)) {
+    let tag = read_tag(tagged, bytes, size);
+    if !opt_fits(&opt) {
+        return None;
+    }
+    if !has_head(bytes, kind + u8::from(tag.is_some()), rtm_flags(tag, &opt)) {
         return None;
     }
     Some(Opening {
@@ -204,6 +209,18 @@ fn read_opening(kind: u8, size: usize, bytes: &[u8]) -> Option<Opening>
         opt,
         place: place + opt_size,
     })
+}
+
+/// The tag at a place, if it is there.
+fn read_tag(is_there: bool, bytes: &[u8], place: usize) -> Option<u64>
+    requires { place + (if is_there then 8 else 0) ≤ length bytes.now }
+    ensures { result ≡ then_some is_there (number_at place 8 bytes.now) }
+{
+    if is_there {
+        Some(u64_at(bytes, place))
+    } else {
+        None
+    }
 }
 
 /// Exactly one of the raw address and the identifier is there.
