@@ -1,20 +1,21 @@
 -- When bytes are a packet that opens a message.
-use Rattle.std.proofs.Common.{◌≡◌, ℕ, zero, suc, ◌+◌, ◌-◌, ◌*◌, ◌<◌, ◌≤◌, ◌^◌, Bool, true, false, if◌then◌else◌, List, [], ◌∷◌, ◌++◌, length, drop, Option, Some, None, refl, sym, ap, ◌∙◌, subst, append_assoc, arith}
+use Rattle.std.proofs.Common.{◌≡◌, ℕ, zero, suc, ◌+◌, ◌-◌, ◌*◌, ◌<◌, ◌≤◌, ◌^◌, Bool, true, false, if◌then◌else◌, List, [], ◌∷◌, ◌++◌, length, drop, Option, Some, None, refl, sym, ap, ◌∙◌, subst, append_assoc, add_assoc, zero-add, inl, inr, arith}
 use Rattle.std.specs.Prelude.{nat_le, nat_lt, ◌==◌, ◌&&◌, is_some}
 use Rattle.std.specs.Bool.{then_some}
-use Rattle.std.proofs.lemmas.List.{length-drop}
+use Rattle.std.proofs.lemmas.List.{length-drop, drop-drop}
+use Rattle.std.proofs.lemmas.Bool.Decides.{leb_tells}
 use Rattle.std.proofs.lemmas.Bool.{and_parts, and_from, leb-true, le-leb}
 use Rattle.rdm_hdr.specs.declared.Opt.{Opt}
 use Rattle.rdm_hdr.specs.Fields.{Field, Number, Data, field_fits, fields_bytes, fields_fit, number_at, has_bit}
 use Rattle.rdm_hdr.specs.Headers.{base_fields, raw_fields, cq_data_fields, connid_fields, opt_fields, opt_flags, opt_size, opt_at}
-use Rattle.rdm_hdr.specs.Reading.{begins}
+use Rattle.rdm_hdr.specs.Reading.{begins, opt_in}
 use Rattle.rdm_hdr.proofs.Fronts.{AreBytes, number_at-fits, bytes-after, begins-longer}
 use Rattle.rdm_pkt.specs.declared.Packet.{Packet}
 use Rattle.rdm_pkt.specs.declared.Packet.TheVariants.{Rtm}
 use Rattle.rdm_pkt.specs.declared.Form.{Form}
 use Rattle.rdm_pkt.specs.Grammar.{type_of, form_fields, tag_fields, last_fields, rtm_flags, head_fields, layout, form_fits, opt_fits, packet_fits, spelling}
 use Rattle.rdm_pkt.specs.Reading.{Row, header_size, form_at, rtm_at, if_spelled}
-use Rattle.rdm_pkt.specs.Opened.{opt_place, tag_at, opt_of, last_place, is_opened}
+use Rattle.rdm_pkt.specs.Opened.{opt_place, tag_at, opt_of, last_place, is_opened, opening_in}
 use Rattle.rdm_pkt.proofs.PacketSizes.{size_of, head-size, tag-size, form_size, form-size, packet-size}
 use Rattle.rdm_pkt.proofs.Stands.{stands, stands-append, stands-nothing, stands-own, is-spelled, not-spelled}
 use Rattle.rdm_pkt.proofs.Rows.{fits-own, fit-nothing, fit-append, fit-own}
@@ -228,3 +229,82 @@ rtm-takes kind size form bytes h type whole wrong =
       let b = and_parts _ _ a.1 in
       let d = and_parts _ _ b.1 in
       wrong (is-opened kind size bytes (record { room = room; opts = d.0; fit = fits.0; head = subst (λ (k : ℕ). begins (fields_bytes (head_of k size bytes)) bytes ≡ true) type a.0 })) fits.1 b.0 d.1 end)
+
+-- ---- the headers as they are read
+
+-- a test that cannot hold
+never : {A : Type 0} (test : Bool) (x : A) → (test ≡ true → ⊥) → then_some test x ≡ None
+never true x wrong = absurd (wrong refl)
+never false x wrong = refl
+
+-- one of two numbers is the less
+le_by_cases : {A : Type 0} (a b : ℕ) → (a ≤ b → A) → (b < a → A) → A
+le_by_cases a b f g = elim (leb_tells a b) [ inl h ↦ f h.1 | inr h ↦ g h.1 ]
+
+-- a test has one answer
+pub true-not-false : {b : Bool} → b ≡ false → b ≡ true → ⊥
+true-not-false p q = cc
+
+-- a number that stands after a place
+number_at-drop : (place n from : ℕ) (bytes : List ℕ) → number_at place n (drop from bytes) ≡ number_at (from + place) n bytes
+unfolding number_at
+number_at-drop place n from bytes = rw (drop-drop place from bytes) refl
+
+-- the optional headers after a place are those at the place
+opt_at-drop : (place flags : ℕ) (bytes : List ℕ) → opt_at 0 flags (drop place bytes) ≡ opt_at place flags bytes
+unfolding opt_at
+opt_at-drop place flags bytes =
+    let raw : ℕ = if has_bit 0 flags then 36 else 0 in
+    let cq_data : ℕ = if has_bit 1 flags then 8 else 0 in
+    let a : number_at 4 4 (drop place bytes) ≡ number_at (place + 4) 4 bytes = number_at-drop 4 4 place bytes in
+    let b : number_at 24 4 (drop place bytes) ≡ number_at (place + 24) 4 bytes = number_at-drop 24 4 place bytes in
+    let d : number_at (0 + raw) 8 (drop place bytes) ≡ number_at (place + raw) 8 bytes = rw (zero-add raw) (number_at-drop raw 8 place bytes) in
+    let e : number_at ((0 + raw) + cq_data) 4 (drop place bytes) ≡ number_at ((place + raw) + cq_data) 4 bytes =
+      rw (zero-add raw) (number_at-drop (raw + cq_data) 4 place bytes ∙ ap (λ (at : ℕ). number_at at 4 bytes) (sym (add_assoc place raw cq_data))) in
+    rw (a, b, d, e) refl
+
+-- the optional headers that are read
+pub opening-opt : (size : ℕ) (bytes : List ℕ) → opt_in (number_at 2 2 bytes) (drop (opt_place size bytes) bytes) ≡ then_some (stands (opt_place size bytes) (opt_fields (opt_of size bytes)) bytes) (opt_of size bytes, opt_size (opt_of size bytes))
+unfolding opt_in opt_of
+opening-opt size bytes = rw (opt_at-drop (opt_place size bytes) (number_at 2 2 bytes) bytes) refl
+
+-- the place of the optional headers, as it is computed
+pub place-by : (size flags extra : ℕ) (bytes : List ℕ) (tagged : Bool) → flags ≡ number_at 2 2 bytes → tagged ≡ has_bit 3 flags → extra ≡ (if tagged then 8 else 0) → size + extra ≡ opt_place size bytes
+unfolding opt_place
+place-by size flags extra bytes tagged p q r = rw (r, q, p) refl
+
+-- the mandatory header comes before the optional ones
+pub size-first : (size : ℕ) (bytes : List ℕ) → size ≤ opt_place size bytes
+unfolding opt_place
+size-first size bytes = omega arith
+
+-- headers that cannot be there are not read
+pub opening-takes : (kind size : ℕ) (bytes : List ℕ) → (Opened kind size bytes → ⊥) → opening_in kind size bytes ≡ None
+unfolding opening_in
+opening-takes kind size bytes wrong = never (is_opened kind size bytes) _ (λ h. wrong (opened kind size bytes h))
+
+-- headers that are there are read
+pub opening-is : (kind size : ℕ) (bytes : List ℕ) → Opened kind size bytes → opening_in kind size bytes ≡ Some (record { no = record { 0 = number_at 4 4 bytes }; tag = tag_at size bytes; opt = opt_of size bytes; place = last_place size bytes })
+unfolding opening_in
+opening-is kind size bytes o = rw (is-opened kind size bytes o) refl
+
+-- the tag as it is read
+pub tag-by : (size flags : ℕ) (bytes : List ℕ) (tagged : Bool) → flags ≡ number_at 2 2 bytes → tagged ≡ has_bit 3 flags → then_some tagged (number_at size 8 bytes) ≡ tag_at size bytes
+unfolding tag_at
+tag-by size flags bytes tagged p q = rw (q, p) refl
+
+-- fields that stand somewhere end within the bytes
+pub stands-room : (place : ℕ) (fields : List Field) (bytes : List ℕ) → place ≤ length bytes → stands place fields bytes ≡ true → place + size_of fields ≤ length bytes
+stands-room place fields bytes within there = le_by_cases (size_of fields) (length (drop place bytes))
+    (λ few. let e = length-drop place bytes in omega arith)
+    (λ short. absurd (true-not-false (begins-longer (fields_bytes fields) (drop place bytes) short) there))
+
+-- the headers end within the bytes
+pub opened-room : (kind size : ℕ) (bytes : List ℕ) → Opened kind size bytes → last_place size bytes ≤ length bytes
+unfolding last_place opt_size
+opened-room kind size bytes o = stands-room (opt_place size bytes) (opt_fields (opt_of size bytes)) bytes o.room o.opts
+
+-- the optional headers, from what is computed
+pub read-opt : (size flags place : ℕ) (bytes rest : List ℕ) → place ≡ opt_place size bytes → flags ≡ number_at 2 2 bytes → rest ≡ drop place bytes
+    → opt_in flags rest ≡ then_some (stands (opt_place size bytes) (opt_fields (opt_of size bytes)) bytes) (opt_of size bytes, opt_size (opt_of size bytes))
+read-opt size flags place bytes rest p q r = rw (r, p, q) (opening-opt size bytes)

@@ -8,7 +8,7 @@ ghost use Rattle.rdm_pkt.specs.Grammar as Grammar;
 ghost use Rattle.rdm_pkt.specs.Reading.{EagerRow, MediumRow, LongCtsRow, LongReadRow, RuntRow, CtsRow, CtsDataRow, EorRow, HandshakeRow, if_spelled, values_at, rtm_at, packet_in, words_at, iov_at};
 ghost use Rattle.rdm_pkt.specs.Opened.{opening_in};
 
-use crate::writing::{CONNID_FLAG, VERSION, rtm_flags};
+use crate::writing::{CONNID_FLAG, VERSION, rtm_flags, tagged_kind};
 use crate::{Form, Packet};
 use arrayvec::ArrayVec;
 use rdm_hdr::{NoMemory, Opt, has_bit, read_opt, size_if, u16_at, u32_at, u64_at};
@@ -200,7 +200,7 @@ fn read_opening(kind: u8, size: usize, bytes: &[u8]) -> Option<Opening>
     if !opt_fits(&opt) {
         return None;
     }
-    if !has_head(bytes, kind + u8::from(tag.is_some()), rtm_flags(tag, &opt)) {
+    if !has_head(bytes, tagged_kind(kind, tag), rtm_flags(tag, &opt)) {
         return None;
     }
     Some(Opening {
