@@ -10,6 +10,8 @@ use Rattle.rdm_hdr.specs.Fields.{Field, Number, Data, field_fits, fields_bytes, 
 use Rattle.rdm_hdr.specs.Headers.{base_fields, raw_fields, cq_data_fields, connid_fields, opt_fields, opt_flags, opt_size, opt_at}
 use Rattle.rdm_hdr.specs.Reading.{begins, opt_in}
 use Rattle.rdm_hdr.proofs.Fronts.{AreBytes, number_at-fits, bytes-after, begins-longer}
+use Rattle.rdm_hdr.proofs.Opts.{some-then}
+use Rattle.rdm_pkt.specs.declared.reading.Opening.{Opening}
 use Rattle.rdm_pkt.specs.declared.Packet.{Packet}
 use Rattle.rdm_pkt.specs.declared.Packet.TheVariants.{Rtm}
 use Rattle.rdm_pkt.specs.declared.Form.{Form}
@@ -308,3 +310,17 @@ opened-room kind size bytes o = stands-room (opt_place size bytes) (opt_fields (
 pub read-opt : (size flags place : ℕ) (bytes rest : List ℕ) → place ≡ opt_place size bytes → flags ≡ number_at 2 2 bytes → rest ≡ drop place bytes
     → opt_in flags rest ≡ then_some (stands (opt_place size bytes) (opt_fields (opt_of size bytes)) bytes) (opt_of size bytes, opt_size (opt_of size bytes))
 read-opt size flags place bytes rest p q r = rw (r, p, q) (opening-opt size bytes)
+
+-- headers that are not read are not there
+pub opening-none : (kind size : ℕ) (bytes : List ℕ) → opening_in kind size bytes ≡ None → Opened kind size bytes → ⊥
+opening-none kind size bytes none o = let e = opening-is kind size bytes o in cc
+
+-- headers that are read are there
+pub opening-some : (kind size : ℕ) (bytes : List ℕ) (found : Opening) → Some found ≡ opening_in kind size bytes
+    → Opened kind size bytes × (found ≡ record { no = record { 0 = number_at 4 4 bytes }; tag = tag_at size bytes; opt = opt_of size bytes; place = last_place size bytes })
+unfolding opening_in
+opening-some kind size bytes found e = let p = some-then _ _ _ (sym e) in (opened kind size bytes p.0, p.1)
+
+-- there is room for the mandatory header
+pub size-room : (kind size : ℕ) (bytes : List ℕ) → Opened kind size bytes → size ≤ length bytes
+size-room kind size bytes o = let a = size-first size bytes in let b = o.room in omega arith

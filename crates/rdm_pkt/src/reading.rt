@@ -250,7 +250,10 @@ fn read_medium(alloc: Global, bytes: &[u8]) -> Result<Option<Packet>, NoMemory>
     let data = after(bytes, opening.place);
     let msg_length = u64_at(bytes, 8);
     let offset = u64_at(bytes, 16);
-    if data.is_empty() || !ends_by(offset, data, msg_length) {
+    if data.is_empty() {
+        return Ok(None);
+    }
+    if !ends_by(offset, data, msg_length) {
         return Ok(None);
     }
     Ok(Some(opening.packet(Form::Medium {
@@ -277,7 +280,13 @@ fn read_long_cts(alloc: Global, bytes: &[u8]) -> Result<Option<Packet>, NoMemory
     let data = after(bytes, opening.place);
     let msg_length = u64_at(bytes, 8);
     let credit_request = u32_at(bytes, 20);
-    if data.is_empty() || data.len() as u64 >= msg_length || credit_request == 0 {
+    if data.is_empty() {
+        return Ok(None);
+    }
+    if data.len() as u64 >= msg_length {
+        return Ok(None);
+    }
+    if credit_request == 0 {
         return Ok(None);
     }
     Ok(Some(opening.packet(Form::LongCts {
