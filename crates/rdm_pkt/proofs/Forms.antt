@@ -2,7 +2,7 @@
 use Rattle.std.proofs.Common.{◌≡◌, ℕ, zero, suc, ◌+◌, ◌-◌, ◌*◌, ◌<◌, ◌≤◌, ◌^◌, Bool, true, false, List, [], ◌∷◌, ◌++◌, length, drop, min, Option, Some, None, refl, sym, ap, ◌∙◌, arith}
 use Rattle.std.specs.Prelude.{nat_le, nat_lt, ◌==◌, ◌&&◌}
 use Rattle.std.proofs.lemmas.List.{length-drop}
-use Rattle.std.proofs.lemmas.Bool.{and_parts, and_from, leb-true, le-leb}
+use Rattle.std.proofs.lemmas.Bool.{and_parts, and_from, leb-true, leb-false, eqb-true, le-leb}
 use Rattle.rdm_num.specs.declared.numbers.OpId.{OpId}
 use Rattle.rdm_hdr.specs.Fields.{Field, Number, Data, fields_bytes, fields_fit, number_at}
 use Rattle.rdm_hdr.proofs.Fronts.{AreBytes, bytes-after}
@@ -15,11 +15,28 @@ use Rattle.rdm_pkt.specs.Opened.{last_place, is_opened}
 use Rattle.rdm_pkt.proofs.PacketSizes.{size_of, size_of-data}
 use Rattle.rdm_pkt.proofs.Stands.{stands, stands-nothing, stands-own, stands-rest}
 use Rattle.rdm_pkt.proofs.Rows.{fit-nothing, fit-own, fit-data}
-use Rattle.rdm_pkt.proofs.Openers.{Opened, opened, is-opened, opened-room, rtm_of, rtm-row, rtm-is, rtm-takes, size-room}
+use Rattle.rdm_pkt.proofs.Openers.{Opened, opened, is-opened, opened-room, rtm_of, rtm-row, rtm-is, rtm-takes, size-room, true-not-false}
 
 -- data that are all that is left end with the bytes
 ends : (place : ℕ) (bytes : List ℕ) → place ≤ length bytes → place + size_of (Data (drop place bytes) ∷ []) ≡ length bytes
 ends place bytes room = let e = length-drop place bytes in rw (size_of-data (drop place bytes)) (omega arith)
+
+-- a list that is empty
+pub is-empty : (n : ℕ) (test : Bool) → test ≡ (n == 0) → test ≡ true → n ≡ 0
+is-empty n test e holds = eqb-true n 0 (sym e ∙ holds)
+
+-- a list that is not
+pub not-empty : (n : ℕ) (test : Bool) → test ≡ (n == 0) → test ≡ false → 1 ≤ n
+not-empty zero test e none = absurd (true-not-false none (e ∙ refl))
+not-empty (suc n) test e none = omega arith
+
+-- a number that is not the greater
+pub not-above : (a b : ℕ) (test : Bool) → test ≡ nat_le a b → test ≡ false → b < a
+not-above a b test e none = leb-false a b (sym e ∙ none)
+
+-- a number that is not the less
+pub not-below : (a b : ℕ) (test : Bool) → test ≡ nat_le a b → test ≡ true → a ≤ b
+not-below a b test e holds = leb-true a b (sym e ∙ holds)
 
 -- ---- whole in one packet
 

@@ -5,14 +5,14 @@ ghost use Rattle.rdm_hdr.specs.Fields.{number_at, fields_bytes};
 ghost use Rattle.rdm_hdr.specs.Reading.{begins};
 ghost use Rattle.rdm_pkt.specs.Grammar.{head_fields, opt_fits};
 ghost use Rattle.rdm_pkt.specs.Grammar as Grammar;
-ghost use Rattle.rdm_pkt.specs.Reading.{EagerRow, MediumRow, LongCtsRow, LongReadRow, RuntRow, CtsRow, CtsDataRow, EorRow, HandshakeRow, if_spelled, values_at, rtm_at, packet_in, words_at, iov_at};
+ghost use Rattle.rdm_pkt.specs.Reading.{EagerRow, MediumRow, LongCtsRow, LongReadRow, RuntRow, CtsRow, CtsDataRow, EorRow, HandshakeRow, if_spelled, values_at, rtm_at, packet_in, words_at};
 ghost use Rattle.rdm_pkt.specs.Opened.{opening_in};
 
+use crate::read_list::{iov_fits, read_iov};
 use crate::writing::{CONNID_FLAG, VERSION, rtm_flags, tagged_kind};
 use crate::{Form, Packet};
-use arrayvec::ArrayVec;
 use rdm_hdr::{NoMemory, Opt, has_bit, read_opt, size_if, u16_at, u32_at, u64_at};
-use rdm_num::{Bytes, Connid, Iov, IovEntry, MsgNo, OpId, Words};
+use rdm_num::{Bytes, Connid, MsgNo, OpId, Words};
 use std::alloc::Global;
 
 impl Packet {
@@ -28,6 +28,8 @@ impl Packet {
             Some(64 | 65) => read_eager(alloc, bytes),
             Some(66 | 67) => read_medium(alloc, bytes),
             Some(68 | 69) => read_long_cts(alloc, bytes),
+            Some(128 | 129) => Ok(read_long_read(bytes)),
+            Some(192 | 193) => read_runt(alloc, bytes),
             _ => Ok(None),
         }
     }
@@ -293,6 +295,67 @@ fn read_long_cts(alloc: Global, bytes: &[u8]) -> Result<Option<Packet>, NoMemory
         msg_length,
         send_id: OpId(u32_at(bytes, 16)),
         credit_request,
+        bytes: Bytes::from_slice(alloc, data)?,
+    })))
+}
+
+fn read_long_read(bytes: &[u8]) -> Option<Packet>
+    ensures { result ≡ if_spelled bytes.now (rtm_at LongReadRow bytes.now) }
+{
+    let opening = read_opening(128, 24, bytes)?;
+    let count = u32_at(bytes, 20) as usize;
+    if count > 4 {
+        return None;
+    }
+    if bytes.len() != opening.place + 24 * count {
+        return None;
+    }
+    let iov = read_iov(count, opening.place, bytes);
+    let msg_length = u64_at(bytes, 8);
+    if !iov_fits(iov.as_slice(), msg_length) {
+        return None;
+    }
+    Some(opening.packet(Form::LongRead {
+        msg_length,
+        send_id: OpId(u32_at(bytes, 16)),
+        iov,
+    }))
+}
+
+fn read_runt(alloc: Global, bytes: &[u8]) -> Result<Option<Packet>, NoMemory>
+    ensures { IfOk result (λ r. r ≡ if_spelled bytes.now (rtm_at RuntRow bytes.now)) }
+{
+    let Some(opening) = read_opening(192, 40, bytes) else {
+        return Ok(None);
+    };
+    let count = u32_at(bytes, 20) as usize;
+    if count > 4 {
+        return Ok(None);
+    }
+    let place = opening.place + 24 * count;
+    if bytes.len() <= place {
+        return Ok(None);
+    }
+    let data = after(bytes, place);
+    let iov = read_iov(count, opening.place, bytes);
+    let msg_length = u64_at(bytes, 8);
+    if !iov_fits(iov.as_slice(), msg_length) {
+        return Ok(None);
+    }
+    let runt_length = u64_at(bytes, 24);
+    let offset = u64_at(bytes, 32);
+    if !ends_by(offset, data, runt_length) {
+        return Ok(None);
+    }
+    if runt_length >= msg_length {
+        return Ok(None);
+    }
+    Ok(Some(opening.packet(Form::Runt {
+        msg_length,
+        send_id: OpId(u32_at(bytes, 16)),
+        iov,
+        runt_length,
+        offset,
         bytes: Bytes::from_slice(alloc, data)?,
     })))
 }
