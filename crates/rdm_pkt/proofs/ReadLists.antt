@@ -2,6 +2,7 @@
 use Rattle.std.proofs.Common.{◌≡◌, ℕ, zero, suc, ◌+◌, ◌-◌, ◌*◌, ◌<◌, ◌≤◌, ◌^◌, Bool, true, false, List, [], ◌∷◌, ◌++◌, length, take, drop, get_or, refl, sym, ap, ◌∙◌, append_assoc, append-nil, arith}
 use Rattle.std.specs.Prelude.{nat_le, nat_lt, ◌==◌, ◌&&◌, sum_by, flat_map}
 use Rattle.std.specs.List.{list_all}
+use Rattle.std.specs.Bool.{one_answer}
 use Rattle.std.proofs.lemmas.List.Folds.{list_all_at}
 use Rattle.std.proofs.lemmas.List.Sums.{sum_by_more_le}
 use Rattle.std.proofs.lemmas.Bool.{and_parts, leb-true, eqb-true, le-leb, lt-leb}
@@ -110,7 +111,22 @@ iov-bad iov size i d within bad = iov-never iov size (λ some few good sum. two-
 pub iov-long : (iov : List IovEntry) (size i left : ℕ) (d : IovEntry) → i < length iov → sum_by entry_length (take i iov) + left ≡ size → left < entry_length (get_or iov i d) → iov_fits iov size ≡ false
 iov-long iov size i left d within so_far long = let more = sum_by_more_le entry_length iov i d within in iov-never iov size (λ some few good sum. omega arith)
 
+-- as many ranges as there are
+take-whole : (i : ℕ) (iov : List IovEntry) → length iov ≤ i → take i iov ≡ iov
+take-whole zero [] h = refl
+take-whole zero (e ∷ iov) h = absurd (omega arith)
+take-whole (suc i) [] h = refl
+take-whole (suc i) (e ∷ iov) h = ap (λ (rest : List IovEntry). e ∷ rest) (take-whole i iov (omega arith))
+
 -- a read list that is looked through
 pub iov-all : (iov : List IovEntry) (size left i : ℕ) → 1 ≤ length iov → length iov ≤ 4 → length iov ≤ i → list_all entry_test (take i iov) ≡ true → sum_by entry_length (take i iov) + left ≡ size → iov_fits iov size ≡ (left == 0)
 unfolding iov_fits
-iov-all iov size left i some few end good sum = ?
+iov-all iov size left i some few end good sum =
+    let whole : take i iov ≡ iov = take-whole i iov end in
+    let each : list_all entry_test iov ≡ true = ap (list_all entry_test) (sym whole) ∙ good in
+    let all : sum_by entry_length (take i iov) ≡ sum_by entry_length iov = ap (sum_by entry_length) whole in
+    let last : (sum_by entry_length iov == size) ≡ (left == 0) =
+      one_answer {P = left ≡ 0} (sum_by entry_length iov == size) (left == 0)
+        (λ p. let e = eqb-true (sum_by entry_length iov) size p in omega arith, λ p. (Decides-eqb (sum_by entry_length iov) size).1 (omega arith))
+        (eqb-true left 0, λ p. (Decides-eqb left 0).1 p) in
+    rw (le-leb 1 (length iov) some, le-leb (length iov) 4 few, each, last) refl
