@@ -161,3 +161,7 @@ runt-takes bytes h wrong =
          let within : number_at 32 8 bytes + length data' ≤ number_at 24 8 bytes = leb-true (number_at 32 8 bytes + length data') (number_at 24 8 bytes) r.1 in
          let part : suc (number_at 24 8 bytes) ≤ number_at 8 8 bytes = leb-true (suc (number_at 24 8 bytes)) (number_at 8 8 bytes) p.1 in
          wrong o (record { few = omega (arith, same); some = omega arith; iov = s.0; within = within; part = omega arith })))
+
+-- the same ranges, from equal places and counts
+pub same-iov : (place place' count count' : ℕ) (bytes : List ℕ) → place ≡ place' → count ≡ count' → iov_at place count bytes ≡ iov_at place' count' bytes
+same-iov place place' count count' bytes p q = rw (p, q) refl
