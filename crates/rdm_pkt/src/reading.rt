@@ -20,16 +20,19 @@ impl Packet {
     pub fn read(alloc: Global, bytes: &[u8]) -> Result<Option<Packet>, NoMemory>
         ensures { IfOk result (λ r. r ≡ packet_in bytes.now) }
     {
-        match bytes.first() {
-            Some(3) => Ok(read_cts(bytes)),
-            Some(4) => read_cts_data(alloc, bytes),
-            Some(7) => Ok(read_eor(bytes)),
-            Some(9) => read_handshake(alloc, bytes),
-            Some(64 | 65) => read_eager(alloc, bytes),
-            Some(66 | 67) => read_medium(alloc, bytes),
-            Some(68 | 69) => read_long_cts(alloc, bytes),
-            Some(128 | 129) => Ok(read_long_read(bytes)),
-            Some(192 | 193) => read_runt(alloc, bytes),
+        let Some(kind) = bytes.first() else {
+            return Ok(None);
+        };
+        match *kind {
+            3 => Ok(read_cts(bytes)),
+            4 => read_cts_data(alloc, bytes),
+            7 => Ok(read_eor(bytes)),
+            9 => read_handshake(alloc, bytes),
+            64 | 65 => read_eager(alloc, bytes),
+            66 | 67 => read_medium(alloc, bytes),
+            68 | 69 => read_long_cts(alloc, bytes),
+            128 | 129 => Ok(read_long_read(bytes)),
+            192 | 193 => read_runt(alloc, bytes),
             _ => Ok(None),
         }
     }
