@@ -91,7 +91,7 @@ pub of-other : (bytes : List ℕ) (kind : ℕ) → Some kind ≡ slice_get bytes
 unfolding row_of rtm_row
 of-other bytes kind first a b d e f g h i j k l m n o =
     of-none bytes kind first
-      (rw (differ kind 3 a, differ kind 4 b, differ kind 7 d, differ kind 9 e, differ kind 64 f, differ kind 65 g, differ kind 66 h, differ kind 67 i, differ kind 68 j, differ kind 69 k, differ kind 128 l, differ kind 129 m, differ kind 192 n, differ kind 193 o) refl)
+    (rw (differ kind 3 a, differ kind 4 b, differ kind 7 d, differ kind 9 e, differ kind 64 f, differ kind 65 g, differ kind 66 h, differ kind 67 i, differ kind 68 j, differ kind 69 k, differ kind 128 l, differ kind 129 m, differ kind 192 n, differ kind 193 o) refl)
 
 -- a type below those that open messages
 pub of-low : (bytes : List ℕ) (kind : ℕ) → Some kind ≡ slice_get bytes 0 → kind < 64 → (kind ≡ 3 → ⊥) → (kind ≡ 4 → ⊥) → (kind ≡ 7 → ⊥) → (kind ≡ 9 → ⊥) → packet_in bytes ≡ None

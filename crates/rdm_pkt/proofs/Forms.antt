@@ -47,14 +47,14 @@ eager-is bytes h o =
     let place : ℕ = last_place 8 bytes in
     let form : Form = Eager (drop place bytes) in
     rw (rtm-row EagerRow bytes)
-       (rtm-is 64 8 form bytes h refl (omega arith) refl (is-opened 64 8 bytes o) refl fit-nothing (fit-data (drop place bytes) (bytes-after place bytes h)) (stands-nothing 8 bytes) (stands-rest place bytes) (ends place bytes (opened-room 64 8 bytes o)))
+    (rtm-is 64 8 form bytes h refl (omega arith) refl (is-opened 64 8 bytes o) refl fit-nothing (fit-data (drop place bytes) (bytes-after place bytes h)) (stands-nothing 8 bytes) (stands-rest place bytes) (ends place bytes (opened-room 64 8 bytes o)))
 
 -- what an eager packet takes
 pub eager-takes : (bytes : List ℕ) → AreBytes bytes → (Opened 64 8 bytes → ⊥) → if_spelled bytes (rtm_at EagerRow bytes) ≡ None
 unfolding header_size form_at type_of
 eager-takes bytes h wrong =
     rw (rtm-row EagerRow bytes)
-       (rtm-takes 64 8 (Eager (drop (last_place 8 bytes) bytes)) bytes h refl refl (λ test fit form_there last_there end. wrong (opened 64 8 bytes test)))
+    (rtm-takes 64 8 (Eager (drop (last_place 8 bytes) bytes)) bytes h refl refl (λ test fit form_there last_there end. wrong (opened 64 8 bytes test)))
 
 -- ---- segments
 
@@ -72,11 +72,11 @@ medium-is bytes h o some within =
     let room = size-room 66 24 bytes o in
     let b : List Field = Number 8 (number_at 16 8 bytes) ∷ [] in
     rw (rtm-row MediumRow bytes)
-       (rtm-is 66 24 (medium_at bytes) bytes h refl (omega arith) refl (is-opened 66 24 bytes o)
-         (and_from (nat_le 1 (length data')) (nat_le (number_at 16 8 bytes + length data') (number_at 8 8 bytes)) (le-leb 1 (length data') some) (le-leb (number_at 16 8 bytes + length data') (number_at 8 8 bytes) within))
-         (fit-own 8 8 b bytes h (fit-own 16 8 [] bytes h fit-nothing)) (fit-data data' (bytes-after place bytes h))
-         (stands-own 8 8 b bytes h (omega arith) (omega arith) ∙ stands-own 16 8 [] bytes h (omega arith) (omega arith) ∙ stands-nothing 24 bytes)
-         (stands-rest place bytes) (ends place bytes (opened-room 66 24 bytes o)))
+    (rtm-is 66 24 (medium_at bytes) bytes h refl (omega arith) refl (is-opened 66 24 bytes o)
+    (and_from (nat_le 1 (length data')) (nat_le (number_at 16 8 bytes + length data') (number_at 8 8 bytes)) (le-leb 1 (length data') some) (le-leb (number_at 16 8 bytes + length data') (number_at 8 8 bytes) within))
+    (fit-own 8 8 b bytes h (fit-own 16 8 [] bytes h fit-nothing)) (fit-data data' (bytes-after place bytes h))
+    (stands-own 8 8 b bytes h (omega arith) (omega arith) ∙ stands-own 16 8 [] bytes h (omega arith) (omega arith) ∙ stands-nothing 24 bytes)
+    (stands-rest place bytes) (ends place bytes (opened-room 66 24 bytes o)))
 
 -- what a segment takes
 pub medium-takes : (bytes : List ℕ) → AreBytes bytes → (Opened 66 24 bytes → 1 ≤ length (drop (last_place 24 bytes) bytes) → number_at 16 8 bytes + length (drop (last_place 24 bytes) bytes) ≤ number_at 8 8 bytes → ⊥)
@@ -85,9 +85,9 @@ unfolding header_size form_at type_of form_fits
 medium-takes bytes h wrong =
     let data' : List ℕ = drop (last_place 24 bytes) bytes in
     rw (rtm-row MediumRow bytes)
-       (rtm-takes 66 24 (medium_at bytes) bytes h refl refl (λ test fit form_there last_there end.
-         let parts = and_parts (nat_le 1 (length data')) (nat_le (number_at 16 8 bytes + length data') (number_at 8 8 bytes)) fit in
-         wrong (opened 66 24 bytes test) (leb-true 1 (length data') parts.0) (leb-true (number_at 16 8 bytes + length data') (number_at 8 8 bytes) parts.1)))
+    (rtm-takes 66 24 (medium_at bytes) bytes h refl refl (λ test fit form_there last_there end.
+    let parts = and_parts (nat_le 1 (length data')) (nat_le (number_at 16 8 bytes + length data') (number_at 8 8 bytes)) fit in
+    wrong (opened 66 24 bytes test) (leb-true 1 (length data') parts.0) (leb-true (number_at 16 8 bytes + length data') (number_at 8 8 bytes) parts.1)))
 
 -- ---- a first part that asks for grants
 
@@ -106,13 +106,13 @@ long_cts-is bytes h o some part credits =
     let d : List Field = Number 4 (number_at 20 4 bytes) ∷ [] in
     let b : List Field = Number 4 (number_at 16 4 bytes) ∷ d in
     rw (rtm-row LongCtsRow bytes)
-       (rtm-is 68 24 (long_cts_at bytes) bytes h refl (omega arith) refl (is-opened 68 24 bytes o)
-         (and_from (nat_le 1 (length data') && nat_lt (length data') (number_at 8 8 bytes)) (nat_le 1 (number_at 20 4 bytes))
-           (and_from (nat_le 1 (length data')) (nat_lt (length data') (number_at 8 8 bytes)) (le-leb 1 (length data') some) (le-leb (suc (length data')) (number_at 8 8 bytes) (omega arith)))
-           (le-leb 1 (number_at 20 4 bytes) credits))
-         (fit-own 8 8 b bytes h (fit-own 16 4 d bytes h (fit-own 20 4 [] bytes h fit-nothing))) (fit-data data' (bytes-after place bytes h))
-         (stands-own 8 8 b bytes h (omega arith) (omega arith) ∙ stands-own 16 4 d bytes h (omega arith) (omega arith) ∙ stands-own 20 4 [] bytes h (omega arith) (omega arith) ∙ stands-nothing 24 bytes)
-         (stands-rest place bytes) (ends place bytes (opened-room 68 24 bytes o)))
+    (rtm-is 68 24 (long_cts_at bytes) bytes h refl (omega arith) refl (is-opened 68 24 bytes o)
+    (and_from (nat_le 1 (length data') && nat_lt (length data') (number_at 8 8 bytes)) (nat_le 1 (number_at 20 4 bytes))
+    (and_from (nat_le 1 (length data')) (nat_lt (length data') (number_at 8 8 bytes)) (le-leb 1 (length data') some) (le-leb (suc (length data')) (number_at 8 8 bytes) (omega arith)))
+    (le-leb 1 (number_at 20 4 bytes) credits))
+    (fit-own 8 8 b bytes h (fit-own 16 4 d bytes h (fit-own 20 4 [] bytes h fit-nothing))) (fit-data data' (bytes-after place bytes h))
+    (stands-own 8 8 b bytes h (omega arith) (omega arith) ∙ stands-own 16 4 d bytes h (omega arith) (omega arith) ∙ stands-own 20 4 [] bytes h (omega arith) (omega arith) ∙ stands-nothing 24 bytes)
+    (stands-rest place bytes) (ends place bytes (opened-room 68 24 bytes o)))
 
 -- what a first part takes
 pub long_cts-takes : (bytes : List ℕ) → AreBytes bytes → (Opened 68 24 bytes → 1 ≤ length (drop (last_place 24 bytes) bytes) → length (drop (last_place 24 bytes) bytes) < number_at 8 8 bytes → 1 ≤ number_at 20 4 bytes → ⊥)
@@ -121,8 +121,8 @@ unfolding header_size form_at type_of form_fits
 long_cts-takes bytes h wrong =
     let data' : List ℕ = drop (last_place 24 bytes) bytes in
     rw (rtm-row LongCtsRow bytes)
-       (rtm-takes 68 24 (long_cts_at bytes) bytes h refl refl (λ test fit form_there last_there end.
-         let halves = and_parts (nat_le 1 (length data') && nat_lt (length data') (number_at 8 8 bytes)) (nat_le 1 (number_at 20 4 bytes)) fit in
-         let parts = and_parts (nat_le 1 (length data')) (nat_lt (length data') (number_at 8 8 bytes)) halves.0 in
-         let less : suc (length data') ≤ number_at 8 8 bytes = leb-true (suc (length data')) (number_at 8 8 bytes) parts.1 in
-         wrong (opened 68 24 bytes test) (leb-true 1 (length data') parts.0) (omega arith) (leb-true 1 (number_at 20 4 bytes) halves.1)))
+    (rtm-takes 68 24 (long_cts_at bytes) bytes h refl refl (λ test fit form_there last_there end.
+    let halves = and_parts (nat_le 1 (length data') && nat_lt (length data') (number_at 8 8 bytes)) (nat_le 1 (number_at 20 4 bytes)) fit in
+    let parts = and_parts (nat_le 1 (length data')) (nat_lt (length data') (number_at 8 8 bytes)) halves.0 in
+    let less : suc (length data') ≤ number_at 8 8 bytes = leb-true (suc (length data')) (number_at 8 8 bytes) parts.1 in
+    wrong (opened 68 24 bytes test) (leb-true 1 (length data') parts.0) (omega arith) (leb-true 1 (number_at 20 4 bytes) halves.1)))

@@ -64,7 +64,7 @@ least size bytes form whole room = omega arith
 -- the fields of a packet stand where the headers and the form's parts do
 rtm-stands : (size : ℕ) (bytes : List ℕ) (form : Form) → AreBytes bytes → 8 + form_size form ≡ size → opt_place size bytes ≤ length bytes
     → stands 0 (layout (rtm_of size bytes form)) bytes
-      ≡ (begins (fields_bytes (head_of (type_of form) size bytes)) bytes && (stands 8 (form_fields form) bytes && (stands (opt_place size bytes) (opt_fields (opt_of size bytes)) bytes && stands (last_place size bytes) (last_fields form) bytes)))
+    ≡ (begins (fields_bytes (head_of (type_of form) size bytes)) bytes && (stands 8 (form_fields form) bytes && (stands (opt_place size bytes) (opt_fields (opt_of size bytes)) bytes && stands (last_place size bytes) (last_fields form) bytes)))
 unfolding last_place opt_size
 rtm-stands size bytes form h whole room =
     let opts : List Field = opt_fields (opt_of size bytes) in
@@ -73,13 +73,13 @@ rtm-stands size bytes form h whole room =
     let head : List Field = head_of (type_of form) size bytes in
     let enough : 8 ≤ length bytes = least size bytes form whole room in
     let a : stands 0 (head ++ (Number 4 (number_at 4 4 bytes) ∷ form_rest size bytes form)) bytes ≡ (begins (fields_bytes head) bytes && stands 4 (Number 4 (number_at 4 4 bytes) ∷ form_rest size bytes form) bytes) =
-      rw (stands-append 0 head (Number 4 (number_at 4 4 bytes) ∷ form_rest size bytes form) bytes, head-size (type_of form + (if is_some (tag_at size bytes) then 1 else 0)) (rtm_flags (tag_at size bytes) (opt_of size bytes))) refl in
+    rw (stands-append 0 head (Number 4 (number_at 4 4 bytes) ∷ form_rest size bytes form) bytes, head-size (type_of form + (if is_some (tag_at size bytes) then 1 else 0)) (rtm_flags (tag_at size bytes) (opt_of size bytes))) refl in
     let b : stands 4 (Number 4 (number_at 4 4 bytes) ∷ form_rest size bytes form) bytes ≡ stands 8 (form_fields form ++ after_form) bytes = stands-own 4 4 (form_rest size bytes form) bytes h (omega arith) enough in
     let d : stands 8 (form_fields form ++ after_form) bytes ≡ (stands 8 (form_fields form) bytes && stands size after_form bytes) =
-      rw (stands-append 8 (form_fields form) after_form bytes, form-size form, whole) refl in
+    rw (stands-append 8 (form_fields form) after_form bytes, form-size form, whole) refl in
     let e : stands size after_form bytes ≡ stands (opt_place size bytes) after_tag bytes = tag-there size after_tag bytes h room in
     let f : stands (opt_place size bytes) after_tag bytes ≡ (stands (opt_place size bytes) opts bytes && stands (opt_place size bytes + size_of opts) (last_fields form) bytes) =
-      stands-append (opt_place size bytes) opts (last_fields form) bytes in
+    stands-append (opt_place size bytes) opts (last_fields form) bytes in
     rw (rtm-layout size bytes form, a, b, d, e, f) refl
 
 -- ---- in range
@@ -162,11 +162,11 @@ fit-tag_at size more bytes h rest = fit-tag (has_bit 3 (number_at 2 2 bytes)) si
 fit-rtm : (size : ℕ) (bytes : List ℕ) (form : Form) → AreBytes bytes → type_of form < 255 → fields_fit (form_fields form) ≡ true → fields_fit (last_fields form) ≡ true → fields_fit (layout (rtm_of size bytes form)) ≡ true
 fit-rtm size bytes form h small a b =
     rw (rtm-layout size bytes form)
-       (fit-head _ _ _ (one-more (type_of form) (is_some (tag_at size bytes)) small) (flags-small (tag_at size bytes) (opt_of size bytes))
-         (fit-own 4 4 _ bytes h
-           (fit-append (form_fields form) _ a
-             (fit-tag_at size _ bytes h
-               (fit-append (opt_fields (opt_of size bytes)) (last_fields form) (fit-opt size bytes h) b)))))
+    (fit-head _ _ _ (one-more (type_of form) (is_some (tag_at size bytes)) small) (flags-small (tag_at size bytes) (opt_of size bytes))
+    (fit-own 4 4 _ bytes h
+    (fit-append (form_fields form) _ a
+    (fit-tag_at size _ bytes h
+    (fit-append (opt_fields (opt_of size bytes)) (last_fields form) (fit-opt size bytes h) b)))))
 
 -- ---- where a packet is
 
@@ -224,13 +224,13 @@ pub rtm-takes : (kind size : ℕ) (form : Form) (bytes : List ℕ) → AreBytes 
 unfolding packet_fits
 rtm-takes kind size form bytes h type whole wrong =
     not-spelled (rtm_of size bytes form) bytes (λ fit there same.
-      let end : last_place size bytes + size_of (last_fields form) ≡ length bytes = sym (rtm-size_of size bytes form whole) ∙ same in
-      let room : opt_place size bytes ≤ length bytes = before-last size bytes (size_of (last_fields form)) end in
-      let fits = and_parts (opt_fits (opt_of size bytes)) (form_fits form) fit in
-      let a = and_parts _ _ (sym (rtm-stands size bytes form h whole room) ∙ there) in
-      let b = and_parts _ _ a.1 in
-      let d = and_parts _ _ b.1 in
-      wrong (is-opened kind size bytes (record { room = room; opts = d.0; fit = fits.0; head = subst (λ (k : ℕ). begins (fields_bytes (head_of k size bytes)) bytes ≡ true) type a.0 })) fits.1 b.0 d.1 end)
+    let end : last_place size bytes + size_of (last_fields form) ≡ length bytes = sym (rtm-size_of size bytes form whole) ∙ same in
+    let room : opt_place size bytes ≤ length bytes = before-last size bytes (size_of (last_fields form)) end in
+    let fits = and_parts (opt_fits (opt_of size bytes)) (form_fits form) fit in
+    let a = and_parts _ _ (sym (rtm-stands size bytes form h whole room) ∙ there) in
+    let b = and_parts _ _ a.1 in
+    let d = and_parts _ _ b.1 in
+    wrong (is-opened kind size bytes (record { room = room; opts = d.0; fit = fits.0; head = subst (λ (k : ℕ). begins (fields_bytes (head_of k size bytes)) bytes ≡ true) type a.0 })) fits.1 b.0 d.1 end)
 
 -- ---- the headers as they are read
 
@@ -262,7 +262,7 @@ opt_at-drop place flags bytes =
     let b : number_at 24 4 (drop place bytes) ≡ number_at (place + 24) 4 bytes = number_at-drop 24 4 place bytes in
     let d : number_at (0 + raw) 8 (drop place bytes) ≡ number_at (place + raw) 8 bytes = rw (zero-add raw) (number_at-drop raw 8 place bytes) in
     let e : number_at ((0 + raw) + cq_data) 4 (drop place bytes) ≡ number_at ((place + raw) + cq_data) 4 bytes =
-      rw (zero-add raw) (number_at-drop (raw + cq_data) 4 place bytes ∙ ap (λ (at : ℕ). number_at at 4 bytes) (sym (add_assoc place raw cq_data))) in
+    rw (zero-add raw) (number_at-drop (raw + cq_data) 4 place bytes ∙ ap (λ (at : ℕ). number_at at 4 bytes) (sym (add_assoc place raw cq_data))) in
     rw (a, b, d, e) refl
 
 -- the optional headers that are read

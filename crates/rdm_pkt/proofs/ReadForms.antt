@@ -53,16 +53,16 @@ long_read-is bytes h o few end fit =
     let d : List Field = Number 4 (number_at 20 4 bytes) ∷ [] in
     let b : List Field = Number 4 (number_at 16 4 bytes) ∷ d in
     let last : fields_fit (flat_map entry_fields iov) ≡ true =
-      ap fields_fit (sym (append-nil (flat_map entry_fields iov))) ∙ fit-iov place (count_at bytes) [] bytes h fit-nothing in
+    ap fields_fit (sym (append-nil (flat_map entry_fields iov))) ∙ fit-iov place (count_at bytes) [] bytes h fit-nothing in
     let there : stands place (flat_map entry_fields iov) bytes ≡ true =
-      ap (λ (fields : List Field). stands place fields bytes) (sym (append-nil (flat_map entry_fields iov)))
-      ∙ stands-iov place (count_at bytes) [] bytes h (omega arith) ∙ stands-nothing (place + 24 * count_at bytes) bytes in
+    ap (λ (fields : List Field). stands place fields bytes) (sym (append-nil (flat_map entry_fields iov)))
+    ∙ stands-iov place (count_at bytes) [] bytes h (omega arith) ∙ stands-nothing (place + 24 * count_at bytes) bytes in
     let whole : place + size_of (flat_map entry_fields iov) ≡ length bytes = let e = iov-size iov in omega (arith, e, counted, end) in
     rw (rtm-row LongReadRow bytes)
-       (rtm-is 128 24 (long_read_at bytes) bytes h refl (omega arith) refl (is-opened 128 24 bytes o) fit
-         (rw same (fit-own 8 8 b bytes h (fit-own 16 4 d bytes h (fit-own 20 4 [] bytes h fit-nothing)))) last
-         (rw same (stands-own 8 8 b bytes h (omega arith) (omega arith) ∙ stands-own 16 4 d bytes h (omega arith) (omega arith) ∙ stands-own 20 4 [] bytes h (omega arith) (omega arith) ∙ stands-nothing 24 bytes))
-         there whole)
+    (rtm-is 128 24 (long_read_at bytes) bytes h refl (omega arith) refl (is-opened 128 24 bytes o) fit
+    (rw same (fit-own 8 8 b bytes h (fit-own 16 4 d bytes h (fit-own 20 4 [] bytes h fit-nothing)))) last
+    (rw same (stands-own 8 8 b bytes h (omega arith) (omega arith) ∙ stands-own 16 4 d bytes h (omega arith) (omega arith) ∙ stands-own 20 4 [] bytes h (omega arith) (omega arith) ∙ stands-nothing 24 bytes))
+    there whole)
 
 -- what a read takes
 pub long_read-takes : (bytes : List ℕ) → AreBytes bytes
@@ -76,14 +76,14 @@ long_read-takes bytes h wrong =
     let d : List Field = Number 4 (length iov) ∷ [] in
     let b : List Field = Number 4 (number_at 16 4 bytes) ∷ d in
     rw (rtm-row LongReadRow bytes)
-       (rtm-takes 128 24 (long_read_at bytes) bytes h refl refl (λ test fit form_there last_there end.
-         let o = opened 128 24 bytes test in
-         let room = size-room 128 24 bytes o in
-         let at_count : stands 20 d bytes ≡ true = sym (stands-own 8 8 b bytes h (omega arith) (omega arith) ∙ stands-own 16 4 d bytes h (omega arith) (omega arith)) ∙ form_there in
-         let count = and_parts (number_at 20 4 bytes == count_at bytes) (stands 24 [] bytes) (sym (count-stands [] bytes place h room) ∙ at_count) in
-         let same : number_at 20 4 bytes ≡ count_at bytes = eqb-true (number_at 20 4 bytes) (count_at bytes) count.0 in
-         let size = iov-size iov in
-         wrong o (omega (arith, same)) (omega (arith, size, counted, end)) fit))
+    (rtm-takes 128 24 (long_read_at bytes) bytes h refl refl (λ test fit form_there last_there end.
+    let o = opened 128 24 bytes test in
+    let room = size-room 128 24 bytes o in
+    let at_count : stands 20 d bytes ≡ true = sym (stands-own 8 8 b bytes h (omega arith) (omega arith) ∙ stands-own 16 4 d bytes h (omega arith) (omega arith)) ∙ form_there in
+    let count = and_parts (number_at 20 4 bytes == count_at bytes) (stands 24 [] bytes) (sym (count-stands [] bytes place h room) ∙ at_count) in
+    let same : number_at 20 4 bytes ≡ count_at bytes = eqb-true (number_at 20 4 bytes) (count_at bytes) count.0 in
+    let size = iov-size iov in
+    wrong o (omega (arith, same)) (omega (arith, size, counted, end)) fit))
 
 -- ---- a first part ahead of a read
 
@@ -124,15 +124,15 @@ runt-is bytes h o parts =
     let d : List Field = Number 4 (number_at 20 4 bytes) ∷ e in
     let b : List Field = Number 4 (number_at 16 4 bytes) ∷ d in
     let fit : form_fits (runt_at bytes) ≡ true =
-      rw (parts.iov, le-leb 1 (length data') (omega arith), le-leb (number_at 32 8 bytes + length data') (number_at 24 8 bytes) within, le-leb 1 (number_at 24 8 bytes) (omega arith), le-leb (suc (number_at 24 8 bytes)) (number_at 8 8 bytes) (let part = parts.part in omega arith)) refl in
+    rw (parts.iov, le-leb 1 (length data') (omega arith), le-leb (number_at 32 8 bytes + length data') (number_at 24 8 bytes) within, le-leb 1 (number_at 24 8 bytes) (omega arith), le-leb (suc (number_at 24 8 bytes)) (number_at 8 8 bytes) (let part = parts.part in omega arith)) refl in
     let whole : place + size_of (flat_map entry_fields iov ++ Data data' ∷ []) ≡ length bytes =
-      rw (size_of-append (flat_map entry_fields iov) (Data data' ∷ []), size_of-data data', iov-size iov, counted) (omega arith) in
+    rw (size_of-append (flat_map entry_fields iov) (Data data' ∷ []), size_of-data data', iov-size iov, counted) (omega arith) in
     rw (rtm-row RuntRow bytes)
-       (rtm-is 192 40 (runt_at bytes) bytes h refl (omega arith) refl (is-opened 192 40 bytes o) fit
-         (rw same (fit-own 8 8 b bytes h (fit-own 16 4 d bytes h (fit-own 20 4 e bytes h (fit-own 24 8 f bytes h (fit-own 32 8 [] bytes h fit-nothing))))))
-         (fit-iov place (count_at bytes) (Data data' ∷ []) bytes h (fit-data data' (bytes-after (runt_place bytes) bytes h)))
-         (rw same (stands-own 8 8 b bytes h (omega arith) (omega arith) ∙ stands-own 16 4 d bytes h (omega arith) (omega arith) ∙ stands-own 20 4 e bytes h (omega arith) (omega arith) ∙ stands-own 24 8 f bytes h (omega arith) (omega arith) ∙ stands-own 32 8 [] bytes h (omega arith) (omega arith) ∙ stands-nothing 40 bytes))
-         (stands-iov place (count_at bytes) (Data data' ∷ []) bytes h (omega arith) ∙ stands-rest (runt_place bytes) bytes) whole)
+    (rtm-is 192 40 (runt_at bytes) bytes h refl (omega arith) refl (is-opened 192 40 bytes o) fit
+    (rw same (fit-own 8 8 b bytes h (fit-own 16 4 d bytes h (fit-own 20 4 e bytes h (fit-own 24 8 f bytes h (fit-own 32 8 [] bytes h fit-nothing))))))
+    (fit-iov place (count_at bytes) (Data data' ∷ []) bytes h (fit-data data' (bytes-after (runt_place bytes) bytes h)))
+    (rw same (stands-own 8 8 b bytes h (omega arith) (omega arith) ∙ stands-own 16 4 d bytes h (omega arith) (omega arith) ∙ stands-own 20 4 e bytes h (omega arith) (omega arith) ∙ stands-own 24 8 f bytes h (omega arith) (omega arith) ∙ stands-own 32 8 [] bytes h (omega arith) (omega arith) ∙ stands-nothing 40 bytes))
+    (stands-iov place (count_at bytes) (Data data' ∷ []) bytes h (omega arith) ∙ stands-rest (runt_place bytes) bytes) whole)
 
 -- what a first part takes
 pub runt-takes : (bytes : List ℕ) → AreBytes bytes → (Opened 192 40 bytes → RuntParts bytes → ⊥) → if_spelled bytes (rtm_at RuntRow bytes) ≡ None
@@ -147,20 +147,20 @@ runt-takes bytes h wrong =
     let d : List Field = Number 4 (length iov) ∷ e in
     let b : List Field = Number 4 (number_at 16 4 bytes) ∷ d in
     rw (rtm-row RuntRow bytes)
-       (rtm-takes 192 40 (runt_at bytes) bytes h refl refl (λ test fit form_there last_there end.
-         let o = opened 192 40 bytes test in
-         let room = size-room 192 40 bytes o in
-         let at_count : stands 20 d bytes ≡ true = sym (stands-own 8 8 b bytes h (omega arith) (omega arith) ∙ stands-own 16 4 d bytes h (omega arith) (omega arith)) ∙ form_there in
-         let count = and_parts (number_at 20 4 bytes == count_at bytes) (stands 24 e bytes) (sym (count-stands e bytes place h (omega arith)) ∙ at_count) in
-         let same : number_at 20 4 bytes ≡ count_at bytes = eqb-true (number_at 20 4 bytes) (count_at bytes) count.0 in
-         let p = and_parts _ _ fit in
-         let q = and_parts _ _ p.0 in
-         let r = and_parts _ _ q.0 in
-         let s = and_parts _ _ r.0 in
-         let some : 1 ≤ length data' = leb-true 1 (length data') s.1 in
-         let within : number_at 32 8 bytes + length data' ≤ number_at 24 8 bytes = leb-true (number_at 32 8 bytes + length data') (number_at 24 8 bytes) r.1 in
-         let part : suc (number_at 24 8 bytes) ≤ number_at 8 8 bytes = leb-true (suc (number_at 24 8 bytes)) (number_at 8 8 bytes) p.1 in
-         wrong o (record { few = omega (arith, same); some = omega arith; iov = s.0; within = within; part = omega arith })))
+    (rtm-takes 192 40 (runt_at bytes) bytes h refl refl (λ test fit form_there last_there end.
+    let o = opened 192 40 bytes test in
+    let room = size-room 192 40 bytes o in
+    let at_count : stands 20 d bytes ≡ true = sym (stands-own 8 8 b bytes h (omega arith) (omega arith) ∙ stands-own 16 4 d bytes h (omega arith) (omega arith)) ∙ form_there in
+    let count = and_parts (number_at 20 4 bytes == count_at bytes) (stands 24 e bytes) (sym (count-stands e bytes place h (omega arith)) ∙ at_count) in
+    let same : number_at 20 4 bytes ≡ count_at bytes = eqb-true (number_at 20 4 bytes) (count_at bytes) count.0 in
+    let p = and_parts _ _ fit in
+    let q = and_parts _ _ p.0 in
+    let r = and_parts _ _ q.0 in
+    let s = and_parts _ _ r.0 in
+    let some : 1 ≤ length data' = leb-true 1 (length data') s.1 in
+    let within : number_at 32 8 bytes + length data' ≤ number_at 24 8 bytes = leb-true (number_at 32 8 bytes + length data') (number_at 24 8 bytes) r.1 in
+    let part : suc (number_at 24 8 bytes) ≤ number_at 8 8 bytes = leb-true (suc (number_at 24 8 bytes)) (number_at 8 8 bytes) p.1 in
+    wrong o (record { few = omega (arith, same); some = omega arith; iov = s.0; within = within; part = omega arith })))
 
 -- the same ranges, from equal places and counts
 pub same-iov : (place place' count count' : ℕ) (bytes : List ℕ) → place ≡ place' → count ≡ count' → iov_at place count bytes ≡ iov_at place' count' bytes

@@ -26,7 +26,7 @@ entry_length e = e.length
 -- one range more is read
 pub iov_at-next : (count k place : ℕ) (read : List IovEntry) (bytes : List ℕ) → k < count
     → (read ++ record { offset = number_at (place + 24 * k) 8 bytes; length = number_at (place + 24 * k + 8) 8 bytes; key = number_at (place + 24 * k + 16) 8 bytes } ∷ []) ++ iov_at (place + 24 * (k + 1)) (count - (k + 1)) bytes
-      ≡ read ++ iov_at (place + 24 * k) (count - k) bytes
+    ≡ read ++ iov_at (place + 24 * k) (count - k) bytes
 unfolding iov_at
 iov_at-next count k place read bytes more =
     let left : count - k ≡ suc (count - (k + 1)) = omega arith in
@@ -90,10 +90,10 @@ unfolding iov_fits
 iov-never iov size wrong =
     let counts : Bool = nat_le 1 (length iov) && nat_le (length iov) 4 in
     false-by (counts && list_all entry_test iov && (sum_by entry_length iov == size)) (λ h.
-      let a = and_parts (counts && list_all entry_test iov) (sum_by entry_length iov == size) h in
-      let b = and_parts counts (list_all entry_test iov) a.0 in
-      let d = and_parts (nat_le 1 (length iov)) (nat_le (length iov) 4) b.0 in
-      wrong (leb-true 1 (length iov) d.0) (leb-true (length iov) 4 d.1) b.1 (eqb-true (sum_by entry_length iov) size a.1))
+    let a = and_parts (counts && list_all entry_test iov) (sum_by entry_length iov == size) h in
+    let b = and_parts counts (list_all entry_test iov) a.0 in
+    let d = and_parts (nat_le 1 (length iov)) (nat_le (length iov) 4) b.0 in
+    wrong (leb-true 1 (length iov) d.0) (leb-true (length iov) 4 d.1) b.1 (eqb-true (sum_by entry_length iov) size a.1))
 
 -- an empty read list is none
 pub iov-none : (iov : List IovEntry) (size : ℕ) → length iov ≡ 0 → iov_fits iov size ≡ false
@@ -126,7 +126,7 @@ iov-all iov size left i some few end good sum =
     let each : list_all entry_test iov ≡ true = ap (list_all entry_test) (sym whole) ∙ good in
     let all : sum_by entry_length (take i iov) ≡ sum_by entry_length iov = ap (sum_by entry_length) whole in
     let last : (sum_by entry_length iov == size) ≡ (left == 0) =
-      one_answer {P = left ≡ 0} (sum_by entry_length iov == size) (left == 0)
-        (λ p. let e = eqb-true (sum_by entry_length iov) size p in omega arith, λ p. (Decides-eqb (sum_by entry_length iov) size).1 (omega arith))
-        (eqb-true left 0, λ p. (Decides-eqb left 0).1 p) in
+    one_answer {P = left ≡ 0} (sum_by entry_length iov == size) (left == 0)
+    (λ p. let e = eqb-true (sum_by entry_length iov) size p in omega arith, λ p. (Decides-eqb (sum_by entry_length iov) size).1 (omega arith))
+    (eqb-true left 0, λ p. (Decides-eqb left 0).1 p) in
     rw (le-leb 1 (length iov) some, le-leb (length iov) 4 few, each, last) refl

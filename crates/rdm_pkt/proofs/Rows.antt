@@ -73,7 +73,7 @@ eor-is bytes h size head =
     let p : Packet = Eor (record { 0 = number_at 4 4 bytes }) (record { 0 = number_at 8 4 bytes }) (record { 0 = number_at 12 4 bytes }) in
     let fit : fields_fit (layout p) ≡ true = fit-own 4 4 (Number 4 (number_at 8 4 bytes) ∷ Number 4 (number_at 12 4 bytes) ∷ []) bytes h (fit-own 8 4 (Number 4 (number_at 12 4 bytes) ∷ []) bytes h (fit-own 12 4 [] bytes h refl)) in
     let there : stands 0 (layout p) bytes ≡ true =
-      rw (after-head 7 (Number 4 (number_at 4 4 bytes) ∷ Number 4 (number_at 8 4 bytes) ∷ Number 4 (number_at 12 4 bytes) ∷ []) bytes, head, stands-own 4 4 (Number 4 (number_at 8 4 bytes) ∷ Number 4 (number_at 12 4 bytes) ∷ []) bytes h (omega arith) (omega arith), stands-own 8 4 (Number 4 (number_at 12 4 bytes) ∷ []) bytes h (omega arith) (omega arith), stands-own 12 4 [] bytes h (omega arith) (omega arith)) (stands-nothing 16 bytes) in
+    rw (after-head 7 (Number 4 (number_at 4 4 bytes) ∷ Number 4 (number_at 8 4 bytes) ∷ Number 4 (number_at 12 4 bytes) ∷ []) bytes, head, stands-own 4 4 (Number 4 (number_at 8 4 bytes) ∷ Number 4 (number_at 12 4 bytes) ∷ []) bytes h (omega arith) (omega arith), stands-own 8 4 (Number 4 (number_at 12 4 bytes) ∷ []) bytes h (omega arith) (omega arith), stands-own 12 4 [] bytes h (omega arith) (omega arith)) (stands-nothing 16 bytes) in
     is-spelled p bytes refl fit there (packet-size p ∙ sym size)
 
 -- what an EOR takes
@@ -149,14 +149,14 @@ handshake-there count bytes h some few number size head =
     let all : packet_fits p ≡ true = rw counted (and_from (nat_le 1 count) (nat_le count 8) (le-leb 1 count some) (le-leb count 8 few)) in
     let same : length (words_at 8 count bytes) + 3 ≡ number_at 4 4 bytes = omega (arith, counted, number) in
     let fit : fields_fit (layout p) ≡ true =
-      rw (handshake-layout count bytes, same) (fit-head 9 (Number 4 (number_at 4 4 bytes) ∷ words) refl (fit-own 4 4 words bytes h (fit-words 8 count last bytes h (fit-own (8 + 8 * count) 4 [] bytes h fit-nothing)))) in
+    rw (handshake-layout count bytes, same) (fit-head 9 (Number 4 (number_at 4 4 bytes) ∷ words) refl (fit-own 4 4 words bytes h (fit-words 8 count last bytes h (fit-own (8 + 8 * count) 4 [] bytes h fit-nothing)))) in
     let there : stands 0 (layout p) bytes ≡ true =
-      rw (handshake-layout count bytes, same) (after-head 9 (Number 4 (number_at 4 4 bytes) ∷ words) bytes
-        ∙ and_from (is_head 9 bytes) (stands 4 (Number 4 (number_at 4 4 bytes) ∷ words) bytes) head
-          (stands-own 4 4 words bytes h (omega arith) (omega arith)
-           ∙ stands-words 8 count last bytes h (omega arith)
-           ∙ stands-own (8 + 8 * count) 4 [] bytes h (omega arith) (omega arith)
-           ∙ stands-nothing (8 + 8 * count + 4) bytes)) in
+    rw (handshake-layout count bytes, same) (after-head 9 (Number 4 (number_at 4 4 bytes) ∷ words) bytes
+    ∙ and_from (is_head 9 bytes) (stands 4 (Number 4 (number_at 4 4 bytes) ∷ words) bytes) head
+    (stands-own 4 4 words bytes h (omega arith) (omega arith)
+    ∙ stands-words 8 count last bytes h (omega arith)
+    ∙ stands-own (8 + 8 * count) 4 [] bytes h (omega arith) (omega arith)
+    ∙ stands-nothing (8 + 8 * count + 4) bytes)) in
     is-spelled p bytes all fit there (packet-size p ∙ (let e : 12 + 8 * length (words_at 8 count bytes) ≡ length bytes = omega (arith, counted, size) in e))
 
 -- what a handshake takes
@@ -170,15 +170,15 @@ handshake-takes-by count bytes h wrong =
     let n : ℕ = length (words_at 8 count bytes) in
     let words : List Field = map (Number 8) (words_at 8 count bytes) ++ (Number 4 (number_at (8 + 8 * count) 4 bytes) ∷ []) in
     not-spelled p bytes (λ fit there size.
-      let few = and_parts (nat_le 1 n) (nat_le n 8) fit in
-      let some : 1 ≤ n = leb-true 1 n few.0 in
-      let most : n ≤ 8 = leb-true n 8 few.1 in
-      let whole : 12 + 8 * n ≡ length bytes = sym (packet-size p) ∙ size in
-      let parts = and_parts (is_head 9 bytes) (stands 4 (Number 4 (n + 3) ∷ words) bytes) (sym (after-head 9 (Number 4 (n + 3) ∷ words) bytes) ∙ (rw (handshake-layout count bytes) at there)) in
-      let small : n + 3 < 256 ^ 4 = omega arith in
-      let number = and_parts (number_at 4 4 bytes == n + 3) (stands 8 words bytes) (sym (stands-number 4 4 (n + 3) words bytes h (omega arith) small (omega arith)) ∙ parts.1) in
-      let same : number_at 4 4 bytes ≡ n + 3 = (Decides-eqb (number_at 4 4 bytes) (n + 3)).0 number.0 in
-      wrong parts.0 (omega (arith, counted)) (omega (arith, counted)) (omega (arith, counted)) (omega (arith, counted)))
+    let few = and_parts (nat_le 1 n) (nat_le n 8) fit in
+    let some : 1 ≤ n = leb-true 1 n few.0 in
+    let most : n ≤ 8 = leb-true n 8 few.1 in
+    let whole : 12 + 8 * n ≡ length bytes = sym (packet-size p) ∙ size in
+    let parts = and_parts (is_head 9 bytes) (stands 4 (Number 4 (n + 3) ∷ words) bytes) (sym (after-head 9 (Number 4 (n + 3) ∷ words) bytes) ∙ (rw (handshake-layout count bytes) at there)) in
+    let small : n + 3 < 256 ^ 4 = omega arith in
+    let number = and_parts (number_at 4 4 bytes == n + 3) (stands 8 words bytes) (sym (stands-number 4 4 (n + 3) words bytes h (omega arith) small (omega arith)) ∙ parts.1) in
+    let same : number_at 4 4 bytes ≡ n + 3 = (Decides-eqb (number_at 4 4 bytes) (n + 3)).0 number.0 in
+    wrong parts.0 (omega (arith, counted)) (omega (arith, counted)) (omega (arith, counted)) (omega (arith, counted)))
 
 -- bytes are a handshake where the count is 4 to 11 and as many words are there
 pub handshake-is : (bytes : List ℕ) → AreBytes bytes → (count : ℕ) → 4 ≤ number_at 4 4 bytes → number_at 4 4 bytes ≤ 11 → count ≡ number_at 4 4 bytes - 3 → length bytes ≡ 12 + 8 * count → is_head 9 bytes ≡ true
@@ -192,7 +192,7 @@ pub handshake-takes : (bytes : List ℕ) → AreBytes bytes → (is_head 9 bytes
     → if_spelled bytes (values_at HandshakeRow bytes) ≡ None
 handshake-takes bytes h wrong =
     rw (handshake-row bytes) (handshake-takes-by (min 8 (number_at 4 4 bytes - 3)) bytes h
-      (λ head some few number size. wrong head (omega arith) (omega arith) (omega arith)))
+    (λ head some few number size. wrong head (omega arith) (omega arith) (omega arith)))
 
 -- ---- a grant
 
@@ -207,13 +207,13 @@ cts-is bytes h size head some =
     let a : List Field = Number 4 (number_at 4 4 bytes) ∷ b in
     let fit : fields_fit (layout p) ≡ true = fit-head 3 a refl (fit-own 4 4 b bytes h (fit-own 8 4 c bytes h (fit-own 12 8 d bytes h (fit-own 20 4 [] bytes h fit-nothing)))) in
     let there : stands 0 (layout p) bytes ≡ true =
-      after-head 3 a bytes
-      ∙ and_from (is_head 3 bytes) (stands 4 a bytes) head
-        (stands-own 4 4 b bytes h (omega arith) (omega arith)
-         ∙ stands-own 8 4 c bytes h (omega arith) (omega arith)
-         ∙ stands-own 12 8 d bytes h (omega arith) (omega arith)
-         ∙ stands-own 20 4 [] bytes h (omega arith) (omega arith)
-         ∙ stands-nothing 24 bytes) in
+    after-head 3 a bytes
+    ∙ and_from (is_head 3 bytes) (stands 4 a bytes) head
+    (stands-own 4 4 b bytes h (omega arith) (omega arith)
+    ∙ stands-own 8 4 c bytes h (omega arith) (omega arith)
+    ∙ stands-own 12 8 d bytes h (omega arith) (omega arith)
+    ∙ stands-own 20 4 [] bytes h (omega arith) (omega arith)
+    ∙ stands-nothing 24 bytes) in
     is-spelled p bytes (le-leb 1 (number_at 12 8 bytes) (omega arith)) fit there (packet-size p ∙ sym size)
 
 -- what a grant takes
@@ -241,16 +241,16 @@ cts_data-is bytes h size head same room =
     let whole : length data' ≡ length bytes - 28 = length-drop 28 bytes in
     let all : packet_fits p ≡ true = and_from (nat_le 1 (length data')) (nat_lt (number_at 16 8 bytes + length data') (2 ^ 64)) (le-leb 1 (length data') (omega arith)) (le-leb (suc (number_at 16 8 bytes + length data')) (2 ^ 64) (omega arith)) in
     let fit : fields_fit (layout p) ≡ true =
-      rw (← same) (fit-head 4 z refl (fit-own 4 4 a bytes h (fit-own 8 8 b bytes h (fit-own 16 8 c bytes h (fit-own 24 4 d bytes h (fit-data data' (bytes-after 28 bytes h))))))) in
+    rw (← same) (fit-head 4 z refl (fit-own 4 4 a bytes h (fit-own 8 8 b bytes h (fit-own 16 8 c bytes h (fit-own 24 4 d bytes h (fit-data data' (bytes-after 28 bytes h))))))) in
     let there : stands 0 (layout p) bytes ≡ true =
-      rw (← same)
-        (after-head 4 z bytes
-        ∙ and_from (is_head 4 bytes) (stands 4 z bytes) head
-          (stands-own 4 4 a bytes h (omega arith) (omega arith)
-           ∙ stands-own 8 8 b bytes h (omega arith) (omega arith)
-           ∙ stands-own 16 8 c bytes h (omega arith) (omega arith)
-           ∙ stands-own 24 4 d bytes h (omega arith) (omega arith)
-           ∙ stands-rest 28 bytes)) in
+    rw (← same)
+    (after-head 4 z bytes
+    ∙ and_from (is_head 4 bytes) (stands 4 z bytes) head
+    (stands-own 4 4 a bytes h (omega arith) (omega arith)
+    ∙ stands-own 8 8 b bytes h (omega arith) (omega arith)
+    ∙ stands-own 16 8 c bytes h (omega arith) (omega arith)
+    ∙ stands-own 24 4 d bytes h (omega arith) (omega arith)
+    ∙ stands-rest 28 bytes)) in
     is-spelled p bytes all fit there (packet-size p ∙ (let e : 28 + length data' ≡ length bytes = omega arith in e))
 
 -- what granted data take
@@ -264,12 +264,12 @@ cts_data-takes bytes h wrong =
     let a : List Field = Number 8 (length data') ∷ b in
     let z : List Field = Number 4 (number_at 4 4 bytes) ∷ a in
     not-spelled p bytes (λ fit there size.
-      let few = and_parts (nat_le 1 (length data')) (nat_lt (number_at 16 8 bytes + length data') (2 ^ 64)) fit in
-      let some : 1 ≤ length data' = leb-true 1 (length data') few.0 in
-      let room : suc (number_at 16 8 bytes + length data') ≤ 2 ^ 64 = leb-true (suc (number_at 16 8 bytes + length data')) (2 ^ 64) few.1 in
-      let whole : 28 + length data' ≡ length bytes = sym (packet-size p) ∙ size in
-      let parts = and_parts (is_head 4 bytes) (stands 4 z bytes) (sym (after-head 4 z bytes) ∙ there) in
-      let after : stands 8 a bytes ≡ true = sym (stands-own 4 4 a bytes h (omega arith) (omega arith)) ∙ parts.1 in
-      let small : length data' < 256 ^ 8 = omega arith in
-      let number = and_parts (number_at 8 8 bytes == length data') (stands 16 b bytes) (sym (stands-number 8 8 (length data') b bytes h (omega arith) small (omega arith)) ∙ after) in
-      wrong (omega arith) parts.0 ((Decides-eqb (number_at 8 8 bytes) (length data')).0 number.0) (omega arith))
+    let few = and_parts (nat_le 1 (length data')) (nat_lt (number_at 16 8 bytes + length data') (2 ^ 64)) fit in
+    let some : 1 ≤ length data' = leb-true 1 (length data') few.0 in
+    let room : suc (number_at 16 8 bytes + length data') ≤ 2 ^ 64 = leb-true (suc (number_at 16 8 bytes + length data')) (2 ^ 64) few.1 in
+    let whole : 28 + length data' ≡ length bytes = sym (packet-size p) ∙ size in
+    let parts = and_parts (is_head 4 bytes) (stands 4 z bytes) (sym (after-head 4 z bytes) ∙ there) in
+    let after : stands 8 a bytes ≡ true = sym (stands-own 4 4 a bytes h (omega arith) (omega arith)) ∙ parts.1 in
+    let small : length data' < 256 ^ 8 = omega arith in
+    let number = and_parts (number_at 8 8 bytes == length data') (stands 16 b bytes) (sym (stands-number 8 8 (length data') b bytes h (omega arith) small (omega arith)) ∙ after) in
+    wrong (omega arith) parts.0 ((Decides-eqb (number_at 8 8 bytes) (length data')).0 number.0) (omega arith))

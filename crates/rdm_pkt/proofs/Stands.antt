@@ -78,8 +78,8 @@ unfolding if_spelled fits spelling
 not-spelled p bytes wrong =
     let test : Bool = (packet_fits p && fields_fit (layout p)) && bytes_eq (fields_bytes (layout p)) bytes in
     let never : test ≡ true → ⊥ = λ e.
-      let halves = and_parts (packet_fits p && fields_fit (layout p)) (bytes_eq (fields_bytes (layout p)) bytes) e in
-      let fit = and_parts (packet_fits p) (fields_fit (layout p)) halves.0 in
-      let same : fields_bytes (layout p) ≡ bytes = (bytes_eq-Decides (fields_bytes (layout p)) bytes).0 halves.1 in
-      wrong fit.0 (subst (λ (bs : List ℕ). begins (fields_bytes (layout p)) bs ≡ true) same (begins-itself (fields_bytes (layout p)))) (ap length same) in
+    let halves = and_parts (packet_fits p && fields_fit (layout p)) (bytes_eq (fields_bytes (layout p)) bytes) e in
+    let fit = and_parts (packet_fits p) (fields_fit (layout p)) halves.0 in
+    let same : fields_bytes (layout p) ≡ bytes = (bytes_eq-Decides (fields_bytes (layout p)) bytes).0 halves.1 in
+    wrong fit.0 (subst (λ (bs : List ℕ). begins (fields_bytes (layout p)) bs ≡ true) same (begins-itself (fields_bytes (layout p)))) (ap length same) in
     none_if test p never

@@ -36,4 +36,4 @@ is_opened kind size bytes =
 unfoldable pub opening_in : (kind size : ℕ) → List ℕ → Option Opening
 opening_in kind size bytes =
     then_some (is_opened kind size bytes)
-      (record { no = record { 0 = number_at 4 4 bytes }; tag = tag_at size bytes; opt = opt_of size bytes; place = last_place size bytes })
+    (record { no = record { 0 = number_at 4 4 bytes }; tag = tag_at size bytes; opt = opt_of size bytes; place = last_place size bytes })

@@ -1,6 +1,8 @@
 //! Which protocol a message goes by.
 ghost use Rattle.std.specs.Prelude.{◌≡◌, ◌<◌, ◌≤◌, [], length};
 ghost use Rattle.std.specs.Bool.{then_some};
+ghost use Rattle.rdm_pkt.specs.declared.Packet.TheVariants.{Rtm};
+ghost use Rattle.rdm_pkt.specs.declared.Form.TheVariants.{Eager as EagerForm};
 ghost use Rattle.rdm_pkt.specs.Grammar.{spelling};
 ghost use Rattle.rdm_pkt.specs.Choice.{opt_like};
 ghost use Rattle.rdm_pkt.specs.Choice as Choice;
@@ -64,13 +66,17 @@ fn both_have(feature: u32, own: u64, known: Option<u64>) -> bool
 fn eager_room(tagged: bool, cq_data: bool, raw: bool, limits: &EpLimits) -> u64
     ensures { result ≡ Choice.eager_room tagged cq_data raw limits.now }
 {
-    u64::from(limits.mtu.saturating_sub(eager_header(tagged, cq_data, raw)))
+    u64::from(
+        limits
+            .mtu
+            .saturating_sub(eager_header(tagged, cq_data, raw)),
+    )
 }
 
 /// How many bytes of headers an eager packet has.
 #[tactic(auto, using(crate::proofs::EagerRoom::eager_header_size))]
 fn eager_header(tagged: bool, cq_data: bool, raw: bool) -> u32
-    ensures { result ≡ length (spelling (Packet.Rtm (record { 0 = 0 }) (then_some tagged 0) (opt_like cq_data raw) (Form.Eager []))) }
+    ensures { result ≡ length (spelling (Rtm (record { 0 = 0 }) (then_some tagged 0) (opt_like cq_data raw) (EagerForm []))) }
 {
     let tag = if tagged { 8 } else { 0 };
     let cq_data = if cq_data { 8 } else { 0 };

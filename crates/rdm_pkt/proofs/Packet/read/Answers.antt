@@ -57,8 +57,9 @@ returns-in-192 c =
 pub returns-in_default-kind : goal.returns-in_default-kind
 returns-in_default-kind c =
     let first = c.in-Some.ensures in
-    elim c.in_default-kind.branch
-      [ in_default-kind-via-then-kind-lt64 w ↦ sym (of-low c.args.bytes.now c.in-Some.kind.now first.value (omega arith) (λ e. omega arith) (λ e. omega arith) (λ e. omega arith) (λ e. omega arith))
+    elim c.in_default-kind.branch [
+      | in_default-kind-via-then-kind-lt64 w ↦ sym (of-low c.args.bytes.now c.in-Some.kind.now first.value (omega arith) (λ e. omega arith) (λ e. omega arith) (λ e. omega arith) (λ e. omega arith))
       | in_default-kind-via-else-kind-lt64+else-kind-lt66+else-kind-lt68+else-kind-lt70+then-kind-lt128 w ↦ sym (of-middle c.args.bytes.now c.in-Some.kind.now first.value (omega arith) (omega arith))
       | in_default-kind-via-else-kind-lt64+else-kind-lt66+else-kind-lt68+else-kind-lt70+else-kind-lt128+else-kind-lt130+then-kind-lt192 w ↦ sym (of-upper c.args.bytes.now c.in-Some.kind.now first.value (omega arith) (omega arith))
-      | in_default-kind-via-else-kind-lt64+else-kind-lt66+else-kind-lt68+else-kind-lt70+else-kind-lt128+else-kind-lt130+else-kind-lt192+else-kind-lt194 w ↦ sym (of-high c.args.bytes.now c.in-Some.kind.now first.value (omega arith)) ]
+      | in_default-kind-via-else-kind-lt64+else-kind-lt66+else-kind-lt68+else-kind-lt70+else-kind-lt128+else-kind-lt130+else-kind-lt192+else-kind-lt194 w ↦ sym (of-high c.args.bytes.now c.in-Some.kind.now first.value (omega arith))
+    ]

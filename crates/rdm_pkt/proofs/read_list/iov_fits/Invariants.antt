@@ -8,5 +8,5 @@ use Rattle.rdm_pkt.proofs.read_list.iov_fits.Given as goal
 abbrev pub invariant-loop-entry : goal.invariant-loop-entry
 invariant-loop-entry l = record {
   good : list_all entry_test (take l.entry-index l.iov) ≡ true;
-  sum : sum_by (λ (e : IovEntry). e.length) (take l.entry-index l.iov) + l.left ≡ l.size
+  sum : sum_by (λ (e : IovEntry). e.length) (take l.entry-index l.iov) + l.left ≡ l.size;
 }

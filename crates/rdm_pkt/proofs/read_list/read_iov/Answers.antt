@@ -5,7 +5,7 @@ use Rattle.rdm_pkt.proofs.read_list.read_iov.Goals as goal
 pub loop-k-preserved : goal.loop-k-preserved
 loop-k-preserved c = record {
   ranges = rw (c.push.ensures.items, c.u64_at.ensures, c.u64_at-in-loop-k.ensures, c.u64_at-in-loop-k-2.ensures) (iov_at-next c.args.count c.loop-k.k c.args.place c.loop-k.iov.items c.args.bytes.now c.loop-k-test.true ∙ c.loop-k.invariant.ranges);
-  len = (let pushed = c.push.ensures.len in let so_far = c.loop-k.invariant.len in omega arith)
+  len = (let pushed = c.push.ensures.len in let so_far = c.loop-k.invariant.len in omega arith);
 }
 
 pub returns : goal.returns

@@ -17,4 +17,4 @@ unfolding values_at
 returns c =
     let some = c.if-recv_length-eq0.false in
     rw (c.u32_at.ensures, c.u32_at-2.ensures, c.u32_at-3.ensures, c.u64_at-recv_length.ensures)
-       (sym (cts-is c.args.bytes.now (λ i. (c.type_inv.bytes i).fits) c.if-bytes-ne24.false (let t = c.if-not-has_head.ensures in cc) (omega arith)))
+    (sym (cts-is c.args.bytes.now (λ i. (c.type_inv.bytes i).fits) c.if-bytes-ne24.false (let t = c.if-not-has_head.ensures in cc) (omega arith)))

@@ -23,4 +23,4 @@ returns c =
     let same : number_at 8 8 c.args.bytes.now ≡ length (drop 28 c.args.bytes.now) = let t = c.if-u64_at-seg_length.false in omega arith in
     let room : number_at 16 8 c.args.bytes.now + length (drop 28 c.args.bytes.now) < 2 ^ 64 = let t = c.if-offset-seg_length.false in omega arith in
     rw (c.u32_at.ensures, c.u32_at-2.ensures, c.u64_at-offset.ensures, c.in_ok-from_slice.ensures, c.after-data.ensures)
-       (sym (cts_data-is c.args.bytes.now (λ i. (c.type_inv.bytes i).fits) c.if-bytes-le28.false (let t = c.if-not-has_head.ensures in cc) same room))
+    (sym (cts_data-is c.args.bytes.now (λ i. (c.type_inv.bytes i).fits) c.if-bytes-le28.false (let t = c.if-not-has_head.ensures in cc) same room))

@@ -23,4 +23,4 @@ returns c =
     let some = c.if-nextra_p3-lt4.false in
     let few = c.if-nextra_p3-gt11.false in
     rw (c.u32_at.ensures, c.in_ok-read_words.ensures)
-       (sym (handshake-is c.args.bytes.now (λ i. (c.type_inv.bytes i).fits) (c.u32_at-nextra_p3.result - 3) (omega arith) (omega arith) (omega arith) c.if-bytes-count.false (let t = c.if-not-has_head.ensures in cc)))
+    (sym (handshake-is c.args.bytes.now (λ i. (c.type_inv.bytes i).fits) (c.u32_at-nextra_p3.result - 3) (omega arith) (omega arith) (omega arith) c.if-bytes-count.false (let t = c.if-not-has_head.ensures in cc)))

@@ -14,7 +14,7 @@ returns-then-is_empty c =
     let found = c.in-Some.ensures in
     let o = opening-some 68 24 c.args.bytes.now c.in-Some.opening found.value in
     let len : length c.after-data.result.now ≡ length (drop (last_place 24 c.args.bytes.now) c.args.bytes.now) =
-      ap length c.after-data.ensures ∙ ap (λ (x : Opening). length (drop x.place c.args.bytes.now)) o.1 in
+    ap length c.after-data.ensures ∙ ap (λ (x : Opening). length (drop x.place c.args.bytes.now)) o.1 in
     let none = is-empty (length c.after-data.result.now) c.is_empty.result c.is_empty.ensures c.if-is_empty.true in
     sym (long_cts-takes c.args.bytes.now (λ i. (c.type_inv.bytes i).fits) (λ _ some part credits. absurd (omega (arith, len, none))))
 
@@ -23,7 +23,7 @@ returns-then-data-msg_length c =
     let found = c.in-Some.ensures in
     let o = opening-some 68 24 c.args.bytes.now c.in-Some.opening found.value in
     let len : length c.after-data.result.now ≡ length (drop (last_place 24 c.args.bytes.now) c.args.bytes.now) =
-      ap length c.after-data.ensures ∙ ap (λ (x : Opening). length (drop x.place c.args.bytes.now)) o.1 in
+    ap length c.after-data.ensures ∙ ap (λ (x : Opening). length (drop x.place c.args.bytes.now)) o.1 in
     let whole = c.if-data-msg_length.true in
     sym (long_cts-takes c.args.bytes.now (λ i. (c.type_inv.bytes i).fits) (λ _ some part credits. absurd (omega (arith, len))))
 
@@ -37,9 +37,9 @@ returns c =
     let found = c.in-Some.ensures in
     let o = opening-some 68 24 c.args.bytes.now c.in-Some.opening found.value in
     let len : length c.after-data.result.now ≡ length (drop (last_place 24 c.args.bytes.now) c.args.bytes.now) =
-      ap length c.after-data.ensures ∙ ap (λ (x : Opening). length (drop x.place c.args.bytes.now)) o.1 in
+    ap length c.after-data.ensures ∙ ap (λ (x : Opening). length (drop x.place c.args.bytes.now)) o.1 in
     let some = not-empty (length c.after-data.result.now) c.is_empty.result c.is_empty.ensures c.if-is_empty.false in
     let part = c.if-data-msg_length.false in
     let credits = c.if-credit_request-eq0.false in
     rw (c.packet.ensures, c.in_ok-from_slice.ensures, c.after-data.ensures, o.1, c.u64_at-msg_length.ensures, c.u32_at.ensures, c.u32_at-credit_request.ensures)
-       (sym (long_cts-is c.args.bytes.now (λ i. (c.type_inv.bytes i).fits) o.0 (omega (arith, len, some)) (omega (arith, len)) (omega arith)))
+    (sym (long_cts-is c.args.bytes.now (λ i. (c.type_inv.bytes i).fits) o.0 (omega (arith, len, some)) (omega (arith, len)) (omega arith)))

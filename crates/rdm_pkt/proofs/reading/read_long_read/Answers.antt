@@ -30,9 +30,9 @@ returns-then-not-iov_fits c =
     let few = c.if-count-gt4.false in
     let count : c.u32_at-count.result ≡ count_at c.args.bytes.now = omega arith in
     let iov : c.read_iov-iov.result ≡ iov_at (last_place 24 c.args.bytes.now) (count_at c.args.bytes.now) c.args.bytes.now =
-      c.read_iov-iov.ensures ∙ same-iov c.in_ok-opening.opening.place (last_place 24 c.args.bytes.now) c.u32_at-count.result (count_at c.args.bytes.now) c.args.bytes.now place count in
+    c.read_iov-iov.ensures ∙ same-iov c.in_ok-opening.opening.place (last_place 24 c.args.bytes.now) c.u32_at-count.result (count_at c.args.bytes.now) c.args.bytes.now place count in
     let test : c.iov_fits.result ≡ iov_fits (iov_at (last_place 24 c.args.bytes.now) (count_at c.args.bytes.now) c.args.bytes.now) (number_at 8 8 c.args.bytes.now) =
-      rw (c.as_slice.ensures, iov, c.u64_at-msg_length.ensures) at c.iov_fits.ensures in
+    rw (c.as_slice.ensures, iov, c.u64_at-msg_length.ensures) at c.iov_fits.ensures in
     sym (long_read-takes c.args.bytes.now (λ i. (c.type_inv.bytes i).fits) (λ _ _ end fit. true-not-false (sym test ∙ c.if-not-iov_fits.true) fit))
 
 pub returns : goal.returns
@@ -43,9 +43,9 @@ returns c =
     let few = c.if-count-gt4.false in
     let count : c.u32_at-count.result ≡ count_at c.args.bytes.now = omega arith in
     let iov : c.read_iov-iov.result ≡ iov_at (last_place 24 c.args.bytes.now) (count_at c.args.bytes.now) c.args.bytes.now =
-      c.read_iov-iov.ensures ∙ same-iov c.in_ok-opening.opening.place (last_place 24 c.args.bytes.now) c.u32_at-count.result (count_at c.args.bytes.now) c.args.bytes.now place count in
+    c.read_iov-iov.ensures ∙ same-iov c.in_ok-opening.opening.place (last_place 24 c.args.bytes.now) c.u32_at-count.result (count_at c.args.bytes.now) c.args.bytes.now place count in
     let test : c.iov_fits.result ≡ iov_fits (iov_at (last_place 24 c.args.bytes.now) (count_at c.args.bytes.now) c.args.bytes.now) (number_at 8 8 c.args.bytes.now) =
-      rw (c.as_slice.ensures, iov, c.u64_at-msg_length.ensures) at c.iov_fits.ensures in
+    rw (c.as_slice.ensures, iov, c.u64_at-msg_length.ensures) at c.iov_fits.ensures in
     let end = c.if-bytes-opening.false in
     rw (c.packet.ensures, iov, o.1, c.u64_at-msg_length.ensures, c.u32_at.ensures)
-       (sym (long_read-is c.args.bytes.now (λ i. (c.type_inv.bytes i).fits) o.0 (omega arith) (omega (arith, place, count, end)) (sym test ∙ c.if-not-iov_fits.false)))
+    (sym (long_read-is c.args.bytes.now (λ i. (c.type_inv.bytes i).fits) o.0 (omega arith) (omega (arith, place, count, end)) (sym test ∙ c.if-not-iov_fits.false)))

@@ -14,7 +14,7 @@ returns-then-is_empty c =
     let found = c.in-Some.ensures in
     let o = opening-some 66 24 c.args.bytes.now c.in-Some.opening found.value in
     let len : length c.after-data.result.now ≡ length (drop (last_place 24 c.args.bytes.now) c.args.bytes.now) =
-      ap length c.after-data.ensures ∙ ap (λ (x : Opening). length (drop x.place c.args.bytes.now)) o.1 in
+    ap length c.after-data.ensures ∙ ap (λ (x : Opening). length (drop x.place c.args.bytes.now)) o.1 in
     let none = is-empty (length c.after-data.result.now) c.is_empty.result c.is_empty.ensures c.if-is_empty.true in
     sym (medium-takes c.args.bytes.now (λ i. (c.type_inv.bytes i).fits) (λ _ some within. absurd (omega (arith, len, none))))
 
@@ -23,7 +23,7 @@ returns-then-not-ends_by c =
     let found = c.in-Some.ensures in
     let o = opening-some 66 24 c.args.bytes.now c.in-Some.opening found.value in
     let len : length c.after-data.result.now ≡ length (drop (last_place 24 c.args.bytes.now) c.args.bytes.now) =
-      ap length c.after-data.ensures ∙ ap (λ (x : Opening). length (drop x.place c.args.bytes.now)) o.1 in
+    ap length c.after-data.ensures ∙ ap (λ (x : Opening). length (drop x.place c.args.bytes.now)) o.1 in
     let late = not-above (c.u64_at-offset.result + length c.after-data.result.now) c.u64_at-msg_length.result c.ends_by.result c.ends_by.ensures c.if-not-ends_by.true in
     sym (medium-takes c.args.bytes.now (λ i. (c.type_inv.bytes i).fits) (λ _ some within. absurd (omega (arith, len, late))))
 
@@ -32,8 +32,8 @@ returns c =
     let found = c.in-Some.ensures in
     let o = opening-some 66 24 c.args.bytes.now c.in-Some.opening found.value in
     let len : length c.after-data.result.now ≡ length (drop (last_place 24 c.args.bytes.now) c.args.bytes.now) =
-      ap length c.after-data.ensures ∙ ap (λ (x : Opening). length (drop x.place c.args.bytes.now)) o.1 in
+    ap length c.after-data.ensures ∙ ap (λ (x : Opening). length (drop x.place c.args.bytes.now)) o.1 in
     let some = not-empty (length c.after-data.result.now) c.is_empty.result c.is_empty.ensures c.if-is_empty.false in
     let within = not-below (c.u64_at-offset.result + length c.after-data.result.now) c.u64_at-msg_length.result c.ends_by.result c.ends_by.ensures c.if-not-ends_by.false in
     rw (c.packet.ensures, c.in_ok-from_slice.ensures, c.after-data.ensures, o.1, c.u64_at-msg_length.ensures, c.u64_at-offset.ensures)
-       (sym (medium-is c.args.bytes.now (λ i. (c.type_inv.bytes i).fits) o.0 (omega (arith, len, some)) (omega (arith, len, within))))
+    (sym (medium-is c.args.bytes.now (λ i. (c.type_inv.bytes i).fits) o.0 (omega (arith, len, some)) (omega (arith, len, within))))

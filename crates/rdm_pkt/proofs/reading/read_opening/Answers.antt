@@ -54,7 +54,7 @@ overflow_add-result c =
     let head = rw (c.rtm_flags.ensures, c.tagged_kind.ensures, tag, same) at c.has_head.ensures in
     let room : opt_place c.args.size c.args.bytes.now ≤ length c.args.bytes.now = let within = c.if-bytes-place.false in omega arith in
     let there : Opened c.args.kind c.args.size c.args.bytes.now =
-      record { room = room; opts = all.0; fit = ap opt_fits (sym same) ∙ sym c.opt_fits.ensures ∙ c.if-not-opt_fits.false; head = sym head ∙ c.if-not-has_head.false } in
+    record { room = room; opts = all.0; fit = ap opt_fits (sym same) ∙ sym c.opt_fits.ensures ∙ c.if-not-opt_fits.false; head = sym head ∙ c.if-not-has_head.false } in
     let size : c.in_ok-opt.opt_size ≡ opt_size (opt_of c.args.size c.args.bytes.now) = ap (λ (x : Opt × ℕ). x.1) all.1 in
     let end = opened-room c.args.kind c.args.size c.args.bytes.now there in
     let small = c.if-bytes-place.false in
@@ -71,7 +71,7 @@ returns-clause-value c =
     let head = rw (c.rtm_flags.ensures, c.tagged_kind.ensures, tag, same) at c.has_head.ensures in
     let room : opt_place c.args.size c.args.bytes.now ≤ length c.args.bytes.now = let within = c.if-bytes-place.false in omega arith in
     let there : Opened c.args.kind c.args.size c.args.bytes.now =
-      record { room = room; opts = all.0; fit = ap opt_fits (sym same) ∙ sym c.opt_fits.ensures ∙ c.if-not-opt_fits.false; head = sym head ∙ c.if-not-has_head.false } in
+    record { room = room; opts = all.0; fit = ap opt_fits (sym same) ∙ sym c.opt_fits.ensures ∙ c.if-not-opt_fits.false; head = sym head ∙ c.if-not-has_head.false } in
     let size : c.in_ok-opt.opt_size ≡ opt_size (opt_of c.args.size c.args.bytes.now) = ap (λ (x : Opt × ℕ). x.1) all.1 in
     rw (opening-is c.args.kind c.args.size c.args.bytes.now there, c.u32_at.ensures, tag, same, size, e) refl
 
@@ -86,7 +86,7 @@ returns-clause-most c =
     let head = rw (c.rtm_flags.ensures, c.tagged_kind.ensures, tag, same) at c.has_head.ensures in
     let room : opt_place c.args.size c.args.bytes.now ≤ length c.args.bytes.now = let within = c.if-bytes-place.false in omega arith in
     let there : Opened c.args.kind c.args.size c.args.bytes.now =
-      record { room = room; opts = all.0; fit = ap opt_fits (sym same) ∙ sym c.opt_fits.ensures ∙ c.if-not-opt_fits.false; head = sym head ∙ c.if-not-has_head.false } in
+    record { room = room; opts = all.0; fit = ap opt_fits (sym same) ∙ sym c.opt_fits.ensures ∙ c.if-not-opt_fits.false; head = sym head ∙ c.if-not-has_head.false } in
     let size : c.in_ok-opt.opt_size ≡ opt_size (opt_of c.args.size c.args.bytes.now) = ap (λ (x : Opt × ℕ). x.1) all.1 in
     let end = opened-room c.args.kind c.args.size c.args.bytes.now there in
     omega arith

@@ -34,9 +34,9 @@ returns-then-not-iov_fits c =
     let few = c.if-count-gt4.false in
     let count : c.u32_at-count.result ≡ count_at c.args.bytes.now = omega arith in
     let iov : c.read_iov-iov.result ≡ iov_at (last_place 40 c.args.bytes.now) (count_at c.args.bytes.now) c.args.bytes.now =
-      c.read_iov-iov.ensures ∙ same-iov c.in-Some.opening.place (last_place 40 c.args.bytes.now) c.u32_at-count.result (count_at c.args.bytes.now) c.args.bytes.now place count in
+    c.read_iov-iov.ensures ∙ same-iov c.in-Some.opening.place (last_place 40 c.args.bytes.now) c.u32_at-count.result (count_at c.args.bytes.now) c.args.bytes.now place count in
     let test : c.iov_fits.result ≡ iov_fits (iov_at (last_place 40 c.args.bytes.now) (count_at c.args.bytes.now) c.args.bytes.now) (number_at 8 8 c.args.bytes.now) =
-      rw (c.as_slice.ensures, iov, c.u64_at-msg_length.ensures) at c.iov_fits.ensures in
+    rw (c.as_slice.ensures, iov, c.u64_at-msg_length.ensures) at c.iov_fits.ensures in
     sym (runt-takes c.args.bytes.now (λ i. (c.type_inv.bytes i).fits) (λ _ parts. true-not-false (sym test ∙ c.if-not-iov_fits.true) parts.iov))
 
 pub returns-then-not-ends_by : goal.returns-then-not-ends_by
@@ -65,9 +65,9 @@ returns c =
     let few = c.if-count-gt4.false in
     let count : c.u32_at-count.result ≡ count_at c.args.bytes.now = omega arith in
     let iov : c.read_iov-iov.result ≡ iov_at (last_place 40 c.args.bytes.now) (count_at c.args.bytes.now) c.args.bytes.now =
-      c.read_iov-iov.ensures ∙ same-iov c.in-Some.opening.place (last_place 40 c.args.bytes.now) c.u32_at-count.result (count_at c.args.bytes.now) c.args.bytes.now place count in
+    c.read_iov-iov.ensures ∙ same-iov c.in-Some.opening.place (last_place 40 c.args.bytes.now) c.u32_at-count.result (count_at c.args.bytes.now) c.args.bytes.now place count in
     let test : c.iov_fits.result ≡ iov_fits (iov_at (last_place 40 c.args.bytes.now) (count_at c.args.bytes.now) c.args.bytes.now) (number_at 8 8 c.args.bytes.now) =
-      rw (c.as_slice.ensures, iov, c.u64_at-msg_length.ensures) at c.iov_fits.ensures in
+    rw (c.as_slice.ensures, iov, c.u64_at-msg_length.ensures) at c.iov_fits.ensures in
     let at : c.in-Some.opening.place + 24 * c.u32_at-count.result ≡ runt_place c.args.bytes.now = omega (arith, place, count) in
     let data' : c.after-data.result.now ≡ drop (runt_place c.args.bytes.now) c.args.bytes.now = c.after-data.ensures ∙ ap (λ (n : ℕ). drop n c.args.bytes.now) at in
     let len = ap length data' in
@@ -75,6 +75,6 @@ returns c =
     let some = c.if-bytes-place.false in
     let part = c.if-runt_length-msg_length.false in
     let parts : RuntParts c.args.bytes.now =
-      record { few = omega arith; some = omega (arith, at, some); iov = sym test ∙ c.if-not-iov_fits.false; within = omega (arith, len, late); part = omega arith } in
+    record { few = omega arith; some = omega (arith, at, some); iov = sym test ∙ c.if-not-iov_fits.false; within = omega (arith, len, late); part = omega arith } in
     rw (c.packet.ensures, iov, o.1, c.in_ok-from_slice.ensures, data', c.u64_at-msg_length.ensures, c.u32_at.ensures, c.u64_at-runt_length.ensures, c.u64_at-offset.ensures)
-       (sym (runt-is c.args.bytes.now (λ i. (c.type_inv.bytes i).fits) o.0 parts))
+    (sym (runt-is c.args.bytes.now (λ i. (c.type_inv.bytes i).fits) o.0 parts))
