@@ -1,5 +1,5 @@
 -- The room that an eager packet's headers leave.
-use Rattle.std.proofs.Common.{◌≡◌, ℕ, ◌+◌, Bool, true, false, if◌then◌else◌, [], length, refl}
+use Rattle.std.proofs.Common.{◌≡◌, ◌+◌, Bool, true, false, if◌then◌else◌, [], length, refl}
 use Rattle.std.specs.Bool.{then_some}
 use Rattle.rdm_hdr.specs.Fields.{field_bytes, fields_bytes}
 use Rattle.rdm_hdr.specs.Headers.{base_fields, raw_fields, cq_data_fields, connid_fields, opt_fields}

@@ -1,19 +1,17 @@
 -- When bytes are a packet of each row that opens a message.
-use Rattle.std.proofs.Common.{◌≡◌, ℕ, zero, suc, ◌+◌, ◌-◌, ◌*◌, ◌<◌, ◌≤◌, ◌^◌, Bool, true, false, List, [], ◌∷◌, ◌++◌, length, drop, min, Option, Some, None, refl, sym, ap, ◌∙◌, arith}
+use Rattle.std.proofs.Common.{◌≡◌, ℕ, zero, suc, ◌+◌, ◌<◌, ◌≤◌, Bool, true, false, List, [], ◌∷◌, length, drop, Some, None, refl, sym, ◌∙◌, arith}
 use Rattle.std.specs.Prelude.{nat_le, nat_lt, ◌==◌, ◌&&◌}
 use Rattle.std.proofs.lemmas.List.{length-drop}
 use Rattle.std.proofs.lemmas.Bool.{and_parts, and_from, leb-true, leb-false, eqb-true, le-leb}
-use Rattle.rdm_num.specs.declared.numbers.OpId.{OpId}
-use Rattle.rdm_hdr.specs.Fields.{Field, Number, Data, fields_bytes, fields_fit, number_at}
+use Rattle.rdm_hdr.specs.Fields.{Field, Number, Data, number_at}
 use Rattle.rdm_hdr.proofs.Fronts.{AreBytes, bytes-after}
-use Rattle.rdm_pkt.specs.declared.Packet.{Packet}
 use Rattle.rdm_pkt.specs.declared.Form.{Form}
-use Rattle.rdm_pkt.specs.declared.Form.TheVariants.{Eager, Medium, LongCts, LongRead, Runt}
+use Rattle.rdm_pkt.specs.declared.Form.TheVariants.{Eager, Medium, LongCts}
 use Rattle.rdm_pkt.specs.Grammar.{type_of, form_fields, last_fields, form_fits}
 use Rattle.rdm_pkt.specs.Reading.{EagerRow, MediumRow, LongCtsRow, header_size, form_at, rtm_at, if_spelled}
-use Rattle.rdm_pkt.specs.Opened.{last_place, is_opened}
+use Rattle.rdm_pkt.specs.Opened.{last_place}
 use Rattle.rdm_pkt.proofs.PacketSizes.{size_of, size_of-data}
-use Rattle.rdm_pkt.proofs.Stands.{stands, stands-nothing, stands-own, stands-rest}
+use Rattle.rdm_pkt.proofs.Stands.{stands-nothing, stands-own, stands-rest}
 use Rattle.rdm_pkt.proofs.Rows.{fit-nothing, fit-own, fit-data}
 use Rattle.rdm_pkt.proofs.Openers.{Opened, opened, is-opened, opened-room, rtm_of, rtm-row, rtm-is, rtm-takes, size-room, true-not-false}
 

@@ -1,15 +1,15 @@
 -- When bytes are a packet that opens a message.
-use Rattle.std.proofs.Common.{◌≡◌, ℕ, zero, suc, ◌+◌, ◌-◌, ◌*◌, ◌<◌, ◌≤◌, ◌^◌, Bool, true, false, if◌then◌else◌, List, [], ◌∷◌, ◌++◌, length, drop, Option, Some, None, refl, sym, ap, ◌∙◌, subst, append_assoc, add_assoc, zero-add, inl, inr, arith}
-use Rattle.std.specs.Prelude.{nat_le, nat_lt, ◌==◌, ◌&&◌, is_some}
+use Rattle.std.proofs.Common.{◌≡◌, ℕ, suc, ◌+◌, ◌<◌, ◌≤◌, ◌^◌, Bool, true, false, if◌then◌else◌, List, [], ◌∷◌, ◌++◌, length, drop, Option, Some, None, refl, sym, ap, ◌∙◌, subst, append_assoc, add_assoc, zero-add, inl, inr, arith}
+use Rattle.std.specs.Prelude.{nat_le, ◌&&◌, is_some}
 use Rattle.std.specs.Bool.{then_some}
 use Rattle.std.proofs.lemmas.List.{length-drop, drop-drop}
 use Rattle.std.proofs.lemmas.Bool.Decides.{leb_tells}
 use Rattle.std.proofs.lemmas.Bool.{and_parts, and_from, leb-true, le-leb}
 use Rattle.rdm_hdr.specs.declared.Opt.{Opt}
-use Rattle.rdm_hdr.specs.Fields.{Field, Number, Data, field_fits, fields_bytes, fields_fit, number_at, has_bit}
+use Rattle.rdm_hdr.specs.Fields.{Field, Number, field_fits, fields_bytes, fields_fit, number_at, has_bit}
 use Rattle.rdm_hdr.specs.Headers.{base_fields, raw_fields, cq_data_fields, connid_fields, opt_fields, opt_flags, opt_size, opt_at}
 use Rattle.rdm_hdr.specs.Reading.{begins, opt_in}
-use Rattle.rdm_hdr.proofs.Fronts.{AreBytes, number_at-fits, bytes-after, begins-longer}
+use Rattle.rdm_hdr.proofs.Fronts.{AreBytes, number_at-fits, begins-longer}
 use Rattle.rdm_hdr.proofs.Opts.{some-then}
 use Rattle.rdm_pkt.specs.declared.reading.Opening.{Opening}
 use Rattle.rdm_pkt.specs.declared.Packet.{Packet}
@@ -19,8 +19,8 @@ use Rattle.rdm_pkt.specs.Grammar.{type_of, form_fields, tag_fields, last_fields,
 use Rattle.rdm_pkt.specs.Reading.{Row, header_size, form_at, rtm_at, if_spelled}
 use Rattle.rdm_pkt.specs.Opened.{opt_place, tag_at, opt_of, last_place, is_opened, opening_in}
 use Rattle.rdm_pkt.proofs.PacketSizes.{size_of, head-size, tag-size, form_size, form-size, packet-size}
-use Rattle.rdm_pkt.proofs.Stands.{stands, stands-append, stands-nothing, stands-own, is-spelled, not-spelled}
-use Rattle.rdm_pkt.proofs.Rows.{fits-own, fit-nothing, fit-append, fit-own}
+use Rattle.rdm_pkt.proofs.Stands.{stands, stands-append, stands-own, is-spelled, not-spelled}
+use Rattle.rdm_pkt.proofs.Rows.{fit-nothing, fit-append, fit-own}
 
 -- the packet with the values that stand there, and that form
 abbrev pub rtm_of : (size : ℕ) → List ℕ → Form → Packet

@@ -1,23 +1,21 @@
 -- When bytes are a packet of a row that has a read list.
-use Rattle.std.proofs.Common.{◌≡◌, ℕ, zero, suc, ◌+◌, ◌-◌, ◌*◌, ◌<◌, ◌≤◌, ◌^◌, Bool, true, false, List, [], ◌∷◌, ◌++◌, length, drop, min, Option, Some, None, refl, sym, ap, ◌∙◌, append-nil, arith}
-use Rattle.std.specs.Prelude.{nat_le, nat_lt, ◌==◌, ◌&&◌, flat_map}
+use Rattle.std.proofs.Common.{◌≡◌, ℕ, suc, ◌+◌, ◌*◌, ◌<◌, ◌≤◌, ◌^◌, true, List, [], ◌∷◌, ◌++◌, length, drop, min, Some, None, refl, sym, ap, ◌∙◌, append-nil, arith}
+use Rattle.std.specs.Prelude.{◌==◌, ◌&&◌, flat_map}
 use Rattle.std.proofs.lemmas.List.{length-drop}
-use Rattle.std.proofs.lemmas.Bool.{and_parts, and_from, leb-true, eqb-true, le-leb}
+use Rattle.std.proofs.lemmas.Bool.{and_parts, leb-true, eqb-true, le-leb}
 use Rattle.rdm_num.specs.declared.lists.IovEntry.{IovEntry}
-use Rattle.rdm_num.specs.declared.numbers.OpId.{OpId}
 use Rattle.rdm_hdr.specs.Fields.{Field, Number, Data, fields_fit, number_at}
 use Rattle.rdm_hdr.proofs.Fronts.{AreBytes, bytes-after}
-use Rattle.rdm_pkt.specs.declared.Packet.{Packet}
 use Rattle.rdm_pkt.specs.declared.Form.{Form}
 use Rattle.rdm_pkt.specs.declared.Form.TheVariants.{LongRead, Runt}
 use Rattle.rdm_pkt.specs.Grammar.{type_of, form_fields, last_fields, form_fits, iov_fits, entry_fields}
 use Rattle.rdm_pkt.specs.Reading.{LongReadRow, RuntRow, header_size, form_at, rtm_at, iov_at, if_spelled}
-use Rattle.rdm_pkt.specs.Opened.{last_place, is_opened}
+use Rattle.rdm_pkt.specs.Opened.{last_place}
 use Rattle.rdm_pkt.proofs.PacketSizes.{size_of, size_of-data, size_of-append, iov-size}
 use Rattle.rdm_pkt.proofs.Stands.{stands, stands-nothing, stands-own, stands-number, stands-rest}
 use Rattle.rdm_pkt.proofs.Rows.{fit-nothing, fit-own, fit-data}
 use Rattle.rdm_pkt.proofs.ReadLists.{length-iov_at, fit-iov, stands-iov}
-use Rattle.rdm_pkt.proofs.Openers.{Opened, opened, is-opened, opened-room, rtm_of, rtm-row, rtm-is, rtm-takes, size-room}
+use Rattle.rdm_pkt.proofs.Openers.{Opened, opened, is-opened, rtm_of, rtm-row, rtm-is, rtm-takes, size-room}
 
 -- how many ranges are read
 abbrev pub count_at : List ℕ → ℕ

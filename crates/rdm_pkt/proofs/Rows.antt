@@ -1,5 +1,5 @@
 -- When bytes are the packets that do not open a message.
-use Rattle.std.proofs.Common.{◌≡◌, ℕ, zero, suc, ◌+◌, ◌-◌, ◌*◌, ◌<◌, ◌≤◌, ◌^◌, Bool, true, false, List, [], ◌∷◌, ◌++◌, length, drop, map, Option, Some, None, refl, sym, ap, ◌∙◌, append_assoc, append-nil, arith}
+use Rattle.std.proofs.Common.{◌≡◌, ℕ, zero, suc, ◌+◌, ◌-◌, ◌*◌, ◌<◌, ◌≤◌, ◌^◌, Bool, true, List, [], ◌∷◌, ◌++◌, length, drop, map, Some, None, refl, sym, ap, ◌∙◌, append_assoc, append-nil, arith}
 use Rattle.std.specs.Prelude.{nat_le, nat_lt, ◌==◌, ◌&&◌, min}
 use Rattle.std.specs.List.{list_all}
 use Rattle.std.proofs.lemmas.List.{length-drop}
@@ -11,10 +11,10 @@ use Rattle.rdm_hdr.specs.Headers.{base_fields}
 use Rattle.rdm_hdr.specs.Reading.{begins}
 use Rattle.rdm_hdr.proofs.Fronts.{AreBytes, number_at-fits, bytes-after}
 use Rattle.rdm_pkt.specs.declared.Packet.{Packet}
-use Rattle.rdm_pkt.specs.declared.Packet.TheVariants.{Rtm, Cts, CtsData, Eor, Handshake}
-use Rattle.rdm_pkt.specs.Grammar.{head_fields, layout, packet_fits, fits, spelling}
+use Rattle.rdm_pkt.specs.declared.Packet.TheVariants.{Cts, CtsData, Eor, Handshake}
+use Rattle.rdm_pkt.specs.Grammar.{head_fields, layout, packet_fits}
 use Rattle.rdm_pkt.specs.Reading.{CtsRow, CtsDataRow, EorRow, HandshakeRow, words_at, values_at, if_spelled}
-use Rattle.rdm_pkt.proofs.PacketSizes.{size_of, head-size, packet-size}
+use Rattle.rdm_pkt.proofs.PacketSizes.{head-size, packet-size}
 use Rattle.rdm_pkt.proofs.Stands.{stands, stands-append, stands-nothing, stands-own, stands-number, stands-rest, is-spelled, not-spelled}
 
 -- a number that stands there is in its range

@@ -1,14 +1,14 @@
 -- Which fields stand at a place of bytes, and what it takes for bytes to be a packet.
-use Rattle.std.proofs.Common.{◌≡◌, ℕ, zero, suc, ◌+◌, ◌<◌, ◌≤◌, ◌^◌, Bool, true, false, List, [], ◌∷◌, ◌++◌, length, take, drop, Option, Some, None, refl, sym, ap, ◌∙◌, subst, append-nil, arith}
-use Rattle.std.specs.Prelude.{nat_le, ◌==◌, ◌&&◌, bytes_eq}
+use Rattle.std.proofs.Common.{◌≡◌, ℕ, ◌+◌, ◌<◌, ◌≤◌, ◌^◌, Bool, true, false, List, [], ◌∷◌, ◌++◌, length, drop, Some, None, refl, ap, subst, append-nil, arith}
+use Rattle.std.specs.Prelude.{◌==◌, ◌&&◌, bytes_eq}
 use Rattle.std.specs.Bool.{then_some}
-use Rattle.std.proofs.lemmas.Bool.{and_parts, and_from, leb-true, le-leb}
+use Rattle.std.proofs.lemmas.Bool.{and_parts, and_from, le-leb}
 use Rattle.std.proofs.lemmas.Bool.Decides.{Decides-eqb}
 use Rattle.std.proofs.lemmas.List.{drop-drop}
 use Rattle.std.proofs.lemmas.Slice.Eq.{bytes_eq-Decides}
 use Rattle.rdm_hdr.specs.Fields.{Field, Number, Data, field_bytes, fields_bytes, fields_fit, number_at}
 use Rattle.rdm_hdr.specs.Reading.{begins}
-use Rattle.rdm_hdr.proofs.Fronts.{AreBytes, begins-append, begins-nothing, number-stands_at, own_number-stands_at, number_at-fits, bytes-after}
+use Rattle.rdm_hdr.proofs.Fronts.{AreBytes, begins-append, begins-nothing, number-stands_at, own_number-stands_at}
 use Rattle.rdm_hdr.proofs.Opts.{fields_bytes-append}
 use Rattle.rdm_pkt.specs.declared.Packet.{Packet}
 use Rattle.rdm_pkt.specs.Grammar.{layout, packet_fits, fits, spelling}

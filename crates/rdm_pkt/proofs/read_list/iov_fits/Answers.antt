@@ -1,4 +1,4 @@
-use Rattle.std.proofs.Common.{◌≡◌, refl, sym, ◌∙◌, arith}
+use Rattle.std.proofs.Common.{sym, ◌∙◌}
 use Rattle.rdm_num.specs.declared.lists.IovEntry.{IovEntry}
 use Rattle.rdm_pkt.proofs.ReadLists.{iov-none, iov-many, iov-bad, iov-long, iov-all}
 use Rattle.rdm_pkt.proofs.Forms.{is-empty, not-empty}

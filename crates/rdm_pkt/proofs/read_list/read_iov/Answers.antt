@@ -1,4 +1,4 @@
-use Rattle.std.proofs.Common.{◌≡◌, refl, sym, ◌∙◌, arith}
+use Rattle.std.proofs.Common.{sym, ◌∙◌, arith}
 use Rattle.rdm_pkt.proofs.ReadLists.{iov_at-next, iov_at-last}
 use Rattle.rdm_pkt.proofs.read_list.read_iov.Goals as goal
 

@@ -1,4 +1,4 @@
-use Rattle.std.proofs.Common.{refl, sym, arith}
+use Rattle.std.proofs.Common.{sym, arith}
 use Rattle.rdm_pkt.proofs.Rows.{cts-is, cts-takes}
 use Rattle.rdm_pkt.specs.Reading.{values_at}
 use Rattle.rdm_pkt.proofs.reading.read_cts.Goals as goal

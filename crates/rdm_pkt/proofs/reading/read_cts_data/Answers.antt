@@ -1,4 +1,4 @@
-use Rattle.std.proofs.Common.{◌≡◌, ◌<◌, ◌+◌, ◌^◌, length, drop, refl, sym, ap, ◌∙◌, arith}
+use Rattle.std.proofs.Common.{◌≡◌, ◌<◌, ◌+◌, ◌^◌, length, drop, sym, ap, arith}
 use Rattle.rdm_hdr.specs.Fields.{number_at}
 use Rattle.rdm_pkt.proofs.Rows.{cts_data-is, cts_data-takes}
 use Rattle.rdm_pkt.specs.Reading.{values_at}

@@ -1,6 +1,4 @@
-use Rattle.std.proofs.Common.{◌≡◌, ◌≤◌, ◌<◌, ◌+◌, length, drop, refl, sym, ap, ◌∙◌, arith}
-use Rattle.rdm_hdr.specs.Fields.{number_at}
-use Rattle.rdm_pkt.specs.Opened.{last_place}
+use Rattle.std.proofs.Common.{sym, ◌∙◌}
 use Rattle.rdm_pkt.proofs.Openers.{opening-none, opening-some}
 use Rattle.rdm_pkt.proofs.Forms.{eager-is, eager-takes}
 use Rattle.rdm_pkt.proofs.reading.read_eager.Goals as goal

@@ -1,5 +1,4 @@
-use Rattle.std.proofs.Common.{◌≡◌, ◌-◌, refl, sym, arith}
-use Rattle.rdm_hdr.specs.Fields.{number_at}
+use Rattle.std.proofs.Common.{◌-◌, sym, arith}
 use Rattle.rdm_pkt.proofs.Rows.{handshake-is, handshake-takes}
 use Rattle.rdm_pkt.proofs.reading.read_handshake.Goals as goal
 

@@ -1,9 +1,8 @@
-use Rattle.std.proofs.Common.{◌≡◌, ◌≤◌, ◌<◌, ◌+◌, length, drop, refl, sym, ap, ◌∙◌, arith}
-use Rattle.rdm_hdr.specs.Fields.{number_at}
+use Rattle.std.proofs.Common.{◌≡◌, length, drop, sym, ap, ◌∙◌, arith}
 use Rattle.rdm_pkt.specs.declared.reading.Opening.{Opening}
 use Rattle.rdm_pkt.specs.Opened.{last_place}
 use Rattle.rdm_pkt.proofs.Openers.{opening-none, opening-some}
-use Rattle.rdm_pkt.proofs.Forms.{long_cts-is, long_cts-takes, is-empty, not-empty, not-above, not-below}
+use Rattle.rdm_pkt.proofs.Forms.{long_cts-is, long_cts-takes, is-empty, not-empty}
 use Rattle.rdm_pkt.proofs.reading.read_long_cts.Goals as goal
 
 pub returns-in_default : goal.returns-in_default

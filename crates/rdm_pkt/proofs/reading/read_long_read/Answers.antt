@@ -1,4 +1,4 @@
-use Rattle.std.proofs.Common.{◌≡◌, ℕ, ◌≤◌, ◌+◌, ◌*◌, length, min, refl, sym, ap, ◌∙◌, arith}
+use Rattle.std.proofs.Common.{◌≡◌, ◌+◌, ◌*◌, length, sym, ap, ◌∙◌, arith}
 use Rattle.rdm_hdr.specs.Fields.{number_at}
 use Rattle.rdm_pkt.specs.declared.reading.Opening.{Opening}
 use Rattle.rdm_pkt.specs.Grammar.{iov_fits}

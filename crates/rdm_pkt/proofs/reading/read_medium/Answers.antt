@@ -1,5 +1,4 @@
-use Rattle.std.proofs.Common.{◌≡◌, ◌≤◌, ◌<◌, ◌+◌, length, drop, refl, sym, ap, ◌∙◌, arith}
-use Rattle.rdm_hdr.specs.Fields.{number_at}
+use Rattle.std.proofs.Common.{◌≡◌, ◌+◌, length, drop, sym, ap, ◌∙◌, arith}
 use Rattle.rdm_pkt.specs.declared.reading.Opening.{Opening}
 use Rattle.rdm_pkt.specs.Opened.{last_place}
 use Rattle.rdm_pkt.proofs.Openers.{opening-none, opening-some}

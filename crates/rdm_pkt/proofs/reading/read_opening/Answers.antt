@@ -1,10 +1,10 @@
-use Rattle.std.proofs.Common.{◌≡◌, ℕ, false, ◌≤◌, ◌<◌, ◌+◌, length, refl, sym, ap, ◌∙◌, arith}
+use Rattle.std.proofs.Common.{◌≡◌, ℕ, false, ◌≤◌, ◌+◌, length, refl, sym, ap, ◌∙◌, arith}
 use Rattle.rdm_hdr.proofs.Opts.{none-then, some-then}
 use Rattle.rdm_hdr.specs.declared.Opt.{Opt}
 use Rattle.rdm_hdr.specs.Headers.{opt_size}
 use Rattle.rdm_pkt.specs.Grammar.{opt_fits}
 use Rattle.rdm_pkt.specs.Opened.{opt_place, opt_of, tag_at, last_place}
-use Rattle.rdm_pkt.proofs.Openers.{opening-opt, place-by, size-first, opening-takes, opening-is, tag-by, opened-room, read-opt, Opened, true-not-false}
+use Rattle.rdm_pkt.proofs.Openers.{place-by, size-first, opening-takes, opening-is, tag-by, opened-room, read-opt, Opened, true-not-false}
 use Rattle.rdm_pkt.proofs.reading.read_opening.Goals as goal
 
 pub returns-then-bytes-size-clause-value : goal.returns-then-bytes-size-clause-value

@@ -1,4 +1,4 @@
-use Rattle.std.proofs.Common.{◌≡◌, refl, sym, ◌∙◌}
+use Rattle.std.proofs.Common.{sym, ◌∙◌}
 use Rattle.rdm_pkt.proofs.Rows.{words_at-next, words_at-last}
 use Rattle.rdm_pkt.proofs.reading.read_words.Goals as goal
 
