@@ -269,8 +269,8 @@ fn read_medium(alloc: Global, bytes: &[u8]) -> Result<Option<Packet>, NoMemory>
 }
 
 /// The data end where the message ends, or before.
-fn ends_by(offset: u64, data: &[u8], size: u64) -> bool
-    ensures { result ≡ nat_le (offset + length data.now) size }
+fn ends_by(offset: u64, part: &[u8], size: u64) -> bool
+    ensures { result ≡ nat_le (offset + length part.now) size }
 {
     let length = data.len() as u64;
     length <= size && offset <= size - length
