@@ -272,7 +272,7 @@ fn read_medium(alloc: Global, bytes: &[u8]) -> Result<Option<Packet>, NoMemory>
 fn ends_by(offset: u64, part: &[u8], size: u64) -> bool
     ensures { result ≡ nat_le (offset + length part.now) size }
 {
-    let length = data.len() as u64;
+    let length = part.len() as u64;
     length <= size && offset <= size - length
 }
 
