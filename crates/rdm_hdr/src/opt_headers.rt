@@ -101,7 +101,7 @@ pub fn opt_size(opt: &Opt) -> usize
 }
 
 /// The size of a header that may be there.
-fn size_if(is_there: bool, size: usize) -> usize
+pub fn size_if(is_there: bool, size: usize) -> usize
     ensures { result ≡ (if is_there then size else 0) }
 {
     if is_there { size } else { 0 }

@@ -1,6 +1,6 @@
 -- The sizes of packets and of their parts.
-use Rattle.std.proofs.Common.{◌≡◌, ℕ, ◌+◌, ◌*◌, ◌≤◌, Bool, true, false, if◌then◌else◌, List, [], ◌∷◌, ◌++◌, length, Option, Some, None, refl, ap, ◌∙◌, add-zero, arith}
-use Rattle.std.specs.Prelude.{is_some, map, flat_map, nat_le, ◌&&◌, IsTrue}
+use Rattle.std.proofs.Common.{◌≡◌, ℕ, ◌+◌, ◌*◌, ◌≤◌, true, if◌then◌else◌, List, [], ◌∷◌, ◌++◌, length, Option, Some, None, refl, ◌∙◌, add-zero, arith}
+use Rattle.std.specs.Prelude.{is_some, map, flat_map, nat_le}
 use Rattle.std.proofs.lemmas.List.{length-append}
 use Rattle.std.proofs.lemmas.Bool.{and_parts, leb-true}
 use Rattle.byteorder.specs.Numbers.{length-bytes_low_first}
@@ -8,9 +8,9 @@ use Rattle.rdm_num.specs.declared.lists.IovEntry.{IovEntry}
 use Rattle.rdm_num.specs.declared.numbers.MsgNo.{MsgNo}
 use Rattle.rdm_num.specs.declared.numbers.Connid.{Connid}
 use Rattle.rdm_hdr.specs.declared.Opt.{Opt}
-use Rattle.rdm_hdr.specs.Fields.{Field, Number, Data, field_bytes, fields_bytes, fields_fit}
+use Rattle.rdm_hdr.specs.Fields.{Field, Number, Data, field_bytes, fields_bytes}
 use Rattle.rdm_hdr.specs.Headers.{base_fields, opt_fields, opt_size}
-use Rattle.rdm_hdr.proofs.Opts.{fields_bytes-append, opt_size-parts}
+use Rattle.rdm_hdr.proofs.Opts.{fields_bytes-append}
 use Rattle.rdm_pkt.specs.declared.Packet.{Packet}
 use Rattle.rdm_pkt.specs.declared.Packet.TheVariants.{Rtm, Cts, CtsData, Eor, Handshake}
 use Rattle.rdm_pkt.specs.declared.Form.{Form}

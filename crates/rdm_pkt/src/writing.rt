@@ -1,5 +1,5 @@
 //! How packets are written.
-ghost use Rattle.std.specs.Prelude.{◌≡◌, ◌≤◌, ◌+◌, ◌*◌, ◌++◌, IsTrue, length, List, map, flat_map, OnOk, OnErr, ℕ, is_some, if◌then◌else◌};
+ghost use Rattle.std.specs.Prelude.{◌≡◌, ◌≤◌, ◌<◌, ◌+◌, ◌*◌, ◌++◌, IsTrue, length, List, map, flat_map, OnOk, OnErr, ℕ, is_some, if◌then◌else◌};
 ghost use Rattle.std.specs.Vec.{vec_len, vec_capacity};
 ghost use Rattle.rdm_hdr.specs.Fields.{Number, Data, fields_bytes};
 ghost use Rattle.rdm_pkt.specs.Grammar.{fits, form_fits, spelling, head_fields, form_fields, entry_fields, last_fields, tag_fields};
@@ -126,12 +126,20 @@ fn rtm_kind(form: &Form, tag: Option<u64>) -> u8
         Form::LongRead { .. } => 128,
         Form::Runt { .. } => 192,
     };
+    tagged_kind(untagged, tag)
+}
+
+/// The type of a packet that opens a message, from that of an untagged one.
+pub fn tagged_kind(untagged: u8, tag: Option<u64>) -> u8
+    requires { untagged < 255 }
+    ensures { result ≡ untagged + (if is_some tag then 1 else 0) }
+{
     untagged + u8::from(tag.is_some())
 }
 
 /// The flags of a packet that opens a message.
 #[tactic(auto, unfolding(crate::specs::Grammar::rtm_flags))]
-fn rtm_flags(tag: Option<u64>, opt: &Opt) -> u16
+pub fn rtm_flags(tag: Option<u64>, opt: &Opt) -> u16
     ensures { result ≡ Grammar.rtm_flags tag opt.now }
 {
     let kind = if tag.is_some() { 8 } else { 4 };

@@ -1,4 +1,4 @@
-use Rattle.std.proofs.Common.{◌≡◌, ℕ, ◌+◌, ◌++◌, List, take, refl, ap, ◌∙◌, append-nil, append_assoc, arith}
+use Rattle.std.proofs.Common.{refl, append-nil, append_assoc, arith}
 use Rattle.rdm_hdr.specs.Fields.{fields_bytes}
 use Rattle.rdm_pkt.proofs.PacketBytes.{words-more}
 use Rattle.rdm_pkt.proofs.writing.append_words.Goals as goal

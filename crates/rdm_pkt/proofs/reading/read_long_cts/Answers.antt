@@ -1,0 +1,44 @@
+use Rattle.std.proofs.Common.{◌≡◌, length, drop, sym, ap, ◌∙◌, arith}
+use Rattle.rdm_pkt.specs.declared.reading.Opening.{Opening}
+use Rattle.rdm_pkt.specs.Opened.{last_place}
+use Rattle.rdm_pkt.proofs.Openers.{opening-none, opening-some}
+use Rattle.rdm_pkt.proofs.Forms.{long_cts-is, long_cts-takes, is-empty, not-empty}
+use Rattle.rdm_pkt.proofs.reading.read_long_cts.Goals as goal
+
+pub returns-in_default : goal.returns-in_default
+returns-in_default c = sym (long_cts-takes c.args.bytes.now (λ i. (c.type_inv.bytes i).fits) (λ o some part credits. opening-none 68 24 c.args.bytes.now (sym c.read_opening.ensures.value ∙ c.in_default.is) o))
+
+pub returns-then-is_empty : goal.returns-then-is_empty
+returns-then-is_empty c =
+    let found = c.in-Some.ensures in
+    let o = opening-some 68 24 c.args.bytes.now c.in-Some.opening found.value in
+    let len : length c.after-data.result.now ≡ length (drop (last_place 24 c.args.bytes.now) c.args.bytes.now) =
+    ap length c.after-data.ensures ∙ ap (λ (x : Opening). length (drop x.place c.args.bytes.now)) o.1 in
+    let none = is-empty (length c.after-data.result.now) c.is_empty.result c.is_empty.ensures c.if-is_empty.true in
+    sym (long_cts-takes c.args.bytes.now (λ i. (c.type_inv.bytes i).fits) (λ _ some part credits. absurd (omega (arith, len, none))))
+
+pub returns-then-data-msg_length : goal.returns-then-data-msg_length
+returns-then-data-msg_length c =
+    let found = c.in-Some.ensures in
+    let o = opening-some 68 24 c.args.bytes.now c.in-Some.opening found.value in
+    let len : length c.after-data.result.now ≡ length (drop (last_place 24 c.args.bytes.now) c.args.bytes.now) =
+    ap length c.after-data.ensures ∙ ap (λ (x : Opening). length (drop x.place c.args.bytes.now)) o.1 in
+    let whole = c.if-data-msg_length.true in
+    sym (long_cts-takes c.args.bytes.now (λ i. (c.type_inv.bytes i).fits) (λ _ some part credits. absurd (omega (arith, len))))
+
+pub returns-then-credit_request-eq0 : goal.returns-then-credit_request-eq0
+returns-then-credit_request-eq0 c =
+    let none = c.if-credit_request-eq0.true in
+    sym (long_cts-takes c.args.bytes.now (λ i. (c.type_inv.bytes i).fits) (λ _ some part credits. absurd (omega arith)))
+
+pub returns : goal.returns
+returns c =
+    let found = c.in-Some.ensures in
+    let o = opening-some 68 24 c.args.bytes.now c.in-Some.opening found.value in
+    let len : length c.after-data.result.now ≡ length (drop (last_place 24 c.args.bytes.now) c.args.bytes.now) =
+    ap length c.after-data.ensures ∙ ap (λ (x : Opening). length (drop x.place c.args.bytes.now)) o.1 in
+    let some = not-empty (length c.after-data.result.now) c.is_empty.result c.is_empty.ensures c.if-is_empty.false in
+    let part = c.if-data-msg_length.false in
+    let credits = c.if-credit_request-eq0.false in
+    rw (c.packet.ensures, c.in_ok-from_slice.ensures, c.after-data.ensures, o.1, c.u64_at-msg_length.ensures, c.u32_at.ensures, c.u32_at-credit_request.ensures)
+    (sym (long_cts-is c.args.bytes.now (λ i. (c.type_inv.bytes i).fits) o.0 (omega (arith, len, some)) (omega (arith, len)) (omega arith)))

@@ -1,0 +1,364 @@
+//! How packets are read: field after field, each condition of the grammar where its field is read.
+ghost use Rattle.std.specs.Prelude.{◌≡◌, ◌≤◌, ◌<◌, ◌+◌, ◌*◌, ◌&&◌, nat_le, if◌then◌else◌, IfOk, IfSome, length, drop, option_and_then};
+ghost use Rattle.std.specs.Bool.{then_some};
+ghost use Rattle.rdm_hdr.specs.Fields.{number_at, fields_bytes};
+ghost use Rattle.rdm_hdr.specs.Reading.{begins};
+ghost use Rattle.rdm_pkt.specs.Grammar.{head_fields, opt_fits};
+ghost use Rattle.rdm_pkt.specs.Grammar as Grammar;
+ghost use Rattle.rdm_pkt.specs.Reading.{EagerRow, MediumRow, LongCtsRow, LongReadRow, RuntRow, CtsRow, CtsDataRow, EorRow, HandshakeRow, if_spelled, values_at, rtm_at, packet_in, words_at};
+ghost use Rattle.rdm_pkt.specs.Opened.{opening_in};
+
+use crate::read_list::{iov_fits, read_iov};
+use crate::writing::{CONNID_FLAG, VERSION, rtm_flags, tagged_kind};
+use crate::{Form, Packet};
+use rdm_hdr::{NoMemory, Opt, has_bit, read_opt, size_if, u16_at, u32_at, u64_at};
+use rdm_num::{Bytes, Connid, MsgNo, OpId, Words};
+use std::alloc::Global;
+
+impl Packet {
+    /// The packet that the bytes spell, if there is one. What it carries is copied once.
+    pub fn read(alloc: Global, bytes: &[u8]) -> Result<Option<Packet>, NoMemory>
+        ensures { IfOk result (λ r. r ≡ packet_in bytes.now) }
+    {
+        let Some(kind) = bytes.first() else {
+            return Ok(None);
+        };
+        match *kind {
+            3 => Ok(read_cts(bytes)),
+            4 => read_cts_data(alloc, bytes),
+            7 => Ok(read_eor(bytes)),
+            9 => read_handshake(alloc, bytes),
+            64 | 65 => read_eager(alloc, bytes),
+            66 | 67 => read_medium(alloc, bytes),
+            68 | 69 => read_long_cts(alloc, bytes),
+            128 | 129 => Ok(read_long_read(bytes)),
+            192 | 193 => read_runt(alloc, bytes),
+            _ => Ok(None),
+        }
+    }
+}
+
+/// The bytes begin with the base header of that type, with those flags.
+#[tactic(auto, unfolding(rdm_hdr::specs::Reading::begins, crate::specs::Grammar::head_fields, rdm_hdr::specs::Headers::base_fields, rdm_hdr::specs::Fields::fields_bytes, rdm_hdr::specs::Fields::field_bytes))]
+fn has_head(bytes: &[u8], kind: u8, flags: u16) -> bool
+    ensures { result ≡ begins (fields_bytes (head_fields kind flags)) bytes.now }
+{
+    let flags = flags.to_le_bytes();
+    bytes.starts_with(&[kind, VERSION, flags[0], flags[1]])
+}
+
+/// The bytes from a place on.
+fn after(bytes: &[u8], place: usize) -> &[u8]
+    requires { place ≤ length bytes.now }
+    ensures { result.now ≡ drop place bytes.now }
+{
+    &bytes[place..]
+}
+
+fn read_cts(bytes: &[u8]) -> Option<Packet>
+    ensures { result ≡ if_spelled bytes.now (values_at CtsRow bytes.now) }
+{
+    if bytes.len() != 24 {
+        return None;
+    }
+    if !has_head(bytes, 3, CONNID_FLAG) {
+        return None;
+    }
+    let recv_length = u64_at(bytes, 12);
+    if recv_length == 0 {
+        return None;
+    }
+    Some(Packet::Cts {
+        send_id: OpId(u32_at(bytes, 4)),
+        recv_id: OpId(u32_at(bytes, 8)),
+        recv_length,
+        connid: Connid(u32_at(bytes, 20)),
+    })
+}
+
+fn read_cts_data(alloc: Global, bytes: &[u8]) -> Result<Option<Packet>, NoMemory>
+    ensures { IfOk result (λ r. r ≡ if_spelled bytes.now (values_at CtsDataRow bytes.now)) }
+{
+    if bytes.len() <= 28 {
+        return Ok(None);
+    }
+    if !has_head(bytes, 4, CONNID_FLAG) {
+        return Ok(None);
+    }
+    let data = after(bytes, 28);
+    let seg_length = data.len() as u64;
+    if u64_at(bytes, 8) != seg_length {
+        return Ok(None);
+    }
+    let offset = u64_at(bytes, 16);
+    if offset > u64::MAX - seg_length {
+        return Ok(None);
+    }
+    Ok(Some(Packet::CtsData {
+        recv_id: OpId(u32_at(bytes, 4)),
+        offset,
+        connid: Connid(u32_at(bytes, 24)),
+        bytes: Bytes::from_slice(alloc, data)?,
+    }))
+}
+
+fn read_eor(bytes: &[u8]) -> Option<Packet>
+    ensures { result ≡ if_spelled bytes.now (values_at EorRow bytes.now) }
+{
+    if bytes.len() != 16 {
+        return None;
+    }
+    if !has_head(bytes, 7, CONNID_FLAG) {
+        return None;
+    }
+    Some(Packet::Eor {
+        send_id: OpId(u32_at(bytes, 4)),
+        recv_id: OpId(u32_at(bytes, 8)),
+        connid: Connid(u32_at(bytes, 12)),
+    })
+}
+
+fn read_handshake(alloc: Global, bytes: &[u8]) -> Result<Option<Packet>, NoMemory>
+    ensures { IfOk result (λ r. r ≡ if_spelled bytes.now (values_at HandshakeRow bytes.now)) }
+{
+    if bytes.len() < 12 {
+        return Ok(None);
+    }
+    if !has_head(bytes, 9, CONNID_FLAG) {
+        return Ok(None);
+    }
+    let nextra_p3 = u32_at(bytes, 4);
+    if nextra_p3 < 4 {
+        return Ok(None);
+    }
+    if nextra_p3 > 11 {
+        return Ok(None);
+    }
+    let count = nextra_p3 as usize - 3;
+    if bytes.len() != 12 + 8 * count {
+        return Ok(None);
+    }
+    Ok(Some(Packet::Handshake {
+        words: read_words(alloc, count, bytes)?,
+        connid: Connid(u32_at(bytes, 8 + 8 * count)),
+    }))
+}
+
+/// The words of a handshake.
+fn read_words(alloc: Global, count: usize, bytes: &[u8]) -> Result<Words, NoMemory>
+    requires few { count ≤ 8 }
+    requires room { 8 + 8 * count ≤ length bytes.now }
+    ensures { IfOk result (λ words. words ≡ words_at 8 count bytes.now) }
+{
+    let mut words = Vec::with_capacity(alloc, count)?;
+    for k in 0..count {
+        words.push(u64_at(bytes, 8 + 8 * k))?;
+    }
+    Ok(Words::from_vec(words))
+}
+
+/// What the headers say that each packet has which opens a message.
+#[derive(Clone, Copy)]
+struct Opening {
+    no: MsgNo,
+    tag: Option<u64>,
+    opt: Opt,
+    /// Where the read list or the data begin.
+    place: usize,
+}
+
+impl Opening {
+    /// The packet with those headers.
+    fn packet(&self, form: Form) -> Packet
+        ensures { result ≡ Packet.Rtm self.now.no self.now.tag self.now.opt form }
+    {
+        Packet::Rtm {
+            no: self.no,
+            tag: self.tag,
+            opt: self.opt,
+            form,
+        }
+    }
+}
+
+/// The headers of a packet that opens a message, of the untagged type `kind`, whose mandatory header has `size` bytes
+/// where there is no tag.
+fn read_opening(kind: u8, size: usize, bytes: &[u8]) -> Option<Opening>
+    requires small { kind < 255 }
+    requires least { 8 ≤ size }
+    requires most { size ≤ 40 }
+    ensures value { result ≡ opening_in kind size bytes.now }
+    ensures least { IfSome result (λ opening. size ≤ opening.place) }
+    ensures most { IfSome result (λ opening. opening.place ≤ length bytes.now) }
+{
+    if bytes.len() < size {
+        return None;
+    }
+    let flags = u16_at(bytes, 2);
+    let tagged = has_bit(3, u64::from(flags));
+    let place = size + size_if(tagged, 8);
+    if bytes.len() < place {
+        return None;
+    }
+    let (opt, opt_size) = read_opt(flags, after(bytes, place))?;
+    let tag = read_tag(tagged, bytes, size);
+    if !opt_fits(&opt) {
+        return None;
+    }
+    if !has_head(bytes, tagged_kind(kind, tag), rtm_flags(tag, &opt)) {
+        return None;
+    }
+    Some(Opening {
+        no: MsgNo(u32_at(bytes, 4)),
+        tag,
+        opt,
+        place: place + opt_size,
+    })
+}
+
+/// The tag at a place, if it is there.
+fn read_tag(is_there: bool, bytes: &[u8], place: usize) -> Option<u64>
+    requires { place + (if is_there then 8 else 0) ≤ length bytes.now }
+    ensures { result ≡ then_some is_there (number_at place 8 bytes.now) }
+{
+    if is_there {
+        Some(u64_at(bytes, place))
+    } else {
+        None
+    }
+}
+
+/// Exactly one of the raw address and the identifier is there.
+#[tactic(auto, unfolding(crate::specs::Grammar::opt_fits))]
+fn opt_fits(opt: &Opt) -> bool
+    ensures { result ≡ Grammar.opt_fits opt.now }
+{
+    opt.raw.is_some() != opt.connid.is_some()
+}
+
+fn read_eager(alloc: Global, bytes: &[u8]) -> Result<Option<Packet>, NoMemory>
+    ensures { IfOk result (λ r. r ≡ if_spelled bytes.now (rtm_at EagerRow bytes.now)) }
+{
+    let Some(opening) = read_opening(64, 8, bytes) else {
+        return Ok(None);
+    };
+    let bytes = Bytes::from_slice(alloc, after(bytes, opening.place))?;
+    Ok(Some(opening.packet(Form::Eager { bytes })))
+}
+
+fn read_medium(alloc: Global, bytes: &[u8]) -> Result<Option<Packet>, NoMemory>
+    ensures { IfOk result (λ r. r ≡ if_spelled bytes.now (rtm_at MediumRow bytes.now)) }
+{
+    let Some(opening) = read_opening(66, 24, bytes) else {
+        return Ok(None);
+    };
+    let data = after(bytes, opening.place);
+    let msg_length = u64_at(bytes, 8);
+    let offset = u64_at(bytes, 16);
+    if data.is_empty() {
+        return Ok(None);
+    }
+    if !ends_by(offset, data, msg_length) {
+        return Ok(None);
+    }
+    Ok(Some(opening.packet(Form::Medium {
+        msg_length,
+        offset,
+        bytes: Bytes::from_slice(alloc, data)?,
+    })))
+}
+
+/// The data end where the message ends, or before.
+fn ends_by(offset: u64, part: &[u8], size: u64) -> bool
+    ensures { result ≡ nat_le (offset + length part.now) size }
+{
+    let length = part.len() as u64;
+    length <= size && offset <= size - length
+}
+
+fn read_long_cts(alloc: Global, bytes: &[u8]) -> Result<Option<Packet>, NoMemory>
+    ensures { IfOk result (λ r. r ≡ if_spelled bytes.now (rtm_at LongCtsRow bytes.now)) }
+{
+    let Some(opening) = read_opening(68, 24, bytes) else {
+        return Ok(None);
+    };
+    let data = after(bytes, opening.place);
+    let msg_length = u64_at(bytes, 8);
+    let credit_request = u32_at(bytes, 20);
+    if data.is_empty() {
+        return Ok(None);
+    }
+    if data.len() as u64 >= msg_length {
+        return Ok(None);
+    }
+    if credit_request == 0 {
+        return Ok(None);
+    }
+    Ok(Some(opening.packet(Form::LongCts {
+        msg_length,
+        send_id: OpId(u32_at(bytes, 16)),
+        credit_request,
+        bytes: Bytes::from_slice(alloc, data)?,
+    })))
+}
+
+fn read_long_read(bytes: &[u8]) -> Option<Packet>
+    ensures { result ≡ if_spelled bytes.now (rtm_at LongReadRow bytes.now) }
+{
+    let opening = read_opening(128, 24, bytes)?;
+    let count = u32_at(bytes, 20) as usize;
+    if count > 4 {
+        return None;
+    }
+    if bytes.len() != opening.place + 24 * count {
+        return None;
+    }
+    let iov = read_iov(count, opening.place, bytes);
+    let msg_length = u64_at(bytes, 8);
+    if !iov_fits(iov.as_slice(), msg_length) {
+        return None;
+    }
+    Some(opening.packet(Form::LongRead {
+        msg_length,
+        send_id: OpId(u32_at(bytes, 16)),
+        iov,
+    }))
+}
+
+fn read_runt(alloc: Global, bytes: &[u8]) -> Result<Option<Packet>, NoMemory>
+    ensures { IfOk result (λ r. r ≡ if_spelled bytes.now (rtm_at RuntRow bytes.now)) }
+{
+    let Some(opening) = read_opening(192, 40, bytes) else {
+        return Ok(None);
+    };
+    let count = u32_at(bytes, 20) as usize;
+    if count > 4 {
+        return Ok(None);
+    }
+    let place = opening.place + 24 * count;
+    if bytes.len() <= place {
+        return Ok(None);
+    }
+    let data = after(bytes, place);
+    let iov = read_iov(count, opening.place, bytes);
+    let msg_length = u64_at(bytes, 8);
+    if !iov_fits(iov.as_slice(), msg_length) {
+        return Ok(None);
+    }
+    let runt_length = u64_at(bytes, 24);
+    let offset = u64_at(bytes, 32);
+    if !ends_by(offset, data, runt_length) {
+        return Ok(None);
+    }
+    if runt_length >= msg_length {
+        return Ok(None);
+    }
+    Ok(Some(opening.packet(Form::Runt {
+        msg_length,
+        send_id: OpId(u32_at(bytes, 16)),
+        iov,
+        runt_length,
+        offset,
+        bytes: Bytes::from_slice(alloc, data)?,
+    })))
+}
