@@ -7,6 +7,8 @@ mod entry;
 mod push;
 mod report;
 mod shown;
+#[cfg(test)]
+mod tests;
 mod words;
 
 pub use report::text;
