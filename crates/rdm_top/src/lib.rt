@@ -1,0 +1,10 @@
+//! Plays a script that comes from a source, and gives its report to a sink.
+#![tactic(auto)]
+
+mod reading;
+mod status;
+mod top;
+mod writing;
+
+pub use status::Status;
+pub use top::job;
