@@ -3,6 +3,8 @@
 
 mod reading;
 mod status;
+#[cfg(test)]
+mod tests;
 mod top;
 mod writing;
 
