@@ -160,16 +160,15 @@ form-few (Runt size send iov runt offset bytes) h =
     iov-few iov size d.0
 
 -- a packet that fits opens a message by a form that fits
-pub fits-form : (number : MsgNo) (tag : Option ℕ) (opt : Opt) (form : Form) → fits (Rtm number tag opt form) ≡ true → form_fits form ≡ true
-unfolding fits packet_fits
-fits-form number tag opt form h = let a = and_parts _ _ h in let b = and_parts _ _ a.0 in b.1
+pub fits-form : (number : MsgNo) (tag : Option ℕ) (opt : Opt) (form : Form) → packet_fits (Rtm number tag opt form) ≡ true → form_fits form ≡ true
+unfolding packet_fits
+fits-form number tag opt form h = let b = and_parts _ _ h in b.1
 
 -- a handshake that fits has up to eight words
-pub fits-few : (words : List ℕ) (connid : Connid) → fits (Handshake words connid) ≡ true → length words ≤ 8
-unfolding fits packet_fits
+pub fits-few : (words : List ℕ) (connid : Connid) → packet_fits (Handshake words connid) ≡ true → length words ≤ 8
+unfolding packet_fits
 fits-few words connid h =
-    let a = and_parts _ _ h in
-    let b = and_parts (nat_le 1 (length words)) (nat_le (length words) 8) a.0 in
+    let b = and_parts (nat_le 1 (length words)) (nat_le (length words) 8) h in
     leb-true (length words) 8 b.1
 
 -- the sizes of the parts of packets that open messages

@@ -1,7 +1,7 @@
 //! How many bytes packets have.
 ghost use Rattle.std.specs.Prelude.{◌≡◌, ◌≤◌, ◌<◌, ◌+◌, ◌*◌, ◌^◌, IsTrue, length};
 ghost use Rattle.rdm_hdr.specs.Fields.{fields_bytes};
-ghost use Rattle.rdm_pkt.specs.Grammar.{fits, form_fits, spelling, form_fields, last_fields, tag_fields};
+ghost use Rattle.rdm_pkt.specs.Grammar.{packet_fits, form_fits, spelling, form_fields, last_fields, tag_fields};
 
 use crate::{Form, Packet};
 use rdm_hdr::opt_size;
@@ -10,7 +10,7 @@ impl Packet {
     /// How many bytes the packet has.
     #[tactic(auto, using(crate::proofs::PacketSizes::packet_sizes))]
     pub fn size(&self) -> usize
-        requires { IsTrue (fits self.now) }
+        requires { IsTrue (packet_fits self.now) }
         ensures { result ≡ length (spelling self.now) }
     {
         match self {

@@ -2,7 +2,7 @@
 ghost use Rattle.std.specs.Prelude.{◌≡◌, ◌≤◌, ◌<◌, ◌+◌, ◌*◌, ◌++◌, IsTrue, length, List, map, flat_map, OnOk, OnErr, ℕ, is_some, if◌then◌else◌};
 ghost use Rattle.std.specs.Vec.{vec_len, vec_capacity};
 ghost use Rattle.rdm_hdr.specs.Fields.{Number, Data, fields_bytes};
-ghost use Rattle.rdm_pkt.specs.Grammar.{fits, form_fits, spelling, head_fields, form_fields, entry_fields, last_fields, tag_fields};
+ghost use Rattle.rdm_pkt.specs.Grammar.{packet_fits, form_fits, spelling, head_fields, form_fields, entry_fields, last_fields, tag_fields};
 ghost use Rattle.rdm_hdr.specs.Headers as Headers;
 ghost use Rattle.rdm_pkt.specs.Grammar as Grammar;
 
@@ -19,7 +19,7 @@ pub const CONNID_FLAG: u16 = 0x8000;
 impl Packet {
     /// Appends the packet's one spelling.
     pub fn write(&self, to: &mut Vec<u8>) -> Result<(), NoMemory>
-        requires { IsTrue (fits self.now) }
+        requires { IsTrue (packet_fits self.now) }
         ensures ok { OnOk result (to.new.items ≡ to.old.items ++ spelling self.now) }
         ensures err { OnErr result (to.new.items ≡ to.old.items) }
     {
@@ -31,7 +31,7 @@ impl Packet {
     /// Appends the packet, for which room is reserved.
     #[tactic(auto, using(crate::proofs::PacketBytes::packet_parts))]
     fn append(&self, to: &mut Vec<u8>)
-        requires fits { IsTrue (fits self.now) }
+        requires fits { IsTrue (packet_fits self.now) }
         requires room { vec_len to.old + length (spelling self.now) ≤ vec_capacity to.old }
         ensures { to.new.items ≡ to.old.items ++ spelling self.now }
     {
