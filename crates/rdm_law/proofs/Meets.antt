@@ -38,20 +38,12 @@ use Rattle.rdm_model.specs.Standing.{goes, drops_between, Standing}
 use Rattle.rdm_model.proofs.Members.{same_life-refl}
 use Rattle.rdm_law.proofs.Lives.{TurnedAt, is_connid-true}
 use Rattle.rdm_law.proofs.SmallBytes.{all_member}
-use Rattle.rdm_law.proofs.Pushed.{of_life_newest}
+use Rattle.rdm_law.proofs.Handled.{life_newest}
 use Rattle.rdm_law.proofs.Wired.{Played, played_before, took_to, bears_item}
 use Rattle.rdm_law.proofs.Waiting.{waits_in_history}
 use Rattle.rdm_law.proofs.Still.{quiet, open_rank, not_worn}
 use Rattle.rdm_law.proofs.Datagrams.{turned_carried}
 use Rattle.rdm_law.proofs.Delivered.{HandledIt, handled_cases, it_was, local_at, deed_stays, dropped_between, same_port}
-
--- the newest deed of a life
-newest : (job : Job) (l : Life) (e : Entry) (before : List Entry) → e.port.0 ≡ l.port.0 → open_life (port_deeds job l.port.0 before) ≡ Some l.connid
-    → life_deeds job (e ∷ before) l ≡ deed_of (rank_of job l.port.0).ops e.act ∷ life_deeds job before l
-unfolding life_deeds port_deeds log_of
-newest job l e before p o =
-    ap (λ (b : Bool). of_life l.connid (deeds_at job l.port.0 (cond b (e ∷ log_of l.port.0 before) (log_of l.port.0 before)))) (eq-eqb e.port.0 l.port.0 p)
-    ∙ of_life_newest job l.port.0 l.connid e (log_of l.port.0 before) o
 
 -- a datagram that was taken is a deed of the life
 took_deed : (job : Job) (i j : Life) (d : Datagram) (load : Load) (act : Act) (answer : Handled) (what : _) → act ≡ Handle d answer → answer ≡ TookAnswer what → d.body ≡ Between j.connid i.connid load → d.src.0 ≡ j.port.0
@@ -92,7 +84,7 @@ answered job e before i j d load answer a p s t b none h =
           let now : open_life (port_deeds job i.port.0 before) ≡ Some i.connid =
           own_now job i.port.0 (port_deeds job i.port.0 before) i.connid (is_connid-true S.now i.connid (took_to S d j.connid i.connid load k.0 (sym is ∙ h) b)) in
           let deed : deed_of (rank_of job i.port.0).ops e.act ≡ Took j (item_of load) = took_deed job i j d load e.act answer k.0 a is b s in
-          subst (λ (log : List Deed). Member (Took j (item_of load)) log) (sym (newest job i e before p now)) (inl deed))
+          subst (λ (log : List Deed). Member (Took j (item_of load)) log) (sym (life_newest job i e before p now)) (inl deed))
       | inr k ↦ (let act : e.act ≡ Handle d (Dropped k.0) = a ∙ ap (Handle d) (h ∙ k.1) in let x = dropped_between i j d load e.act k.0 act s t b in absurd (cc))
     ]
 

@@ -30,6 +30,7 @@ use Rattle.rdm_model.proofs.Opens.{Opening, opening_is}
 use Rattle.rdm_model.proofs.Pushes.{pushed_of, underway}
 use Rattle.rdm_model.proofs.Served.{done_bytes}
 use Rattle.rdm_model.proofs.Sending.{DataPush}
+use Rattle.rdm_law.proofs.Pushing.{piece_packet}
 use Rattle.rdm_law.proofs.Lives.{TurnedAt}
 use Rattle.rdm_law.proofs.Wired.{Played, own_life}
 use Rattle.rdm_law.proofs.Known.{account, sends_of, Known}
@@ -48,16 +49,6 @@ option_member : (o : Option Piece) (xs : List Piece) (x : Piece) → Member x (c
 option_member None xs x h = inr h
 option_member (Some y) xs x (inl e) = inl (ap Some e)
 option_member (Some y) xs x (inr h) = inr h
-
--- a piece of packets is of one of them
-pub piece_packet : (ps : List Packet) (x : Piece) → Member x (pieces_in ps) → (p : Packet) × Member p ps × (packet_piece p ≡ Some x)
-unfolding pieces_in
-piece_packet [] x h = elim h [ ]
-piece_packet (p ∷ ps) x h =
-    elim (option_member (packet_piece p) (filter_map packet_piece ps) x h) [
-      | inl a ↦ (p, inl refl, a)
-      | inr a ↦ (let r = piece_packet ps x a in (r.0, inr r.1, r.2))
-    ]
 
 -- the piece of an opening
 rtm_piece : (p : Packet) (s : Sent) (form : Form) (x : Piece) → p ≡ Rtm s.message.no s.message.tag s.message.opt form → packet_piece p ≡ Some x → piece_of form ≡ Some x
