@@ -186,9 +186,10 @@ matched_complete job history i j m n taken s p in_sends in_pairs life number =
     let f = finished job history i j p s ms taken s.kind refl in
     let ended = filled_ended own_i.limits.first (account job history i).head log_i p pair f.filled in
     let kept = subst (λ (l : Life). is_forgotten log_j l ≡ false) (sym t.1) (stands job history i j m) in
-    let done = send_done own_j log_j s (own_life job history m.played j) t.0 f.over kept in
-    (subst (λ (es : List RecvEnd). Member (Filled p) es) (recv_ends_same own_i.limits.first (account job history i).head (sent_to job history i).head log_i agree_i.heads) ended,
-    subst (λ (cs : List Completion). Member (SendCompletion (record { 0 = s.number }) false) cs) (completions_same own_j (account job history j) (sent_to job history j) log_j agree_j) done)
+    let done = send_done own_j log_j s (own_life job history m.played j) t.0 f.over kept in (
+      subst (λ (es : List RecvEnd). Member (Filled p) es) (recv_ends_same own_i.limits.first (account job history i).head (sent_to job history i).head log_i agree_i.heads) ended,
+      subst (λ (cs : List Completion). Member (SendCompletion (record { 0 = s.number }) false) cs) (completions_same own_j (account job history j) (sent_to job history j) log_j agree_j) done,
+    )
 
 -- either holds, both ways
 or_turned : (a b : Bool) → (a || b) ≡ (b || a)

@@ -61,7 +61,7 @@ filled_from job history i j p s m all =
     let log = life_deeds job history i in
     let size : (heads p.message.life p.message.no.0).length ≡ length s.message.bytes = ap (λ (h : Head). h.length) m.head_is ∙ head_length job.limits s.message s.kind in
     let here : (place : ℕ) → place < (heads p.message.life p.message.no.0).length → is_some (byte_at (carried_pieces first heads log p.message.life p.message.no.0) place) ≡ true = λ place lt.
-      subst (λ (l : Life). is_some (byte_at (carried_pieces first heads log l p.message.no.0) place) ≡ true) (sym m.life_is) (all place (omega arith)) in
+    subst (λ (l : Life). is_some (byte_at (carried_pieces first heads log l p.message.no.0) place) ≡ true) (sym m.life_is) (all place (omega arith)) in
     and_from (is_pair (pairs_of job history i) p.recv.id.0 p.message.life p.message.no.0) _ (member_is_pair (pairs_of job history i) p m.member)
     (each_below_from (λ place. is_some (byte_at (carried_pieces first heads log p.message.life p.message.no.0) place)) (heads p.message.life p.message.no.0).length here)
 

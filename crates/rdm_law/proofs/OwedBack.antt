@@ -58,7 +58,7 @@ pair_owed own ms d before p x m h =
     let all = in_flat_map (pair_replies own ms.head d before) p (pairs own.limits.first ms.head (d ∷ before)) r m mine in
     member-append_right r (owed own ms before) (replies_by own ms.head (sends own ms before) d before)
     (member-append_left r (shakes ++ flat_map (pair_replies own ms.head d before) (pairs own.limits.first ms.head (d ∷ before))) (given_by (sends own ms before) d)
-      (member-append_right r shakes (flat_map (pair_replies own ms.head d before) (pairs own.limits.first ms.head (d ∷ before))) all))
+    (member-append_right r shakes (flat_map (pair_replies own ms.head d before) (pairs own.limits.first ms.head (d ∷ before))) all))
 
 -- a pair that was there before
 pair_before : (first : ℕ) (heads : Heads) (d : Deed) (before : List Deed) (p : Pair) → Member p (pairs first heads (d ∷ before))
@@ -110,7 +110,7 @@ end_owed own ms [] p x m f h = elim m [ ]
 end_owed own ms (d ∷ before) p x m f h =
     elim (cases_Bool (is_filled own.limits.first ms.head before p)) [
       | inl was ↦ owed_earlier own ms d before (reply p.message.life x)
-        (end_owed own ms before p x (pair_before own.limits.first ms.head d before p m (filled_pair own.limits.first ms.head before p was)) was h)
+          (end_owed own ms before p x (pair_before own.limits.first ms.head d before p m (filled_pair own.limits.first ms.head before p was)) was h)
       | inr new ↦ pair_owed own ms d before p x m (end_new own ms.head d before p x f new h)
     ]
 
