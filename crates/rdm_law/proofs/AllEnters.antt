@@ -47,18 +47,22 @@ use Rattle.rdm_law.proofs.EndsKnown.{end_taken}
 use Rattle.rdm_law.proofs.Turned.{turn_member}
 use Rattle.rdm_law.proofs.Still.{settled_still, at_rest}
 use Rattle.rdm_law.proofs.TurnsPushed.{packet_push, pushed_turned}
+use Rattle.rdm_law.proofs.WholePushed.{none_left, get_none}
 use Rattle.rdm_law.proofs.Meets.{Meet, delivered}
 
+-- a first value stays
 still_some : (x y : Option Head) → is_some x ≡ true → is_some (or_else x y) ≡ true
 unfolding or_else
 still_some None y h = cc
 still_some (Some a) y h = refl
 
+-- a second value is there
 now_some : (x y : Option Head) → is_some y ≡ true → is_some (or_else x y) ≡ true
 unfolding or_else
 now_some None y h = h
 now_some (Some a) y h = refl
 
+-- a taken opening tells a head
 took_head : (before : List Deed) (d : Deed) (from : Life) (number : MsgNo) (tag : Option ℕ) (opt : Opt) (form : Form) → d ≡ Took from (Spelled (Rtm number tag opt form))
     → is_some (or_else (heard_head before from number.0) (head_by from number.0 d)) ≡ true
 unfolding head_by
@@ -74,10 +78,12 @@ took_heard [] from number tag opt form m = elim m [ ]
 took_heard (d ∷ before) from number tag opt form (inl a) = took_head before d from number tag opt form a
 took_heard (d ∷ before) from number tag opt form (inr a) = still_some (heard_head before from number.0) (head_by from number.0 d) (took_heard before from number tag opt form a)
 
+-- the only element stands first
 one_at : (s t : Sent) (k : ℕ) → slice_get (s ∷ []) k ≡ Some t → (k ≡ 0) × (s ≡ t)
 one_at s t zero h = (refl, cc)
 one_at s t (suc k) h = cc
 
+-- one send, to its own life
 to_one : (s t : Sent) (to : Life) (k : ℕ) → slice_get (sends_to (s ∷ []) to) k ≡ Some t → (k ≡ 0) × (s ≡ t) × (s.to ≡ to)
 unfolding sends_to
 to_one s t to k h =
@@ -86,6 +92,7 @@ to_one s t to k h =
       | false ↦ λ is g. cc
     ]) refl h
 
+-- a new send has the next number to its life
 number_new : (own : Own) (ms : Messages) (d : Deed) (before : List Deed) (to : Life) (k : ℕ) (t s : Sent) → NewSent own ms before (sends own ms before) d s
     → (slice_get (sends_to (sends own ms before) to) k ≡ Some t → t.message.no.0 ≡ own.limits.first + k)
     → slice_get (sends_to (sends own ms before ++ s ∷ []) to) k ≡ Some t → t.message.no.0 ≡ own.limits.first + k
@@ -114,14 +121,17 @@ number_at own ms (d ∷ before) to k t h =
       | inr a ↦ number_new own ms d before to k t a.0 a.1 (λ h. number_at own ms before to k t h) (subst (λ (xs : List Sent). slice_get (sends_to xs to) k ≡ Some t) a.2 h)
     ]
 
+-- the first of the openings was pushed
 first_both : (ops pushed later : List Packet) → ops ≡ pushed ++ later → 0 < length pushed → (p : Packet) × Member p pushed × Member p ops
 first_both ops [] later e h = absurd (omega arith)
 first_both ops (p ∷ ps) later e h = (p, inl refl, subst (λ (xs : List Packet). Member p xs) (sym e) (inl refl))
 
+-- and so it is where all were
 all_both : (ops pushed datas : List Packet) → pushed ≡ ops ++ datas → 0 < length ops → (p : Packet) × Member p pushed × Member p ops
 all_both [] pushed datas e h = absurd (omega arith)
 all_both (p ∷ ops) pushed datas e h = (p, subst (λ (xs : List Packet). Member p xs) (sym e) (inl refl), inl refl)
 
+-- a send of which something was pushed has an opening pushed
 under_both : (own : Own) (t : Sent) (pushed : List Packet) → Underway own t pushed → 0 < length pushed → (p : Packet) × Member p pushed × Member p (openings own.limits t.message t.kind)
 under_both own t pushed u h =
     elim u.how [
@@ -129,11 +139,13 @@ under_both own t pushed u h =
       | inr a ↦ all_both (openings own.limits t.message t.kind) pushed a.0 a.1 (some_opening own.limits t.message t.kind)
     ]
 
+-- a pushed message has a packet
 pushed_some : (t : Sent) (pushed : List Packet) → is_pushed t pushed ≡ true → 0 < length pushed
 unfolding is_pushed
 pushed_some t [] h = cc
 pushed_some t (p ∷ ps) h = omega arith
 
+-- a send that is over has an opening pushed, or its end was taken
 over_pushed : (own : Own) (ms : Messages) (log : List Deed) (t : Sent) (pushed : List Packet) → Underway own t pushed → is_forgotten log t.to ≡ false → is_over log pushed t ≡ true
     → ((p : Packet) × Member p pushed × Member p (openings own.limits t.message t.kind)) ⊎ ((is_read t.kind ≡ true) × (list_any (ends_send t.to t.number) log ≡ true))
 unfolding is_over
@@ -147,21 +159,12 @@ over_pushed own ms log t pushed u f h =
           ]) refl a
     ]
 
-none_left : {A : Type 0} (x y : Option A) → or_else x y ≡ None → x ≡ None
-unfolding or_else
-none_left None y h = refl
-none_left (Some a) y h = cc
-
-get_none : {A : Type 0} (xs : List A) (k : ℕ) → slice_get xs k ≡ None → length xs ≤ k
-get_none [] k h = omega arith
-get_none (x ∷ xs) zero h = cc
-get_none (x ∷ xs) (suc k) h = let e = get_none xs k h in omega arith
-
+-- a send with nothing next has an opening pushed
 none_pushed' : (own : Own) (log : List Deed) (t : Sent) (pushed : List Packet) → Underway own t pushed → next_packet own log t pushed ≡ None
     → (p : Packet) × Member p pushed × Member p (openings own.limits t.message t.kind)
 unfolding next_packet
 none_pushed' own log t pushed u h =
-    let le = get_none (openings own.limits t.message t.kind) (length pushed) (none_left _ _ h) in
+    let le = get_none (openings own.limits t.message t.kind) (length pushed) (none_left _ _ h).0 in
     let one = some_opening own.limits t.message t.kind in
     under_both own t pushed u (omega arith)
 
@@ -172,9 +175,11 @@ pub rest_pushed : (own : Own) (ms : Messages) (log : List Deed) (t : Sent) → M
 rest_pushed own ms log t m f (inl over) = over_pushed own ms log t (pushed_of own ms log t.number) (underway own ms log t m) f over
 rest_pushed own ms log t m f (inr none) = inl (none_pushed' own log t (pushed_of own ms log t.number) (underway own ms log t m) none)
 
+-- an opening as an item
 rtm_item : (p : Packet) (t : Sent) (form : Form) → p ≡ Rtm t.message.no t.message.tag t.message.opt form → ◌≡◌ {A = Item} (Spelled p) (Spelled (Rtm t.message.no t.message.tag t.message.opt form))
 rtm_item p t form e = ap Spelled e
 
+-- a packet of a send goes to its life
 pub sends_going : (t : Sent) (p : Packet) (i : Life) → t.to ≡ i → turn_going (Some (Sends t p)) ≡ Some (Goes i (Spelled p))
 unfolding turn_going
 sends_going t p i e = ap (λ (l : Life). Some (Goes l (Spelled p))) e
@@ -198,6 +203,7 @@ stands job history i j m =
     not_forgotten (own_of job j) (life_deeds job history j) i (own_life job history m.played j)
     (ap (λ (o : Option Life). is_other o i) m.standing.current_i ∙ ap not (same_life-refl i))
 
+-- a message with a head was heard of
 pub heard_from : (log : List Deed) (source : Life) (n : ℕ) (h : Head) → heard_head log source n ≡ Some h → is_heard log source n ≡ true
 unfolding is_heard
 heard_from log source n h e = ap (λ (o : Option Head). is_some o) e
@@ -231,12 +237,14 @@ each_heard job history i j t m none mem to =
           heard_from (life_deeds job history i) j t.message.no.0 h.0 there)
     ]
 
+-- a list has an element at each place below its length
 slice_at : {A : Type 0} (xs : List A) (k : ℕ) → k < length xs → (x : A) × (slice_get xs k ≡ Some x)
 slice_at [] k h = absurd (omega arith)
 slice_at (x ∷ xs) zero h = (x, refl)
 slice_at (x ∷ xs) (suc k) h = slice_at xs k (omega arith)
 
-to_parts : (sents : List Sent) (i : Life) (t : Sent) → Member t (sends_to sents i) → Member t sents × (t.to ≡ i)
+-- a send to a life is one of the sends
+pub to_parts : (sents : List Sent) (i : Life) (t : Sent) → Member t (sends_to sents i) → Member t sents × (t.to ≡ i)
 unfolding sends_to
 to_parts sents i t m = let r = member-filter (λ (s : Sent). same_life s.to i) t sents m in (r.0, same_life-true t.to i r.1)
 

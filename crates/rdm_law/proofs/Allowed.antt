@@ -37,6 +37,7 @@ use Rattle.rdm_law.proofs.Turned.{own_sends}
 abbrev pub opened : Own → Sent → ℕ
 opened own s = piece_bytes (pieces_in (openings own.limits s.message s.kind))
 
+-- the openings have no more than the message
 opened_within : (own : Own) (s : Sent) → opened own s ≤ length s.message.bytes
 opened_within own s =
     let r = row_within s.message.bytes 0 (pieces_in (openings own.limits s.message s.kind)) (openings_in_row own.limits s.message s.kind) (omega arith) in
@@ -62,6 +63,7 @@ pub record LiveLong (own : Own) (ms : Messages) (log : List Deed) (to : Life) (n
   pub to_is : t.to ≡ to
   pub number_is : t.number ≡ n
 
+-- the live send of a number
 live_named : (s : Scene) (to : Life) (n : ℕ) (t : Sent) → live_send s to n ≡ Some t → LiveLong s.own s.ms s.log to n t
 unfolding live_send
 live_named s to n t h =
@@ -69,15 +71,18 @@ live_named s to n t h =
     let p = and_parts (same_life t.to to) (t.number == n) f.1 in
     record { member = (live_parts s.own s.ms s.log t f.0).0; to_is = same_life-true t.to to p.0; number_is = eqb-true t.number n p.1 }
 
+-- a send that takes grants is there
 some_send : (o : Option Sent) → not (is_long_send o) ≡ false → (t : Sent) × (o ≡ Some t)
 unfolding is_long_send
 some_send None h = cc
 some_send (Some t) h = (t, refl)
 
+-- a right grant is within what is not granted
 grant_fits : (s : Scene) (recv size : ℕ) (t : Sent) → is_wrong_grant s recv size (Some t) ≡ false → size ≤ length t.message.bytes - allowed_bytes s t
 unfolding is_wrong_grant
 grant_fits s recv size t h = ltb-false (length t.message.bytes - allowed_bytes s t) size (or_parts _ _ h).0
 
+-- what is allowed: the openings and the grants
 allowed_is : (s : Scene) (t : Sent) → allowed_bytes s t ≡ opened s.own t + grant_bytes (grants s.log t.to t.number)
 unfolding allowed_bytes
 allowed_is s t = refl
@@ -96,14 +101,17 @@ taken_grant s from to send recv size connid i =
     ap (λ (l : Life). grant_bytes (grants s.log l t.0.number)) l.to_is ∙ ap (λ (n : ℕ). grant_bytes (grants s.log from n)) l.number_is in
     (t.0, l, omega arith)
 
+-- no grants, no bytes
 grants_none : (log : List Deed) (to : Life) (n : ℕ) → grants log to n ≡ [] → grant_bytes (grants log to n) ≡ 0
 unfolding grant_bytes
 grants_none log to n e = ap (λ (gs : List Grant). grant_bytes gs) e
 
+-- a deed adds its grant
 grants_more : (d : Deed) (before : List Deed) (to : Life) (n : ℕ) → grant_bytes (grants (d ∷ before) to n) ≡ grant_bytes (grants before to n) + grant_bytes (grants_by to n d)
 unfolding grants grant_bytes
 grants_more d before to n = sum_by-append (λ (g : Grant). g.size) (grants before to n) (grants_by to n d)
 
+-- a deed without a grant adds none
 grants_empty : (d : Deed) (before : List Deed) (to : Life) (n : ℕ) → grants_by to n d ≡ [] → grants (d ∷ before) to n ≡ grants before to n
 unfolding grants
 grants_empty d before to n e = ap (λ (gs : List Grant). grants before to n ++ gs) e ∙ append-nil (grants before to n)
@@ -112,6 +120,7 @@ grants_empty d before to n e = ap (λ (gs : List Grant). grants before to n ++ g
 abbrev Fits : Own → List Deed → Life → ℕ → Type 0
 Fits own log to n = (grants log to n ≡ []) ⊎ Granted own log to n
 
+-- a deed without a grant changes nothing
 fits_same : (own : Own) (d : Deed) (before : List Deed) (to : Life) (n : ℕ) → grants_by to n d ≡ [] → Fits own before to n → Fits own (d ∷ before) to n
 fits_same own d before to n e (inl h) = inl (grants_empty d before to n e ∙ h)
 fits_same own d before to n e (inr g) =
@@ -132,11 +141,13 @@ fits_live own before to n t l (inr g) =
     let same : g.sent ≡ t = sends_one own (heard_by own.limits.first before) before g.sent t g.member l.member (g.number_is ∙ sym l.number_is) in
     subst (λ (x : Sent). opened own x + grant_bytes (grants before to n) ≤ length x.message.bytes) same g.within
 
+-- a grant adds no more than its size
 grants_of : (to : Life) (n : ℕ) (send recv : OpId) (size : ℕ) (connid : Connid) → grant_bytes (grants_by to n (Took to (Spelled (Cts send recv size connid)))) ≤ size
 unfolding grants_by grant_bytes
 grants_of to n send recv size connid =
     elim (same_life to to && send.0 == n) as (λ b. sum_by (λ (g : Grant). g.size) (cond b (record { recv = recv.0; size = size } ∷ []) []) ≤ size) [ true ↦ omega arith | false ↦ omega arith ]
 
+-- a grant that is taken fits
 fits_taken : (own : Own) (before : List Deed) (to : Life) (n : ℕ) (send recv : OpId) (size : ℕ) (connid : Connid)
     → LifeStep own before (Took to (Spelled (Cts send recv size connid))) → send.0 ≡ n → Fits own before to n → Fits own (Took to (Spelled (Cts send recv size connid)) ∷ before) to n
 fits_taken own before to n send recv size connid step e f =
@@ -169,6 +180,7 @@ by_cases to n (Took from (Spelled (Cts s recv size connid))) =
     ]) refl
 by_cases to n _ = inl refl
 
+-- what was granted of a send fits after any deeds
 grants_fit : (own : Own) (log : List Deed) (to : Life) (n : ℕ) → LifeLocal own log → Fits own log to n
 unfolding grants
 grants_fit own [] to n local = inl refl

@@ -40,22 +40,26 @@ pub record PairOf (first : ℕ) (heads : Heads) (log : List Deed) (from : Life) 
   pub recv_is : pair.recv.id.0 ≡ recv
   pub life_is : pair.message.life ≡ from
 
+-- a receive of that shape is there
 some_pair : (s : Scene) (test : Shape → Bool) (o : Option Pair) → not (has_shape s test o) ≡ false → (p : Pair) × (o ≡ Some p)
 unfolding has_shape
 some_pair s test None h = cc
 some_pair s test (Some p) h = (p, refl)
 
+-- the pair of a live receive
 live_of : (s : Scene) (from : Life) (recv : ℕ) (test : Shape → Bool) → not (has_shape s test (live_pair s from recv)) ≡ false → PairOf s.own.limits.first s.ms.head s.log from recv
 live_of s from recv test h =
     let p = some_pair s test (live_pair s from recv) h in
     let l = live_pair_parts s from recv p.0 p.1 in
     record { pair = p.0; member = l.member; recv_is = l.recv_is; life_is = l.life_is }
 
+-- granted bytes that are taken have a pair
 data_pair : (s : Scene) (from : Life) (to : Connid) (recv : OpId) (offset : ℕ) (connid : Connid) (bytes : List ℕ) → IsTaken s from to (Spelled (CtsData recv offset connid bytes))
     → PairOf s.own.limits.first s.ms.head s.log from recv.0
 unfolding is_no_op
 data_pair s from to recv offset connid bytes i = live_of s from recv.0 is_long_shape i.has_op
 
+-- and so have read bytes
 given_pair : (s : Scene) (from : Life) (to : Connid) (g : ReadData) → IsTaken s from to (Gives g) → PairOf s.own.limits.first s.ms.head s.log from g.recv_id.0
 unfolding is_no_op
 given_pair s from to g i = live_of s from g.recv_id.0 is_read_shape i.has_op
@@ -66,6 +70,7 @@ BringsFor (Spelled (CtsData recv offset connid bytes)) n x = (recv.0 ≡ n) × (
 BringsFor (Gives g) n x = (g.recv_id.0 ≡ n) × (x ≡ record { offset = g.at; bytes = g.bytes })
 BringsFor _ n x = ⊥
 
+-- what a life takes for a receive has a pair
 step_pair : (own : Own) (before : List Deed) (from : Life) (item : Item) (n : ℕ) (x : Piece) → LifeStep own before (Took from item) → BringsFor item n x
     → PairOf own.limits.first (heard_by own.limits.first before).head before from n
 step_pair own before from (Spelled (CtsData recv offset connid bytes)) n x step b =
@@ -78,6 +83,7 @@ step_pair own before from (Gives g) n x step b =
     subst P b.0 (given_pair s from own.life.connid g (taken_parts s from own.life.connid (Gives g) step.2))
 step_pair own before from _ n x step b = elim b [ ]
 
+-- and brings its piece for the message of the pair
 brings_piece : (ps : List Pair) (from : Life) (item : Item) (n m : ℕ) (x : Piece) → BringsFor item n x → is_pair ps n from m ≡ true → piece_by ps from m item ≡ Some x
 unfolding piece_by
 brings_piece ps from (Spelled (CtsData recv offset connid bytes)) n m x b h =
@@ -88,10 +94,12 @@ brings_piece ps from (Gives g) n m x b h =
     rw e (ap Some (sym b.1))
 brings_piece ps from _ n m x b h = elim b [ ]
 
+-- a deed that takes bytes carries them
 carried_now : (ps : List Pair) (from : Life) (item : Item) (m : ℕ) (x : Piece) (d : Deed) → d ≡ Took from item → piece_by ps from m item ≡ Some x → carried_by ps from m d ≡ Some x
 unfolding carried_by
 carried_now ps from item m x d e h = rw e (rw (same_life-refl from) h)
 
+-- and they are among the pieces
 carried_last : (first : ℕ) (heads : Heads) (d : Deed) (before : List Deed) (from : Life) (m : ℕ) (x : Piece) → carried_by (pairs first heads before) from m d ≡ Some x
     → Member x (carried_pieces first heads (d ∷ before) from m)
 unfolding carried_pieces
@@ -99,6 +107,7 @@ carried_last first heads d before from m x h =
     member-append_right x (carried_pieces first heads before from m) (option_to_list (carried_by (pairs first heads before) from m d))
     (subst (λ (o : Option Piece). Member x (option_to_list o)) (sym h) (inl refl))
 
+-- pieces that came stay
 pub carried_stays : (first : ℕ) (heads : Heads) (d : Deed) (before : List Deed) (from : Life) (m : ℕ) (x : Piece) → Member x (carried_pieces first heads before from m)
     → Member x (carried_pieces first heads (d ∷ before) from m)
 unfolding carried_pieces
@@ -111,14 +120,17 @@ pub record CameFor (first : ℕ) (heads : Heads) (log : List Deed) (from : Life)
   pub recv_is : pair.recv.id.0 ≡ recv
   pub carried : Member x (carried_pieces first heads log from pair.message.no.0)
 
+-- so do those for a receive
 came_later : (first : ℕ) (heads : Heads) (d : Deed) (before : List Deed) (from : Life) (recv : ℕ) (x : Piece) → CameFor first heads before from recv x → CameFor first heads (d ∷ before) from recv x
 came_later first heads d before from recv x c =
     record { pair = c.pair; member = pair_still first heads d before c.pair c.member; recv_is = c.recv_is; carried = carried_stays first heads d before from c.pair.message.no.0 x c.carried }
 
+-- an account that agrees later agreed before
 heads_earlier : (first : ℕ) (heads : Heads) (d : Deed) (before : List Deed) → HeadsAgree (heard_by first (d ∷ before)).head heads (d ∷ before)
     → HeadsAgree (heard_by first before).head heads before
 heads_earlier first heads d before a source n h e = (agree_grows first d before).heads source n h e ∙ a source n h (heard_still d before source n h e)
 
+-- bytes that were taken for a receive are among the pieces of its message
 pub came_for : (own : Own) (heads : Heads) (log : List Deed) (from : Life) (item : Item) (n : ℕ) (x : Piece) → LifeLocal own log
     → HeadsAgree (heard_by own.limits.first log).head heads log → Member (Took from item) log → BringsFor item n x → CameFor own.limits.first heads log from n x
 came_for own heads [] from item n x local a m b = elim m [ ]
@@ -139,6 +151,7 @@ came_for own heads (d ∷ before) from item n x local a (inl e) b =
           (carried_now (pairs own.limits.first heads before) from item p.pair.message.no.0 x d e (brings_piece (pairs own.limits.first heads before) from item n p.pair.message.no.0 x b is));
     }
 
+-- an opening brings its own piece
 rtm_piece_by : (ps : List Pair) (from : Life) (number : MsgNo) (tag : Option ℕ) (opt : Opt) (form : Form) → piece_by ps from number.0 (Spelled (Rtm number tag opt form)) ≡ piece_of form
 unfolding piece_by
 rtm_piece_by ps from number tag opt form = rw (eq-eqb number.0 number.0 refl) refl

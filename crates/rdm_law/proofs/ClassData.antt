@@ -88,6 +88,7 @@ live_for job history to from p recv x item d ports port_log a m r l brings k som
     ∙ ap (λ (n : ℕ). live_pair (arriving_scene job history to ports port_log) p.message.life n) (sym r)
     ∙ live_pair_from (arriving_scene job history to ports port_log) p m live
 
+-- the shape of a pair's message passes the test that its protocol does
 shape_at : (job : Job) (history : List Entry) (to : Life) (ports : ℕ) (port_log : List Deed) (test : Shape → Bool) (p : Pair) (m : Message) (kind : Kind) (o : Option Pair) → o ≡ Some p
     → (account job history to).head p.message.life p.message.no.0 ≡ message_head job.limits m kind → test (shape_by job.limits m kind) ≡ true
     → has_shape (arriving_scene job history to ports port_log) test o ≡ true
@@ -95,10 +96,12 @@ unfolding has_shape
 shape_at job history to ports port_log test p m kind o e h t =
     ap (has_shape (arriving_scene job history to ports port_log) test) e ∙ ap (λ (y : Head). test y.shape) h ∙ ap test (head_shape job.limits m kind) ∙ t
 
+-- a granted message is long
 long_shape : (limits : EpLimits) (m : Message) (kind : Kind) → kind ≡ LongCts → is_long_shape (shape_by limits m kind) ≡ true
 unfolding is_long_shape shape_by
 long_shape limits m kind e = rw e refl
 
+-- a read message is read
 read_shape : (limits : EpLimits) (m : Message) (kind : Kind) → is_read kind ≡ true → is_read_shape (shape_by limits m kind) ≡ true
 unfolding is_read_shape shape_by is_read
 read_shape limits m LongRead h = refl

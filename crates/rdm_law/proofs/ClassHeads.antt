@@ -33,16 +33,19 @@ use Rattle.rdm_law.proofs.Arrives.{Arrives, arriving_scene}
 use Rattle.rdm_law.proofs.Fresh.{taken_before}
 use Rattle.rdm_law.proofs.ClassSources.{known_shake}
 
+-- an option is the same as itself
 same_option-refl : (o : Option ℕ) → same_option o o ≡ true
 unfolding same_option
 same_option-refl None = refl
 same_option-refl (Some n) = eq-eqb n n refl
 
+-- and so is a read list
 same_iov-refl : (es : List IovEntry) → same_iov es es ≡ true
 unfolding same_iov
 same_iov-refl [] = refl
 same_iov-refl (e ∷ es) = and_from _ _ (and_from _ _ (and_from (e.offset == e.offset) (e.length == e.length) (eq-eqb e.offset e.offset refl) (eq-eqb e.length e.length refl)) (eq-eqb e.key e.key refl)) (same_iov-refl es)
 
+-- and a shape
 same_shape-refl : (s : Shape) → same_shape s s ≡ true
 unfolding same_shape
 same_shape-refl Eager = refl
@@ -80,6 +83,7 @@ rtm_agrees job history to from number tag opt form d a ports port_log =
     and_left (is_other_head (heard_head (life_deeds job history to) from number.0) (head_of tag opt form)) (not (is_received (arriving_scene job history to ports port_log) from number.0))
     (head_again job history to from number tag opt form d a (heard_head (life_deeds job history to) from number.0) refl)
 
+-- what cannot be there is not
 none_word : (o : Option ℕ) → ((w : ℕ) → o ≡ Some w → ⊥) → is_some o ≡ false
 none_word None h = refl
 none_word (Some w) h = absurd (h w refl)

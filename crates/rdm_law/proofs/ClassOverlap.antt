@@ -124,6 +124,7 @@ whole_single (F.LongRead size send iov) limits m (Runt r) w e = cc
 whole_single (F.Medium size offset bytes) limits m (Runt r) w e = elim w [ ]
 whole_single (F.Runt size send iov runt offset bytes) limits m (Runt r) w e = elim w [ ]
 
+-- a packet that tells the head tells the shape
 head_shape_of : (tag : Option ℕ) (opt : Opt) (form : Form) (limits : EpLimits) (m : Message) (kind : Kind) → head_of tag opt form ≡ message_head limits m kind → shape_of form ≡ shape_by limits m kind
 unfolding head_of message_head
 head_shape_of tag opt form limits m kind e = ap (λ (h : Head). h.shape) e
@@ -144,6 +145,7 @@ opens_first job history to from number tag opt form d a w h e =
     taken_before job history to from (Spelled (Rtm number tag opt form)) (Spelled (Rtm t.number t.tag t.opt t.form)) d a was
     (turn_opening (own_of job from) o.known.sent t.number number t.tag tag t.opt opt t.form form was.taken.place a.taken.place (life_deeds job history from) single turned o.turned)
 
+-- a packet that opens a message brings its bytes
 rtm_brings : (ps : List Pair) (from : Life) (number : MsgNo) (tag : Option ℕ) (opt : Opt) (form : Form) → piece_by ps from number.0 (Spelled (Rtm number tag opt form)) ≡ piece_of form
 unfolding piece_by
 rtm_brings ps from number tag opt form = rw (eq-eqb number.0 number.0 refl) refl
@@ -169,6 +171,7 @@ not_repeated job history to from number tag opt (F.Eager bytes) d ports port_log
 not_repeated job history to from number tag opt (F.LongCts size send credits bytes) d ports port_log a h e = absurd (opens_first job history to from number tag opt (F.LongCts size send credits bytes) d a tt h e)
 not_repeated job history to from number tag opt (F.LongRead size send iov) d ports port_log a h e = absurd (opens_first job history to from number tag opt (F.LongRead size send iov) d a tt h e)
 
+-- a packet that opens a message repeats nothing, heard or not
 heard_not_repeated : (job : Job) (history : List Entry) (to from : Life) (number : MsgNo) (tag : Option ℕ) (opt : Opt) (form : Form) (d : Datagram) (ports : ℕ) (port_log : List Deed)
     → Arrives job history to from (Spelled (Rtm number tag opt form)) d → (o : Option Head) → heard_head (life_deeds job history to) from number.0 ≡ o
     → (is_heard (life_deeds job history to) from number.0 && repeats (arriving_scene job history to ports port_log) from number.0 form) ≡ false
@@ -185,11 +188,13 @@ number_from job history to from n k =
     let e = k.number_is in
     le-ltb n job.limits.first (omega arith)
 
+-- granted bytes come for the message of their receive
 pub data_brings : (ps : List Pair) (from : Life) (recv : OpId) (offset : ℕ) (connid : Connid) (bytes : List ℕ) (n : ℕ) → is_pair ps recv.0 from n ≡ true
     → piece_by ps from n (Spelled (CtsData recv offset connid bytes)) ≡ Some (record { offset = offset; bytes = bytes })
 unfolding piece_by
 data_brings ps from recv offset connid bytes n h = rw h refl
 
+-- and so do read bytes
 pub given_brings : (ps : List Pair) (from : Life) (g : ReadData) (n : ℕ) → is_pair ps g.recv_id.0 from n ≡ true → piece_by ps from n (Gives g) ≡ Some (record { offset = g.at; bytes = g.bytes })
 unfolding piece_by
 given_brings ps from g n h = rw h refl

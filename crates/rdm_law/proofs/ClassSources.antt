@@ -58,6 +58,7 @@ sent_names own s p k log h =
       | inr a ↦ rw a.is (eq-eqb own.life.connid.0 own.life.connid.0 refl)
     ]
 
+-- a reply that a deed makes owed names its life
 new_names : (own : Own) (heads : Heads) (sents : List Sent) (d : Deed) (before : List Deed) (r : Reply) → NewReply own heads sents d before r → is_malformed own.life r.item ≡ false
 unfolding is_malformed names_source
 new_names own heads sents d before r (inl n) = rw n.is (not_from_true (own.life.connid.0 == own.life.connid.0) (eq-eqb own.life.connid.0 own.life.connid.0 refl))
@@ -72,6 +73,7 @@ owed_names own ms r [] h = elim h [ ]
 owed_names own ms r (d ∷ before) (inl n) = new_names own ms.head (sends own ms before) d before r n
 owed_names own ms r (d ∷ before) (inr h) = owed_names own ms r before h
 
+-- a packet that names its source is not malformed
 malformed_sent : (l : Life) (p : Packet) (item : Item) → Spelled p ≡ item → names_source l p ≡ true → is_malformed l item ≡ false
 unfolding is_malformed
 malformed_sent l p item e h = rw (← e) (not_from_true (names_source l p) h)
@@ -85,6 +87,7 @@ well_formed job history to from item d t =
       | inr r ↦ ap (λ (x : Item). is_malformed from x) (sym r.is) ∙ owed_names (own_of job from) (heard_by (own_of job from).limits.first (life_deeds job history from)) r.reply (life_deeds job history from) r.owed
     ]
 
+-- a handshake tells the features
 known_now : (peer : Life) (d : Deed) (word : ℕ) → known_by peer d ≡ Some word → (words : List ℕ) × (connid : Connid) × (d ≡ Took peer (Spelled (Handshake words connid)))
 unfolding known_by
 known_now peer (Took from (Spelled (Handshake words connid))) word h =
@@ -105,6 +108,7 @@ known_shake (d ∷ before) peer word h =
       | inr a ↦ (let r = known_now peer d word a.1 in (r.0, r.1, inl r.2))
     ]
 
+-- something was taken from a life of which something is known
 known_taken : (log : List Deed) (peer : Life) (word : ℕ) → known_word log peer ≡ Some word → (item : Item) × Member (Took peer item) log
 known_taken log peer word h = let r = known_shake log peer word h in (Spelled (Handshake r.0 r.1), r.2)
 
@@ -116,10 +120,12 @@ raw_known own before s opt None k e =
     inl (ap (λ (x : Opt). is_some x.raw) e ∙ ap (λ (x : Option ℕ). is_some {T = ℕ × ℕ} (then_some (wants_raw x) (own.life.port.0, own.life.connid.0))) k)
 raw_known own before s opt (Some word) k e = inr (known_taken before s.to word k)
 
+-- a packet of a send has the raw address that its message has
 has_raw_at : (p : Packet) (s : Sent) (form : Form) → p ≡ Rtm s.message.no s.message.tag s.message.opt form → is_some s.message.opt.raw ≡ true → has_raw (Spelled p) ≡ true
 unfolding has_raw
 has_raw_at p s form e h = rw e h
 
+-- the first of a list is in it
 first_member : {A : Type 0} (x : A) (xs ys : List A) → ys ≡ x ∷ xs → Member x ys
 first_member {A} x xs ys e = subst (λ (zs : List A). Member x zs) (sym e) (inl refl)
 
@@ -170,6 +176,7 @@ pushed_knows job history to from item d t =
           subst (λ (l : Life). is_some (current log l.port.0) ≡ true) r.to_is (took_current log r.reply.to s.0 s.1))
     ]
 
+-- what is there is not none
 not_none : (o : Option Life) → is_some o ≡ true → is_none o ≡ false
 not_none None h = cc
 not_none (Some l) h = refl

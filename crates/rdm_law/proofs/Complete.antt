@@ -68,17 +68,13 @@ use Rattle.rdm_model.specs.declared.entry.Act.TheVariants.{Handle}
 use Rattle.rdm_model.specs.declared.answer.Handled.TheVariants.{Dropped}
 use Rattle.rdm_law.proofs.Still.{quiet, not_worn}
 use Rattle.rdm_law.proofs.Meets.{Meet}
-use Rattle.rdm_law.proofs.AllEnters.{all_enter, stands}
+use Rattle.rdm_law.proofs.AllEnters.{all_enter, stands, to_parts, heard_from}
 use Rattle.rdm_law.proofs.PushedLands.{pushed_covers}
-use Rattle.rdm_law.proofs.WholePushed.{IsAtOnce, opened_done, over_whole}
+use Rattle.rdm_law.proofs.WholePushed.{none_left, IsAtOnce, opened_done, over_whole}
 use Rattle.rdm_law.proofs.ReadLands.{Matched, rest_of}
 use Rattle.rdm_law.proofs.CompletesMatched.{Finished, read_finished, pushed_finished, at_once_finished}
 
-none_right : {A : Type 0} (x y : Option A) → or_else x y ≡ None → y ≡ None
-unfolding or_else
-none_right None y h = h
-none_right (Some a) y h = cc
-
+-- no granted bytes are next: there is no grant, or all that is allowed was pushed
 data_none : (own : Own) (s : Sent) (allowed done : ℕ) (gs : List Grant) → data_packet own s allowed done gs ≡ None → (gs ≡ []) ⊎ (allowed ≤ done)
 unfolding data_packet
 data_none own s allowed done [] h = inl refl
@@ -89,6 +85,7 @@ data_none own s allowed done (g ∷ gs) h =
       | false ↦ λ is k. inr (ltb-false done allowed is)
     ]) refl h
 
+-- the same of a long send
 granted_none : (own : Own) (gs : List Grant) (s : Sent) (pushed : List Packet) (kind : Kind) → kind ≡ LongCts → s.kind ≡ kind → granted_packet own gs s pushed kind ≡ None
     → (gs ≡ []) ⊎ (piece_bytes (pieces_in (openings own.limits s.message s.kind)) + grant_bytes gs ≤ piece_bytes (pieces_in pushed))
 unfolding granted_packet
@@ -98,6 +95,7 @@ granted_none own gs s pushed Medium k e h = cc
 granted_none own gs s pushed LongRead k e h = cc
 granted_none own gs s pushed (Runt runt) k e h = cc
 
+-- no grants have no bytes
 no_grants : (gs : List Grant) → gs ≡ [] → grant_bytes gs ≡ 0
 unfolding grant_bytes
 no_grants gs e = ap (λ (x : List Grant). grant_bytes x) e
@@ -109,11 +107,12 @@ unfolding next_packet
 allowed_done own log s pushed u k h =
     let o = opened_done own log s pushed u h in
     let e = openings_bytes own.limits s.message s.kind in
-    elim (granted_none own (grants log s.to s.number) s pushed s.kind k refl (none_right _ _ h)) [
+    elim (granted_none own (grants log s.to s.number) s pushed s.kind k refl (none_left _ _ h).1) [
       | inl a ↦ (let z = no_grants (grants log s.to s.number) a in omega arith)
       | inr a ↦ a
     ]
 
+-- a long send is not read
 long_unread : (kind : Kind) → kind ≡ LongCts → is_read kind ≡ false
 unfolding is_read
 long_unread kind e = rw e refl
@@ -148,14 +147,6 @@ finished job history i j p s m taken Medium k = at_once_finished job history i j
 finished job history i j p s m taken LongRead k = read_finished job history i j p s m (ap is_read k)
 finished job history i j p s m taken (Runt runt) k = read_finished job history i j p s m (ap is_read k)
 finished job history i j p s m taken LongCts k = pushed_finished job history i j p s m (ap is_read k) (long_done job history i j p s m k taken)
-
-to_parts : (sents : List Sent) (i : Life) (t : Sent) → Member t (sends_to sents i) → Member t sents × (t.to ≡ i)
-unfolding sends_to
-to_parts sents i t m = let r = member-filter (λ (s : Sent). same_life s.to i) t sents m in (r.0, same_life-true t.to i r.1)
-
-heard_from : (log : List Deed) (source : Life) (n : ℕ) (h : Head) → heard_head log source n ≡ Some h → is_heard log source n ≡ true
-unfolding is_heard
-heard_from log source n h e = ap (λ (o : Option Head). is_some o) e
 
 -- a pair of standing lives, by what they took themselves
 matched_from : (job : Job) (history : List Entry) (i j : Life) (p : Pair) (s : Sent) → Meet job history i j → Meet job history j i → Member s (sends_of job history j) → s.to ≡ i
@@ -195,21 +186,25 @@ matched_complete job history i j m n taken s p in_sends in_pairs life number =
     let f = finished job history i j p s ms taken s.kind refl in
     let ended = filled_ended own_i.limits.first (account job history i).head log_i p pair f.filled in
     let kept = subst (λ (l : Life). is_forgotten log_j l ≡ false) (sym t.1) (stands job history i j m) in
-    let done = send_done own_j log_j s (own_life job history m.played j) t.0 f.over kept in
-    (subst (λ (es : List RecvEnd). Member (Filled p) es) (recv_ends_same own_i.limits.first (account job history i).head (sent_to job history i).head log_i agree_i.heads) ended,
-    subst (λ (cs : List Completion). Member (SendCompletion (record { 0 = s.number }) false) cs) (completions_same own_j (account job history j) (sent_to job history j) log_j agree_j) done)
+    let done = send_done own_j log_j s (own_life job history m.played j) t.0 f.over kept in (
+      subst (λ (es : List RecvEnd). Member (Filled p) es) (recv_ends_same own_i.limits.first (account job history i).head (sent_to job history i).head log_i agree_i.heads) ended,
+      subst (λ (cs : List Completion). Member (SendCompletion (record { 0 = s.number }) false) cs) (completions_same own_j (account job history j) (sent_to job history j) log_j agree_j) done,
+    )
 
+-- either holds, both ways
 or_turned : (a b : Bool) → (a || b) ≡ (b || a)
 or_turned true true = refl
 or_turned true false = refl
 or_turned false true = refl
 or_turned false false = refl
 
+-- a drop between the lives, both ways
 drops_turned : (i j : Life) (act : Act) → drops_between j i act ≡ drops_between i j act
 unfolding drops_between is_between
 drops_turned i j (Handle d (Dropped why)) = or_turned (goes j i d d.body) (goes i j d d.body)
 drops_turned i j _ = refl
 
+-- the same test of each entry
 any_same : (f g : Entry → Bool) (xs : List Entry) → ((e : Entry) → f e ≡ g e) → list_any f xs ≡ list_any g xs
 any_same f g [] h = refl
 any_same f g (x ∷ xs) h = rw (h x, any_same f g xs h) refl
@@ -227,6 +222,7 @@ stands_back job history i j s =
       clock_j = s.clock_i;
     }
 
+-- at a settled end each completion was polled
 all_polled : (job : Job) (history : List Entry) → is_settled job history ≡ true → AllPolled job history
 all_polled job history h port l low =
     let q = quiet job history port h l in

@@ -61,7 +61,7 @@ filled_from job history i j p s m all =
     let log = life_deeds job history i in
     let size : (heads p.message.life p.message.no.0).length ≡ length s.message.bytes = ap (λ (h : Head). h.length) m.head_is ∙ head_length job.limits s.message s.kind in
     let here : (place : ℕ) → place < (heads p.message.life p.message.no.0).length → is_some (byte_at (carried_pieces first heads log p.message.life p.message.no.0) place) ≡ true = λ place lt.
-      subst (λ (l : Life). is_some (byte_at (carried_pieces first heads log l p.message.no.0) place) ≡ true) (sym m.life_is) (all place (omega arith)) in
+    subst (λ (l : Life). is_some (byte_at (carried_pieces first heads log l p.message.no.0) place) ≡ true) (sym m.life_is) (all place (omega arith)) in
     and_from (is_pair (pairs_of job history i) p.recv.id.0 p.message.life p.message.no.0) _ (member_is_pair (pairs_of job history i) p m.member)
     (each_below_from (λ place. is_some (byte_at (carried_pieces first heads log p.message.life p.message.no.0) place)) (heads p.message.life p.message.no.0).length here)
 
@@ -79,6 +79,7 @@ pub pushed_filled : (job : Job) (history : List Entry) (i j : Life) (p : Pair) (
     → is_filled (own_of job i).limits.first (account job history i).head (life_deeds job history i) p ≡ true
 pushed_filled job history i j p s m le = filled_from job history i j p s m (λ place lt. there_at job history i j p s place m (omega arith))
 
+-- what comes ahead of a read is opened
 ahead_opened : (own : Own) (s : Sent) (kind : Kind) (place : ℕ) → is_read kind ≡ true → place < read_from kind → place < length s.message.bytes → place < opened_bytes own.limits s.message kind
 unfolding is_read read_from opened_bytes
 ahead_opened own s LongRead place r low high = omega arith
@@ -87,15 +88,18 @@ ahead_opened own s Eager place r low high = cc
 ahead_opened own s Medium place r low high = cc
 ahead_opened own s LongCts place r low high = cc
 
+-- the receiver was not forgotten
 kept_of : (job : Job) (history : List Entry) (i j : Life) (p : Pair) (s : Sent) → Matched job history i j p s → is_forgotten (life_deeds job history j) s.to ≡ false
 kept_of job history i j p s m = subst (λ (l : Life). is_forgotten (life_deeds job history j) l ≡ false) (sym m.to_is) (stands job history i j m.here)
 
+-- a read send that is over has its end taken
 over_ended : (log : List Deed) (s : Sent) (over : Bool) → is_forgotten log s.to ≡ false → is_read s.kind ≡ true
     → (is_forgotten log s.to || cond (is_read s.kind) (list_any (ends_send s.to s.number) log) over) ≡ true → list_any (ends_send s.to s.number) log ≡ true
 over_ended log s over f r h =
     let P : Bool → Type 0 = λ b. (is_forgotten log s.to || cond b (list_any (ends_send s.to s.number) log) over) ≡ true in
     elim (or_cases (is_forgotten log s.to) (list_any (ends_send s.to s.number) log) (subst P r h)) [ inl a ↦ absurd (cc) | inr a ↦ a ]
 
+-- the same of what was pushed
 read_over_ended : (own : Own) (ms : Messages) (log : List Deed) (s : Sent) → is_forgotten log s.to ≡ false → is_read s.kind ≡ true → is_over log (pushed_of own ms log s.number) s ≡ true
     → list_any (ends_send s.to s.number) log ≡ true
 unfolding is_over
@@ -138,10 +142,12 @@ owes_end own limits m Eager recv r = cc
 owes_end own limits m Medium recv r = cc
 owes_end own limits m LongCts recv r = cc
 
+-- an end of a send ends it
 ends_it : (i : Life) (n : ℕ) (recv : OpId) (connid : Connid) → ends_send i n (Took i (Spelled (Eor (op_id n) recv connid))) ≡ true
 unfolding ends_send
 ends_it i n recv connid = and_from (same_life i i) (n == n) (same_life-refl i) (eq-eqb n n refl)
 
+-- a send whose end was taken is over
 over_read : (log : List Deed) (s : Sent) (over : Bool) → is_read s.kind ≡ true → list_any (ends_send s.to s.number) log ≡ true
     → (is_forgotten log s.to || cond (is_read s.kind) (list_any (ends_send s.to s.number) log) over) ≡ true
 over_read log s over r h =
@@ -174,13 +180,16 @@ pub record Finished (job : Job) (history : List Entry) (i j : Life) (p : Pair) (
   pub filled : is_filled (own_of job i).limits.first (account job history i).head (life_deeds job history i) p ≡ true
   pub over : is_over (life_deeds job history j) (pushed_of (own_of job j) (account job history j) (life_deeds job history j) s.number) s ≡ true
 
+-- a matched message that is read is finished
 pub read_finished : (job : Job) (history : List Entry) (i j : Life) (p : Pair) (s : Sent) → Matched job history i j p s → is_read s.kind ≡ true → Finished job history i j p s
 read_finished job history i j p s m r = record { filled = read_filled job history i j p s m r; over = read_over job history i j p s m r }
 
+-- a list with an element is not empty
 member_some : {A : Type 0} (x : A) (xs : List A) → Member x xs → 0 < length xs
 member_some x [] m = elim m [ ]
 member_some x (y ∷ ys) m = omega arith
 
+-- a send that is not read has pushed a packet, at rest
 some_pushed : (own : Own) (ms : Messages) (log : List Deed) (s : Sent) → Member s (sends own ms log) → is_forgotten log s.to ≡ false → is_read s.kind ≡ false
     → (is_over log (pushed_of own ms log s.number) s ≡ true) ⊎ (next_packet own log s (pushed_of own ms log s.number) ≡ None) → 0 < length (pushed_of own ms log s.number)
 some_pushed own ms log s m f r e =

@@ -40,11 +40,13 @@ pub record Carrying (job : Job) (port : ℕ) (c : Connid) (to : Life) (item : It
   pub bears : Bears item load
   pub stamp_is : datagram.stamp.0 ≤ clock job log
 
+-- each entry has a greater stamp
 pub stamp_rises : (now : ℕ) (act : Act) → now < stamp_after now act
 unfolding stamp_after
 stamp_rises now (Handle d answer) = omega arith
 stamp_rises now _ = omega arith
 
+-- a datagram that was pushed stays pushed
 carrying_later : (job : Job) (port : ℕ) (c : Connid) (to : Life) (item : Item) (e : Entry) (before : List Entry) → e.stamp.0 ≡ stamp_after (clock job before) e.act
     → Carrying job port c to item before → Carrying job port c to item (e ∷ before)
 unfolding clock
@@ -62,17 +64,20 @@ carrying_later job port c to item e before s r =
       stamp_is = omega arith;
     }
 
+-- an instruction pushes nothing
 next_pushed : (o : Option Instr) (answer : Answer) → deed_by_next o answer ≡ Pushed → ⊥
 unfolding deed_by_next
 next_pushed (Some instr) (DidAnswer what) h = cc
 next_pushed _ _ h = cc
 
+-- nor does the handling of a datagram
 handle_pushed : (src : PortNo) (body : Body) (answer : Handled) → deed_by_handle src body answer ≡ Pushed → ⊥
 unfolding deed_by_handle
 handle_pushed src (Note note) (TookAnswer entered) h = cc
 handle_pushed src (Between from to load) (TookAnswer entered) h = cc
 handle_pushed src _ _ h = cc
 
+-- a push between lives
 body_pushed : (body : Body) → deed_by_push body ≡ Pushed → (from to : Connid) × (load : Load) × (body ≡ Between from to load)
 unfolding deed_by_push
 body_pushed (Note note) h = cc

@@ -35,12 +35,15 @@ abbrev pub HandledOnce : Datagram → List Entry → Type 0
 HandledOnce d [] = ⊥
 HandledOnce d (e ∷ before) = ((q : Datagram) × (answer : Handled) × (e.act ≡ Handle q answer) × (q.src ≡ d.src) × (q.number ≡ d.number)) ⊎ HandledOnce d before
 
+-- ports of one number are one
 pub same_port : (p q : PortNo) → p.0 ≡ q.0 → p ≡ q
 same_port p q h = ap (λ (n : ℕ). let x : PortNo = record { 0 = n } in x) h
 
+-- and so are datagram numbers
 same_number : (p q : DatagramNo) → p.0 ≡ q.0 → p ≡ q
 same_number p q h = ap (λ (n : ℕ). let x : DatagramNo = record { 0 = n } in x) h
 
+-- an act handles a datagram of that source and number, or none
 act_handles : (d : Datagram) (act : Act) → IsOther d act ⊎ ((q : Datagram) × (answer : Handled) × (act ≡ Handle q answer) × (q.src ≡ d.src) × (q.number ≡ d.number))
 act_handles d (Handle q answer) =
     elim (cases_eq q.src.0 d.src.0) [
@@ -68,9 +71,11 @@ abbrev pub HandledIt : Datagram → List Entry → Type 0
 HandledIt d [] = ⊥
 HandledIt d (e ∷ before) = ((answer : Handled) × (e.act ≡ Handle d answer)) ⊎ HandledIt d before
 
+-- what was pushed stays pushed
 pushed_still : (port : ℕ) (d : Datagram) (e : Entry) (before : List Entry) → PushedIn d (log_of port before) → PushedIn d (log_of port (e ∷ before))
 pushed_still port d e before h = at_log_of (λ log. PushedIn d log) port e before (λ s. inr h) (λ s. h)
 
+-- a datagram of that source and number that was handled, as it was pushed
 found : (d : Datagram) (history : List Entry) → Wire history → HandledOnce d history
     → (q : Datagram) × HandledIt q history × PushedIn q (log_of q.src.0 history) × (q.src ≡ d.src) × (q.number ≡ d.number)
 found d [] w h = elim h [ ]
@@ -80,6 +85,7 @@ found d (e ∷ before) w (inl a) =
     (a.0, inl (a.1, a.2), pushed_still a.0.src.0 a.0 e before comes.1, a.3, a.4)
 found d (e ∷ before) w (inr h) = let r = found d before w.0 h in (r.0, inr r.1, pushed_still r.0.src.0 r.0 e before r.2, r.3, r.4)
 
+-- a push has the next number
 numbered_act : (job : Job) (port : ℕ) (s : Scene) (e : Entry) (before : List Entry) (act : Act) → e.port.0 ≡ port → Does job class_of s before e act → IsNumbered port before act
 numbered_act job port s e before (Push d) p does = (ap (λ (x : PortNo). x.0) does.0 ∙ p, does.1)
 numbered_act job port s e before (Next index op answer) p does = tt
@@ -100,6 +106,7 @@ it_was job history d played p h =
     let same : d ≡ r.0 = pushed_once d.src.0 (log_of d.src.0 history) d r.0 (numbered job d.src.0 (log_of d.src.0 history) (played.locals d.src.0)) p q (sym r.4) in
     subst (λ (x : Datagram). HandledIt x history) (sym same) r.1
 
+-- the newest entry of a port fits
 local_newest : (job : Job) (port : ℕ) (e : Entry) (before : List Entry) → (e.port.0 == port) ≡ true → Local job port (cond (e.port.0 == port) (e ∷ log_of port before) (log_of port before))
     → Fits job class_of (own_scene job port (deeds_at job port (log_of port before))) (log_of port before) e
 local_newest job port e before is l =
@@ -107,6 +114,7 @@ local_newest job port e before is l =
     let here : Local job port (e ∷ log_of port before) = subst P is l in
     here.2
 
+-- an entry of a port fits its log
 pub local_at : (job : Job) (port : ℕ) (e : Entry) (before : List Entry) → Local job port (log_of port (e ∷ before)) → e.port.0 ≡ port
     → Fits job class_of (own_scene job port (deeds_at job port (log_of port before))) (log_of port before) e
 unfolding log_of

@@ -64,6 +64,7 @@ opened_read LongCts s own h = cc
 opened_read LongRead s own h = omega arith
 opened_read (Runt runt) s own h = let t = length-take runt s.message.bytes in omega arith
 
+-- no more was pushed of a read send than its first part
 read_done : (own : Own) (ms : Messages) (log : List Deed) (s : Sent) → Member s (sends own ms log) → is_read s.kind ≡ true → done_bytes own ms log s.number ≤ read_from s.kind
 unfolding is_read
 read_done own ms log s m h =
@@ -86,6 +87,7 @@ read_ahead own s p x k log h c r =
     let e = read_done own ms log s (turn_member own s p k log h) r in
     omega arith
 
+-- given bytes lie in what is read
 given_at : (job : Job) (history : List Entry) (to from : Life) (s : Sent) (x : Piece) (k : ℕ) → Played job history → GivenPiece job history to from s x k
     → (is_read s.kind ≡ true) × (read_from s.kind ≤ x.offset) × (x.offset + length x.bytes ≤ iov_bytes s.message.iov)
 given_at job history to from s x k played g =
@@ -104,6 +106,7 @@ given_at job history to from s x k played g =
 abbrev pub Has : Piece → ℕ → Type 0
 Has x place = (x.offset ≤ place) × (place < x.offset + length x.bytes)
 
+-- packets of a send and given bytes share no place
 sent_given : (job : Job) (history : List Entry) (to from : Life) (s t : Sent) (x y : Piece) (k l place : ℕ) → Played job history → s ≡ t
     → SentPiece job history from s x k → GivenPiece job history to from t y l → Has x place → Has y place → ⊥
 sent_given job history to from s t x y k l place played e a b i j =
@@ -174,6 +177,7 @@ piece_within job history to from n x k played a =
           omega arith)
     ]
 
+-- a byte of a piece lies in its range
 pub in_range : (q : Piece) (place b : ℕ) → byte_in q place ≡ Some b → Has q place
 unfolding byte_in
 in_range q place b h =
@@ -185,6 +189,7 @@ in_range q place b h =
           (low, omega arith))
     ]) refl h
 
+-- what cannot be there is not
 not_some : (o : Option ℕ) → ((b : ℕ) → o ≡ Some b → ⊥) → not (is_some o) ≡ true
 not_some None h = refl
 not_some (Some b) h = absurd (h b refl)
@@ -205,6 +210,7 @@ pub record CameBefore (job : Job) (history : List Entry) (to from : Life) (n : �
   pub taken : Taken job history to from item
   pub piece : PieceOf job history to from n x taken.taken.place
 
+-- each piece that came was a turn
 pub came_before : (job : Job) (history : List Entry) (to from : Life) (n : ℕ) (x : Piece) → Played job history
     → Member x (carried_pieces (own_of job to).limits.first (account job history to).head (life_deeds job history to) from n) → CameBefore job history to from n x
 came_before job history to from n x played m =

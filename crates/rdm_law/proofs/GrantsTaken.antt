@@ -58,6 +58,7 @@ use Rattle.rdm_law.proofs.Lives.{is_connid-true}
 use Rattle.rdm_law.proofs.Pushed.{of_life_newest, own_now}
 use Rattle.rdm_law.proofs.Wired.{HandledBy, TakenAs, took_to, comes_of, pushed_taken}
 use Rattle.rdm_law.proofs.Delivers.{IsNumbered, AreNumbered, pushed_below}
+use Rattle.rdm_law.proofs.Handled.{life_newest}
 use Rattle.rdm_law.proofs.Delivered.{numbered, local_at}
 use Rattle.rdm_law.proofs.Queue.{queue}
 use Rattle.rdm_law.proofs.Tiled.{starts_at, tiled, allowed_step, one_grant}
@@ -103,13 +104,6 @@ answered_one own ms x y k (d ∷ before) (inl g) (inl h) = let a = g.2 in let b 
 answered_one own ms x y k (d ∷ before) (inl g) (inr h) = absurd (let l = answered_below own ms y k before h in let e = g.1 in omega arith)
 answered_one own ms x y k (d ∷ before) (inr g) (inl h) = absurd (let l = answered_below own ms x k before g in let e = h.1 in omega arith)
 answered_one own ms x y k (d ∷ before) (inr g) (inr h) = answered_one own ms x y k before g h
-
--- the deeds of a life that is open, by the newest entry of its port
-life_newest : (job : Job) (l : Life) (e : Entry) (before : List Entry) → e.port.0 ≡ l.port.0 → open_life (port_deeds job l.port.0 before) ≡ Some l.connid
-    → life_deeds job (e ∷ before) l ≡ deed_of (rank_of job l.port.0).ops e.act ∷ life_deeds job before l
-unfolding life_deeds port_deeds
-life_newest job l e before s o =
-    ap (λ (log : List Entry). of_life l.connid (deeds_at job l.port.0 log)) (log_of-same l.port.0 e before s) ∙ of_life_newest job l.port.0 l.connid e (log_of l.port.0 before) o
 
 -- a datagram for a life that its port takes finds the life open
 open_for : (job : Job) (l from : Life) (item : Item) (d : Datagram) (e : Entry) (before : List Entry) (entered : Option Entered) → Played job (e ∷ before)

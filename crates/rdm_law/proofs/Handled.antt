@@ -20,6 +20,7 @@ use Rattle.rdm_model.specs.Lawful.{life_deeds, port_deeds}
 use Rattle.rdm_model.specs.Wire.{IsUnhandled, Comes}
 use Rattle.rdm_law.proofs.Logs.{log_of-same, log_of-other}
 use Rattle.rdm_law.proofs.Lives.{life_of, at_of_life}
+use Rattle.rdm_law.proofs.Pushed.{of_life_newest}
 use Rattle.rdm_law.proofs.Wired.{Played, played_before, HandledBy, TakenTurn, act_took, taken_to, pushed_taken}
 
 -- what holds of the deeds of a life as the history is longer by an entry: it is the life's, or not
@@ -36,6 +37,13 @@ at_life P job l e before same other =
           (at_of_life P l.connid (deed_of ops e.act) (deeds ops (log_of port before)) (λ o. same s o) (λ o. other))
       | inr s ↦ subst (λ (log : List Entry). P (of_life l.connid (deeds ops log))) (sym (log_of-other port e before s)) other
     ]
+
+-- the deeds of a life that is open, by the newest entry of its port
+pub life_newest : (job : Job) (l : Life) (e : Entry) (before : List Entry) → e.port.0 ≡ l.port.0 → open_life (port_deeds job l.port.0 before) ≡ Some l.connid
+    → life_deeds job (e ∷ before) l ≡ deed_of (rank_of job l.port.0).ops e.act ∷ life_deeds job before l
+unfolding life_deeds port_deeds
+life_newest job l e before s o =
+    ap (λ (log : List Entry). of_life l.connid (deeds_at job l.port.0 log)) (log_of-same l.port.0 e before s) ∙ of_life_newest job l.port.0 l.connid e (log_of l.port.0 before) o
 
 -- the datagram that a life takes by the newest entry: it was pushed before by the life that it names, and not handled before
 pub record NewTake (job : Job) (before : List Entry) (e : Entry) (l source : Life) (item : Item) : Type 0 where

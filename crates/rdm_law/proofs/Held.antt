@@ -13,6 +13,7 @@ use Rattle.rdm_model.specs.Sends.{Sent, new_sent, sends}
 use Rattle.rdm_model.proofs.Members.{or_else_cases, then_some_parts, some-or_else_left, some-or_else_right}
 use Rattle.rdm_model.proofs.Numbers.{NewSent, made}
 
+-- an inserted life is of its port
 inserted_port : (port : ℕ) (d : Deed) (l : Life) → inserted_by port d ≡ Some l → (l.port.0 ≡ port) × (d ≡ Did (Insert l))
 unfolding inserted_by
 inserted_port port (Did (Insert x)) l h =
@@ -20,17 +21,20 @@ inserted_port port (Did (Insert x)) l h =
     (ap (λ (y : Life). y.port.0) (sym t.1) ∙ eqb-true x.port.0 port t.0, ap (λ (y : Life). Did (Insert y)) t.1)
 inserted_port port _ l h = cc
 
+-- so is one that was seen
 seen_port : (port : ℕ) (d : Deed) (l : Life) → seen_by port d ≡ Some l → l.port.0 ≡ port
 unfolding seen_by
 seen_port port (Took from item) l h = let t = then_some_parts (from.port.0 == port) from l h in ap (λ (y : Life). y.port.0) (sym t.1) ∙ eqb-true from.port.0 port t.0
 seen_port port _ l h = cc
 
+-- so is the one that was inserted last
 last_port : (log : List Deed) (port : ℕ) (l : Life) → last_inserted log port ≡ Some l → l.port.0 ≡ port
 unfolding last_inserted
 last_port [] port l h = cc
 last_port (d ∷ before) port l h =
     elim (or_else_cases (inserted_by port d) (last_inserted before port) l h) [ inl a ↦ (inserted_port port d l a).0 | inr a ↦ last_port before port l a.1 ]
 
+-- and the first that was seen
 first_port : (log : List Deed) (port : ℕ) (l : Life) → first_seen log port ≡ Some l → l.port.0 ≡ port
 unfolding first_seen
 first_port [] port l h = cc
@@ -43,6 +47,7 @@ unfolding current
 current_port log port l h =
     elim (or_else_cases (last_inserted log port) (first_seen log port) l h) [ inl a ↦ last_port log port l a | inr a ↦ first_port log port l a.1 ]
 
+-- one of the two is there
 some_cases : {A : Type 0} (x y : Option A) → is_some (or_else x y) ≡ true → (is_some x ≡ true) ⊎ (is_some y ≡ true)
 unfolding or_else
 some_cases None y h = inr h
@@ -57,14 +62,17 @@ current_stays d before port h =
       | inr a ↦ some-or_else_right (or_else (inserted_by port d) (last_inserted before port)) (or_else (first_seen before port) (seen_by port d)) (some-or_else_left (first_seen before port) (seen_by port d) a)
     ]
 
+-- and keeps one over more deeds
 pub current_kept : (newer before : List Deed) (port : ℕ) → is_some (current before port) ≡ true → is_some (current (newer ++ before) port) ≡ true
 current_kept [] before port h = h
 current_kept (d ∷ newer) before port h = current_stays d (newer ++ before) port (current_kept newer before port h)
 
+-- a deed that takes from a life sees it
 seen_some : (d : Deed) (from : Life) (item : Item) → d ≡ Took from item → is_some (seen_by from.port.0 d) ≡ true
 unfolding seen_by
 seen_some d from item h = rw h (ap (λ (b : Bool). is_some (then_some b from)) (eq-eqb from.port.0 from.port.0 refl))
 
+-- and then its port has a current life
 took_now : (d : Deed) (before : List Deed) (from : Life) (item : Item) → d ≡ Took from item → is_some (current (d ∷ before) from.port.0) ≡ true
 unfolding current first_seen
 took_now d before from item h =
@@ -76,6 +84,7 @@ took_current [] from item m = elim m [ ]
 took_current (d ∷ before) from item (inl a) = took_now d before from item a
 took_current (d ∷ before) from item (inr a) = current_stays d before from.port.0 (took_current before from item a)
 
+-- a new send goes to the life that is current
 pub to_new : (own : Own) (ms : Messages) (before : List Deed) (sents : List Sent) (d : Deed) (s : Sent) (n : NewSent own ms before sents d s) → s.to ≡ n.to
 unfolding new_sent
 to_new own ms before sents d s n = ap (λ (x : Sent). x.to) n.is
@@ -97,6 +106,7 @@ pub record Replaced (log : List Deed) (l : Life) : Type 0 where
   pub not_now : is_current log l ≡ false
   pub other : is_some (current log l.port.0) ≡ true
 
+-- the current life is as before, or the one that is inserted
 kept_by : (i l f s : Option Life) (d : Deed) (port : ℕ) → ((x : Life) → i ≡ Some x → (x.port.0 ≡ port) × (d ≡ Did (Insert x))) → is_some (or_else l f) ≡ true
     → (or_else (or_else i l) (or_else f s) ≡ or_else l f) ⊎ ((x : Life) × (d ≡ Did (Insert x)) × (x.port.0 ≡ port) × (or_else (or_else i l) (or_else f s) ≡ Some x))
 unfolding or_else

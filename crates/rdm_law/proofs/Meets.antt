@@ -38,21 +38,14 @@ use Rattle.rdm_model.specs.Standing.{goes, drops_between, Standing}
 use Rattle.rdm_model.proofs.Members.{same_life-refl}
 use Rattle.rdm_law.proofs.Lives.{TurnedAt, is_connid-true}
 use Rattle.rdm_law.proofs.SmallBytes.{all_member}
-use Rattle.rdm_law.proofs.Pushed.{of_life_newest}
+use Rattle.rdm_law.proofs.Handled.{life_newest}
 use Rattle.rdm_law.proofs.Wired.{Played, played_before, took_to, bears_item}
 use Rattle.rdm_law.proofs.Waiting.{waits_in_history}
 use Rattle.rdm_law.proofs.Still.{quiet, open_rank, not_worn}
 use Rattle.rdm_law.proofs.Datagrams.{turned_carried}
 use Rattle.rdm_law.proofs.Delivered.{HandledIt, handled_cases, it_was, local_at, deed_stays, dropped_between, same_port}
 
--- the newest deed of a life
-newest : (job : Job) (l : Life) (e : Entry) (before : List Entry) → e.port.0 ≡ l.port.0 → open_life (port_deeds job l.port.0 before) ≡ Some l.connid
-    → life_deeds job (e ∷ before) l ≡ deed_of (rank_of job l.port.0).ops e.act ∷ life_deeds job before l
-unfolding life_deeds port_deeds log_of
-newest job l e before p o =
-    ap (λ (b : Bool). of_life l.connid (deeds_at job l.port.0 (cond b (e ∷ log_of l.port.0 before) (log_of l.port.0 before)))) (eq-eqb e.port.0 l.port.0 p)
-    ∙ of_life_newest job l.port.0 l.connid e (log_of l.port.0 before) o
-
+-- a datagram that was taken is a deed of the life
 took_deed : (job : Job) (i j : Life) (d : Datagram) (load : Load) (act : Act) (answer : Handled) (what : _) → act ≡ Handle d answer → answer ≡ TookAnswer what → d.body ≡ Between j.connid i.connid load → d.src.0 ≡ j.port.0
     → deed_of (rank_of job i.port.0).ops act ≡ Took j (item_of load)
 unfolding deed_of deed_by_handle
@@ -60,15 +53,18 @@ took_deed job i j d load act answer what a k b s =
     let x : ◌≡◌ {A = Life} (life d.src j.connid) j = ap (λ (p : PortNo). let y : Life = record { port = p; connid = j.connid } in y) (same_port d.src j.port s) in
     rw (a, k, b) (ap (λ (l : Life). Took l (item_of load)) x)
 
+-- the open life of a port
 own_now : (job : Job) (port : ℕ) (log : List Deed) (c : Connid) → (own_scene job port log).now ≡ Some c → open_life log ≡ Some c
 unfolding own_scene scene
 own_now job port log c h = h
 
+-- a taken datagram has an answer that says so
 took_some : (s : Scene) (d : Datagram) (body : Body) → (what : Option Entered) × (taken_answer s d body ≡ TookAnswer what)
 unfolding taken_answer
 took_some s d (Note note) = (None, refl)
 took_some s d (Between from to load) = (_, refl)
 
+-- a handled datagram is taken or dropped
 pub taken_or : (s : Scene) (d : Datagram) (body : Body) (o : Option Class) → ((what : Option Entered) × (class_answer s d o ≡ TookAnswer what)) ⊎ ((why : Class) × (class_answer s d o ≡ Dropped why))
 unfolding class_answer
 taken_or s d body None = inl (took_some s d d.body)
@@ -88,7 +84,7 @@ answered job e before i j d load answer a p s t b none h =
           let now : open_life (port_deeds job i.port.0 before) ≡ Some i.connid =
           own_now job i.port.0 (port_deeds job i.port.0 before) i.connid (is_connid-true S.now i.connid (took_to S d j.connid i.connid load k.0 (sym is ∙ h) b)) in
           let deed : deed_of (rank_of job i.port.0).ops e.act ≡ Took j (item_of load) = took_deed job i j d load e.act answer k.0 a is b s in
-          subst (λ (log : List Deed). Member (Took j (item_of load)) log) (sym (newest job i e before p now)) (inl deed))
+          subst (λ (log : List Deed). Member (Took j (item_of load)) log) (sym (life_newest job i e before p now)) (inl deed))
       | inr k ↦ (let act : e.act ≡ Handle d (Dropped k.0) = a ∙ ap (Handle d) (h ∙ k.1) in let x = dropped_between i j d load e.act k.0 act s t b in absurd (cc))
     ]
 
@@ -117,11 +113,13 @@ abbrev pub IsUnheard : List Deed → Life → Item → Type 0
 IsUnheard log from (Spelled (Rtm number tag opt form)) = is_heard log from number.0 ≡ false
 IsUnheard log from _ = ⊥
 
+-- what needs a place opens a message that was not heard of
 unheard : (s : Scene) (from : Life) (item : Item) → needs_place s from item ≡ true → IsUnheard s.log from item
 unfolding needs_place
 unheard s from (Spelled (Rtm number tag opt form)) h = not-true (is_heard s.log from number.0) (and_parts (not (is_heard s.log from number.0)) (not (is_met s from number.0 tag)) h).0
 unheard s from _ h = cc
 
+-- the same of what a datagram has in it
 unheard_body : (s : Scene) (d : Datagram) (from to : Connid) (load : Load) → d.body ≡ Between from to load → body_needs_place s d d.body ≡ true → IsUnheard s.log (life d.src from) (item_of load)
 unfolding body_needs_place
 unheard_body s d from to load b h =
@@ -129,14 +127,17 @@ unheard_body s d from to load b h =
     let q : body_needs_place s d (Between from to load) ≡ true = subst P b h in
     unheard s (life d.src from) (item_of load) q
 
+-- what waits for a place needs one
 again_place : (class_by : Classing) (s : Scene) (d : Datagram) → is_again_early class_by s d ≡ true → body_needs_place s d d.body ≡ true
 unfolding is_again_early
 again_place class_by s d h = (and_parts _ _ (and_parts _ _ h).0).1
 
+-- the deeds of an open life in both scenes
 sent_log : (job : Job) (history : List Entry) (i : Life) → open_life (port_deeds job i.port.0 history) ≡ Some i.connid → (sent_scene job i.port.0 history).log ≡ life_deeds job history i
 unfolding sent_scene scene of_open_life life_deeds
 sent_log job history i o = rw o refl
 
+-- a datagram with a lower stamp wears no clock
 fresh_stamp : (job : Job) (log : List Entry) (d : Datagram) → clock job log < last_stamp → d.stamp.0 < last_stamp → is_worn_by job log d ≡ false
 unfolding is_worn_by
 fresh_stamp job log d c s = or_from (is_worn job log) (nat_le last_stamp d.stamp.0) (not_worn job log c) (lt-leb last_stamp d.stamp.0 s)
@@ -147,6 +148,7 @@ pub record Meet (job : Job) (history : List Entry) (i j : Life) : Type 0 where
   pub settled : is_settled job history ≡ true
   pub standing : Standing job history i j
 
+-- what waits between standing lives opens a message that was not heard of
 pub waits_unheard : (job : Job) (history : List Entry) (i j : Life) (d : Datagram) (load : Load) → Meet job history i j → Member d (waiting_datagrams i.port.0 history)
     → d.src.0 ≡ j.port.0 → d.body ≡ Between j.connid i.connid load → d.stamp.0 < last_stamp → IsUnheard (life_deeds job history i) j (item_of load)
 waits_unheard job history i j d load m w s b stamp =

@@ -36,11 +36,13 @@ use Rattle.rdm_law.proofs.Owed.{shape_in, recv_in}
 use Rattle.rdm_law.proofs.Classed.{IsTaken, taken_parts}
 use Rattle.rdm_law.proofs.LiveSends.{live_parts}
 
+-- what one element makes is among what all make
 in_flat_map : {A B : Type 0} (f : A → List B) (x : A) (xs : List A) (y : B) → Member x xs → Member y (f x) → Member y (flat_map f xs)
 in_flat_map f x [] y h k = elim h [ ]
 in_flat_map {A} {B} f x (z ∷ xs) y (inl is) k = member-append_left y (f z) (flat_map f xs) (subst (λ (w : A). Member y (f w)) (sym is) k)
 in_flat_map f x (z ∷ xs) y (inr h) k = member-append_right y (f z) (flat_map f xs) (in_flat_map f x xs y h k)
 
+-- what was owed stays owed
 owed_earlier : (own : Own) (ms : Messages) (d : Deed) (before : List Deed) (r : Reply) → Member r (owed own ms before) → Member r (owed own ms (d ∷ before))
 unfolding owed
 owed_earlier own ms d before r h = member-append_left r (owed own ms before) (replies_by own ms.head (sends own ms before) d before) h
@@ -56,7 +58,7 @@ pair_owed own ms d before p x m h =
     let all = in_flat_map (pair_replies own ms.head d before) p (pairs own.limits.first ms.head (d ∷ before)) r m mine in
     member-append_right r (owed own ms before) (replies_by own ms.head (sends own ms before) d before)
     (member-append_left r (shakes ++ flat_map (pair_replies own ms.head d before) (pairs own.limits.first ms.head (d ∷ before))) (given_by (sends own ms before) d)
-      (member-append_right r shakes (flat_map (pair_replies own ms.head d before) (pairs own.limits.first ms.head (d ∷ before))) all))
+    (member-append_right r shakes (flat_map (pair_replies own ms.head d before) (pairs own.limits.first ms.head (d ∷ before))) all))
 
 -- a pair that was there before
 pair_before : (first : ℕ) (heads : Heads) (d : Deed) (before : List Deed) (p : Pair) → Member p (pairs first heads (d ∷ before))
@@ -66,6 +68,7 @@ pair_before first heads d before p m h =
     let same : q.0 ≡ p = (matching_numbered first heads (d ∷ before)).once q.0 p (pair_still first heads d before q.0 q.1) m q.2 in
     subst (λ (x : Pair). Member x (pairs first heads before)) same q.1
 
+-- a new pair makes its asks owed
 asks_new : (own : Own) (heads : Heads) (d : Deed) (before : List Deed) (p : Pair) (a : ReadAsk) → is_pair (pairs own.limits.first heads before) p.recv.id.0 p.message.life p.message.no.0 ≡ false
     → Member a (asks_for (shape_in heads p) (recv_in p)) → Member (Asks a) (pair_items own heads d before p)
 unfolding pair_items
@@ -85,6 +88,7 @@ asks_owed own ms (d ∷ before) p a m h =
       | inr new ↦ pair_owed own ms d before p (Asks a) m (asks_new own ms.head d before p a new h)
     ]
 
+-- a pair that is filled now makes its end owed
 end_new : (own : Own) (heads : Heads) (d : Deed) (before : List Deed) (p : Pair) (x : Item) → is_filled own.limits.first heads (d ∷ before) p ≡ true → is_filled own.limits.first heads before p ≡ false
     → Member x (end_for own (shape_in heads p) (recv_in p)) → Member x (pair_items own heads d before p)
 unfolding pair_items
@@ -93,6 +97,7 @@ end_new own heads d before p x now was h =
     subst (λ (b : Bool). Member x (cond b (end_for own (shape_in heads p) (recv_in p)) [])) (sym (and_from _ _ now (not_from_false _ was))) h in
     member-append_right x _ _ here
 
+-- a filled pair is a pair
 filled_pair : (first : ℕ) (heads : Heads) (log : List Deed) (p : Pair) → is_filled first heads log p ≡ true → is_pair (pairs first heads log) p.recv.id.0 p.message.life p.message.no.0 ≡ true
 unfolding is_filled
 filled_pair first heads log p h = (and_parts _ _ h).0
@@ -105,7 +110,7 @@ end_owed own ms [] p x m f h = elim m [ ]
 end_owed own ms (d ∷ before) p x m f h =
     elim (cases_Bool (is_filled own.limits.first ms.head before p)) [
       | inl was ↦ owed_earlier own ms d before (reply p.message.life x)
-        (end_owed own ms before p x (pair_before own.limits.first ms.head d before p m (filled_pair own.limits.first ms.head before p was)) was h)
+          (end_owed own ms before p x (pair_before own.limits.first ms.head d before p m (filled_pair own.limits.first ms.head before p was)) was h)
       | inr new ↦ pair_owed own ms d before p x m (end_new own ms.head d before p x f new h)
     ]
 
@@ -122,6 +127,7 @@ pub record GivenOwed (own : Own) (ms : Messages) (log : List Deed) (from : Life)
   pub number_is : sent.number ≡ a.send_id.0
   pub owed' : Member (given_reply from a sent) (owed own ms log)
 
+-- a good ask names a send
 good_send : (s : Scene) (from : Life) (a : ReadAsk) (o : Option Sent) → not (is_good_ask s from a o) ≡ false → (t : Sent) × (o ≡ Some t)
 unfolding is_good_ask
 good_send s from a None h = cc
@@ -135,6 +141,7 @@ ask_sent s from a h =
     let f = find_member (λ (x : Sent). same_life x.to from && x.number == a.send_id.0) t.0 _ t.1 in
     (t.0, (live_parts s.own s.ms s.log t.0 f.0).0, f.1)
 
+-- the answer to an ask that is taken
 given_here : (sents : List Sent) (from : Life) (a : ReadAsk) (d : Deed) (t : Sent) → d ≡ Took from (Asks a) → find (λ (x : Sent). same_life x.to from && x.number == a.send_id.0) sents ≡ Some t
     → Member (given_reply from a t) (given_by sents d)
 unfolding given_by given_of
@@ -142,6 +149,7 @@ given_here sents from a d t e h =
     subst (λ (x : Deed). Member (given_reply from a t) (given_by sents x)) (sym e)
     (subst (λ (o : Option Sent). Member (given_reply from a t) (given_of from a o)) (sym h) (inl refl))
 
+-- and it is owed
 given_now : (own : Own) (ms : Messages) (d : Deed) (before : List Deed) (r : Reply) → Member r (given_by (sends own ms before) d) → Member r (owed own ms (d ∷ before))
 unfolding owed replies_by
 given_now own ms d before r h =

@@ -30,6 +30,7 @@ use Rattle.rdm_model.proofs.Opens.{Opening, opening_is}
 use Rattle.rdm_model.proofs.Pushes.{pushed_of, underway}
 use Rattle.rdm_model.proofs.Served.{done_bytes}
 use Rattle.rdm_model.proofs.Sending.{DataPush}
+use Rattle.rdm_law.proofs.Pushing.{piece_packet}
 use Rattle.rdm_law.proofs.Lives.{TurnedAt}
 use Rattle.rdm_law.proofs.Wired.{Played, own_life}
 use Rattle.rdm_law.proofs.Known.{account, sends_of, Known}
@@ -43,25 +44,18 @@ use Rattle.rdm_law.proofs.Meets.{Meet, IsUnheard, delivered}
 use Rattle.rdm_law.proofs.AllEnters.{send_turned, sends_going}
 use Rattle.rdm_law.proofs.CarriedBack.{CameFor, came_for, came_opening}
 
+-- the element is the first, if it is there, or one of the others
 option_member : (o : Option Piece) (xs : List Piece) (x : Piece) → Member x (cons_option o xs) → (o ≡ Some x) ⊎ Member x xs
 option_member None xs x h = inr h
 option_member (Some y) xs x (inl e) = inl (ap Some e)
 option_member (Some y) xs x (inr h) = inr h
 
--- a piece of packets is of one of them
-pub piece_packet : (ps : List Packet) (x : Piece) → Member x (pieces_in ps) → (p : Packet) × Member p ps × (packet_piece p ≡ Some x)
-unfolding pieces_in
-piece_packet [] x h = elim h [ ]
-piece_packet (p ∷ ps) x h =
-    elim (option_member (packet_piece p) (filter_map packet_piece ps) x h) [
-      | inl a ↦ (p, inl refl, a)
-      | inr a ↦ (let r = piece_packet ps x a in (r.0, inr r.1, r.2))
-    ]
-
+-- the piece of an opening
 rtm_piece : (p : Packet) (s : Sent) (form : Form) (x : Piece) → p ≡ Rtm s.message.no s.message.tag s.message.opt form → packet_piece p ≡ Some x → piece_of form ≡ Some x
 unfolding packet_piece
 rtm_piece p s form x e h = ap packet_piece (sym e) ∙ h
 
+-- the piece of granted bytes
 data_piece : (p : Packet) (recv : OpId) (offset : ℕ) (connid : Connid) (bytes : List ℕ) (x : Piece) → p ≡ CtsData recv offset connid bytes → packet_piece p ≡ Some x
     → x ≡ record { offset = offset; bytes = bytes }
 unfolding packet_piece
@@ -90,12 +84,14 @@ packet_came job history i j s p x k played m to turned took h =
           subst (λ (y : ℕ). Member x (carried_pieces first heads log j y)) n c.carried)
     ]
 
+-- an opening of a heard message is not of an unheard one
 unheard_none : (log : List Deed) (j : Life) (s : Sent) (p : Packet) (form : Form) → p ≡ Rtm s.message.no s.message.tag s.message.opt form → is_heard log j s.message.no.0 ≡ true → IsUnheard log j (Spelled p) → ⊥
 unheard_none log j s p form e h u =
     let P : Packet → Type 0 = λ q. IsUnheard log j (Spelled q) in
     let v : is_heard log j s.message.no.0 ≡ false = subst P e u in
     absurd (cc)
 
+-- nor are granted bytes
 unheard_data : (log : List Deed) (j : Life) (p : Packet) (recv : OpId) (offset : ℕ) (connid : Connid) (bytes : List ℕ) → p ≡ CtsData recv offset connid bytes → IsUnheard log j (Spelled p) → ⊥
 unheard_data log j p recv offset connid bytes e u = let P : Packet → Type 0 = λ q. IsUnheard log j (Spelled q) in subst P e u
 

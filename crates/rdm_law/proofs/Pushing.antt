@@ -17,30 +17,12 @@ use Rattle.rdm_model.proofs.Served.{PushedAt}
 use Rattle.rdm_model.proofs.Sending.{push_is}
 use Rattle.rdm_model.proofs.Numbers.{sends_one}
 use Rattle.rdm_model.proofs.Served.{push_member}
+use Rattle.rdm_law.proofs.TurnsPushed.{packet_push}
 use Rattle.rdm_law.proofs.Whole.{byte_of_piece}
 use Rattle.rdm_law.proofs.Granted.{allowed_of, part_within_allowed, byte_ends}
 
--- a packet that was pushed of a send had its push
-pub pushed_was : (own : Own) (ms : Messages) (log : List Deed) (n : ℕ) (p : Packet) → Member p (pushed_of own ms log n)
-    → (s : Sent) × (k : ℕ) × (s.number ≡ n) × PushedAt own ms (Sends s p) k log
-unfolding progress
-pushed_was own ms [] n p h = elim h [ ]
-pushed_was own ms (d ∷ before) n p h =
-    elim (pushed_step own ms d before n) [
-      | inl same ↦ (
-          let r = pushed_was own ms before n p (subst (λ (x : List Packet). Member p x) same h) in
-          (r.0, r.1, r.2, inr r.3))
-      | inr more ↦ elim (member-append_cases p (pushed_of own ms before n) (more.0.of.packet ∷ []) (subst (λ (x : List Packet). Member p x) more.2 h)) [
-        | inl older ↦ (let r = pushed_was own ms before n p older in (r.0, r.1, r.2, inr r.3))
-        | inr newest ↦ elim newest [
-          | inl is ↦ (more.0.of.sent, length before, more.1, inl (more.0.by, more.0.now ∙ ap Some more.0.of.is ∙ ap (λ (x : Packet). Some (Sends more.0.of.sent x)) is, refl))
-          | inr never ↦ elim never [ ]
-        ]
-      ]
-    ]
-
 -- a piece of packets is of one of them
-piece_packet : (ps : List Packet) (x : Piece) → Member x (pieces_in ps) → (p : Packet) × Member p ps × (packet_piece p ≡ Some x)
+pub piece_packet : (ps : List Packet) (x : Piece) → Member x (pieces_in ps) → (p : Packet) × Member p ps × (packet_piece p ≡ Some x)
 unfolding pieces_in
 piece_packet [] x h = elim h [ ]
 piece_packet (q ∷ ps) x h =
@@ -57,10 +39,10 @@ pushed_ends : (own : Own) (ms : Messages) (log : List Deed) (s : Sent) (x : Piec
     → x.offset + length x.bytes ≤ allowed_of own log s
 pushed_ends own ms log s x m h =
     let p = piece_packet (pushed_of own ms log s.number) x h in
-    let w = pushed_was own ms log s.number p.0 p.1 in
-    let t = push_is own ms w.0 p.0 w.1 log w.3 in
-    let same : w.0 ≡ s = sends_one own ms log w.0 s (push_member own ms w.0 p.0 w.1 log w.3) m w.2 in
-    subst (λ (y : Sent). x.offset + length x.bytes ≤ allowed_of own log y) same (part_within_allowed own log w.0 p.0 x t p.2)
+    let w = packet_push own ms log s.number p.0 p.1 in
+    let t = push_is own ms w.sent p.0 w.place log w.pushed in
+    let same : w.sent ≡ s = sends_one own ms log w.sent s (push_member own ms w.sent p.0 w.place log w.pushed) m w.number_is in
+    subst (λ (y : Sent). x.offset + length x.bytes ≤ allowed_of own log y) same (part_within_allowed own log w.sent p.0 x t p.2)
 
 -- what was pushed does not cover more than is allowed
 not_covered : (own : Own) (ms : Messages) (log : List Deed) (s : Sent) (n : ℕ) → Member s (sends own ms log) → allowed_of own log s < n

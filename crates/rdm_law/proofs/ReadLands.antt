@@ -66,6 +66,7 @@ use Rattle.rdm_law.proofs.WholePushed.{opened_done}
 pub rest_of : (job : Job) (history : List Entry) (i j : Life) → Meet job history i j → AtRest (own_of job j) (account job history j) (life_deeds job history j)
 rest_of job history i j m = at_rest (own_of job j) (account job history j) (life_deeds job history j) (settled_still job history j m.played m.settled m.standing.open_j m.standing.clock_j)
 
+-- a reply goes to its life
 replies_going : (r : Reply) (to : Life) (item : Item) → r.to ≡ to → r.item ≡ item → turn_going (Some (Replies r)) ≡ Some (Goes to item)
 unfolding turn_going
 replies_going r to item e f = ap (λ (l : Life). Some (Goes l r.item)) e ∙ ap (λ (x : Item). Some (Goes to x)) f
@@ -77,6 +78,7 @@ IsReplied (Gives g) = Unit {0}
 IsReplied (Spelled (Eor send recv connid)) = Unit {0}
 IsReplied _ = ⊥
 
+-- what is no opening is of no unheard message
 replied_heard : (log : List Deed) (from : Life) (item : Item) → IsReplied item → IsUnheard log from item → ⊥
 replied_heard log from (Asks a) r u = u
 replied_heard log from (Gives g) r u = u
@@ -96,6 +98,7 @@ owed_taken job history i j r item m h to is rep =
       | inr a ↦ absurd (replied_heard (life_deeds job history i) j item rep a.0)
     ]
 
+-- an account agrees with itself
 agree_refl : (first : ℕ) (ms : Messages) (log : List Deed) → Agree first ms ms log
 agree_refl first ms log = record { heads = λ source n h is. refl; bytes = λ p is. refl }
 

@@ -31,18 +31,22 @@ insert_fresh : (ports : ℕ) (own : Own) (port_log log : List Deed) (l : Life) (
 unfolding answer_of
 insert_fresh ports own port_log log l what h = second_false _ (is_superseded log l) _ _ _ what h (λ w e. cc) (λ w e. cc)
 
+-- a life that was replaced is superseded
 superseded : (log : List Deed) (l : Life) → Replaced log l → is_superseded log l ≡ true
 unfolding is_superseded
 superseded log l r = and_from (was_current log l) (not (is_current log l)) r.once (not_from_false (is_current log l) r.not_now)
 
+-- a life that was current once stays so
 once_still : (d : Deed) (before : List Deed) (l : Life) → was_current before l ≡ true → was_current (d ∷ before) l ≡ true
 unfolding was_current
 once_still d before l h = or_left (was_current before l) (is_current (d ∷ before) l) h
 
+-- whether a life is current, by the current life of its port
 life_at : (log : List Deed) (l : Life) (o : Option Life) → current log l.port.0 ≡ o → is_current log l ≡ is_life o l
 unfolding is_current
 life_at log l o h = ap (λ (x : Option Life). is_life x l) h
 
+-- one that is there
 life_some : (x l : Life) → is_life (Some x) l ≡ same_life x l
 unfolding is_life
 life_some x l = refl
@@ -68,11 +72,13 @@ replaced_still own d before l step r =
       }
     ]
 
+-- the current life was current
 current_once : (log : List Deed) (l : Life) → current log l.port.0 ≡ Some l → was_current log l ≡ true
 unfolding was_current is_current is_life current last_inserted first_seen or_else
 current_once [] l h = cc
 current_once (d ∷ before) l h = or_right (was_current before l) (is_current (d ∷ before) l) (ap (λ (x : Option Life). is_life x l) h ∙ same_life-refl l)
 
+-- an insert of another life forgets the current one
 forgets_other : (x : Life) (o : Option Life) (l : Life) → list_any (same_life l) (other_life x o) ≡ true → (o ≡ Some l) × (same_life l x ≡ false)
 unfolding other_life
 forgets_other x None l h = cc
@@ -92,6 +98,7 @@ unfolding forgotten_by
 forgets_now before (Did (Insert x)) l h = let r = forgets_other x (current before x.port.0) l h in (x, refl, r.0, r.1)
 forgets_now before _ l h = cc
 
+-- an inserted life is current
 inserted_now : (before : List Deed) (x : Life) → current (Did (Insert x) ∷ before) x.port.0 ≡ Some x
 unfolding current last_inserted inserted_by or_else
 inserted_now before x = rw (eq-eqb x.port.0 x.port.0 refl) refl
@@ -119,6 +126,7 @@ forgotten_replaced own (d ∷ before) l local h =
           })
     ]
 
+-- a port whose current life is another one
 other_at : (o : Option Life) (l : Life) → is_some o ≡ true → is_life o l ≡ false → is_other o l ≡ true
 unfolding is_other is_life
 other_at None l h k = cc

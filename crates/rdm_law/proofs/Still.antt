@@ -58,6 +58,7 @@ pub record Quiet (job : Job) (history : List Entry) (port : ℕ) : Type 0 where
   pub polled : (next_completion_is_none (sent_scene job port history) || is_worn job (log_of port history)) ≡ true
   pub waits : list_all (λ (d : Datagram). is_again_early lives_class (sent_scene job port history) d || is_worn_by job (log_of port history) d) (waiting_datagrams port history) ≡ true
 
+-- at a settled end each port is quiet
 pub quiet : (job : Job) (history : List Entry) (port : ℕ) → is_settled job history ≡ true → port < port_count job → Quiet job history port
 unfolding is_settled is_quiet_in is_quiet
 quiet job history port h l =
@@ -73,17 +74,20 @@ unfolding open_after
 closed_by was (Did instr) w h = absurd (h instr refl)
 closed_by was _ w h = w
 
+-- a push is no instruction
 push_did : (body : Body) (instr : Instr) → deed_by_push body ≡ Did instr → ⊥
 unfolding deed_by_push
 push_did (Note note) instr h = cc
 push_did (Between from to load) instr h = cc
 
+-- nor is the handling of a datagram
 handle_did : (src : PortNo) (body : Body) (answer : Handled) (instr : Instr) → deed_by_handle src body answer ≡ Did instr → ⊥
 unfolding deed_by_handle
 handle_did src (Note note) (TookAnswer entered) instr h = cc
 handle_did src (Between from to load) (TookAnswer entered) instr h = cc
 handle_did src _ _ instr h = cc
 
+-- without instructions no deed is one
 no_instr : (act : Act) (instr : Instr) → deed_of [] act ≡ Did instr → ⊥
 unfolding deed_of deed_by_next
 no_instr (Next index op answer) instr h = cc
@@ -91,11 +95,13 @@ no_instr (Push d) instr h = push_did d.body instr h
 no_instr (Handle d answer) instr h = handle_did d.src d.body answer instr h
 no_instr (Poll c) instr h = cc
 
+-- and no life opens
 none_open : (log : List Entry) → open_life (deeds [] log) ≡ None
 unfolding open_life deeds
 none_open [] = refl
 none_open (e ∷ before) = closed_by (open_life (deeds [] before)) (deed_of [] e.act) (none_open before) (no_instr e.act)
 
+-- a port past the ranks has no instructions
 rank_past : (job : Job) (port : ℕ) → port_count job ≤ port → (rank_of job port).ops ≡ []
 unfolding rank_of
 rank_past job port h = ap (λ (r : Rank). r.ops) (get_or_past job.ranks port no_rank h)
@@ -109,6 +115,7 @@ open_rank job history port c h =
       | inr more ↦ (let e = ap (λ (ops : List Instr). open_life (deeds ops (log_of port history))) (rank_past job port more) in let n = none_open (log_of port history) in cc)
     ]
 
+-- a test for none
 none_is : {A : Type 0} (o : Option A) → is_none o ≡ true → o ≡ None
 none_is None h = refl
 none_is (Some x) h = cc
@@ -118,20 +125,24 @@ pub not_worn : (job : Job) (log : List Entry) → clock job log < last_stamp →
 unfolding is_worn
 not_worn job log h = lt-leb last_stamp (clock job log) h
 
+-- the first test holds where the second does not
 or_left_true : (a b : Bool) → (a || b) ≡ true → b ≡ false → a ≡ true
 or_left_true a b h k = elim (or_cases a b h) [ inl x ↦ x | inr x ↦ cc ]
 
+-- where nothing goes, nothing goes from a life
 note_none : (n : Option OwedNote) (o : Option Going) → note_going n o ≡ None → o ≡ None
 unfolding note_going
 note_none None o h = h
 note_none (Some n) o h = cc
 
+-- where nothing goes by a turn there is none
 turn_none : (o : Option Turn) → turn_going o ≡ None → o ≡ None
 unfolding turn_going
 turn_none None h = refl
 turn_none (Some (Replies r)) h = cc
 turn_none (Some (Sends s p)) h = cc
 
+-- a scene from which nothing goes has no turn
 scene_none : (s : Scene) (c : Connid) → s.now ≡ Some c → going s ≡ None → turn s.own s.ms s.log ≡ None
 unfolding going life_going
 scene_none s c n h = turn_none (turn s.own s.ms s.log) (subst (λ (o : Option Connid). life_going o s ≡ None) n (note_none (next_note s.ports s.own.life.port.0 s.port_log) (life_going s.now s) h))
@@ -140,6 +151,7 @@ scene_none s c n h = turn_none (turn s.own s.ms s.log) (subst (λ (o : Option Co
 abbrev pub IsStill : Job → List Entry → Life → Type 0
 IsStill job history l = turn (own_of job l) (account job history l) (life_deeds job history l) ≡ None
 
+-- the life of an endpoint is its own
 own_now : (job : Job) (l : Life) → ◌≡◌ {A = Option Connid} (Some (own_of job l).life.connid) (Some l.connid)
 unfolding own_of
 own_now job l = refl
@@ -162,6 +174,7 @@ unfolding reply_turn
 reply_none None others h = (refl, h)
 reply_none (Some r) others h = cc
 
+-- with no turn, no send has a packet
 send_none : (s : Sent) (o : Option Packet) (others : Option Turn) → send_turn s o others ≡ None → (o ≡ None) × (others ≡ None)
 unfolding send_turn
 send_none s None others h = (refl, h)
@@ -193,6 +206,7 @@ pub record AtRest (own : Own) (ms : Messages) (log : List Deed) : Type 0 where
   pub no_reply : slice_get (progress own ms log).replies 0 ≡ None
   pub each : (s : Sent) → Member s (sends own ms log) → (is_over log ((progress own ms log).packets s.number) s ≡ true) ⊎ (next_packet own log s ((progress own ms log).packets s.number) ≡ None)
 
+-- a life without a turn is at rest
 pub at_rest : (own : Own) (ms : Messages) (log : List Deed) → turn own ms log ≡ None → AtRest own ms log
 unfolding turn next_turn
 at_rest own ms log h =

@@ -36,6 +36,7 @@ pub record PacketPush (own : Own) (ms : Messages) (log : List Deed) (n : ℕ) (p
   pub place : ℕ
   pub pushed : PushedAt own ms (Sends sent p) place log
 
+-- each packet that was pushed of a send had a push
 pub packet_push : (own : Own) (ms : Messages) (log : List Deed) (n : ℕ) (p : Packet) → Member p (pushed_of own ms log n) → PacketPush own ms log n p
 unfolding progress
 packet_push own ms [] n p m = elim m [ ]

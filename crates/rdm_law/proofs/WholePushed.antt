@@ -23,16 +23,19 @@ use Rattle.rdm_model.proofs.Turns.{Underway}
 use Rattle.rdm_model.proofs.Pushes.{pushed_of, underway}
 use Rattle.rdm_model.proofs.Served.{done_bytes}
 
+-- where neither is there
 pub none_left : {A : Type 0} (x y : Option A) → or_else x y ≡ None → (x ≡ None) × (y ≡ None)
 unfolding or_else
 none_left None y h = (refl, h)
 none_left (Some a) y h = cc
 
-get_none : {A : Type 0} (xs : List A) (k : ℕ) → slice_get xs k ≡ None → length xs ≤ k
+-- no element past the end
+pub get_none : {A : Type 0} (xs : List A) (k : ℕ) → slice_get xs k ≡ None → length xs ≤ k
 get_none [] k h = omega arith
 get_none (x ∷ xs) zero h = cc
 get_none (x ∷ xs) (suc k) h = let e = get_none xs k h in omega arith
 
+-- nothing is left where as many were pushed
 no_more : (ops pushed later : List Packet) → ops ≡ pushed ++ later → length ops ≤ length pushed → ops ≡ pushed
 no_more ops pushed [] e h = e ∙ append-nil pushed
 no_more ops pushed (p ∷ ps) e h = let l = ap length e in let m = length-append pushed (p ∷ ps) in absurd (omega arith)
@@ -66,6 +69,7 @@ IsAtOnce LongCts = ⊥
 IsAtOnce LongRead = ⊥
 IsAtOnce (Runt runt) = ⊥
 
+-- the openings have all of a message that goes at once
 at_once_bytes : (own : Own) (s : Sent) (kind : Kind) → IsAtOnce kind → opened_bytes own.limits s.message kind ≡ length s.message.bytes
 unfolding opened_bytes
 at_once_bytes own s Eager h = refl
@@ -74,6 +78,7 @@ at_once_bytes own s LongCts h = elim h [ ]
 at_once_bytes own s LongRead h = elim h [ ]
 at_once_bytes own s (Runt runt) h = elim h [ ]
 
+-- it is not read
 at_once_unread : (kind : Kind) → IsAtOnce kind → is_read kind ≡ false
 unfolding is_read
 at_once_unread Eager h = refl
@@ -82,6 +87,7 @@ at_once_unread LongCts h = elim h [ ]
 at_once_unread LongRead h = elim h [ ]
 at_once_unread (Runt runt) h = elim h [ ]
 
+-- a pushed message was pushed to its end
 pushed_row : (s : Sent) (ps : List Packet) → InRow s.message.bytes 0 (pieces_in ps) → is_pushed s ps ≡ true → length s.message.bytes ≤ piece_bytes (pieces_in ps)
 unfolding is_pushed
 pushed_row s [] r h = cc
@@ -108,6 +114,7 @@ at_once_done own ms log s m f k (inr none) =
     let e = at_once_bytes own s s.kind k in
     omega arith
 
+-- what was pushed to its end is pushed
 pushed_from : (s : Sent) (ps : List Packet) → InRow s.message.bytes 0 (pieces_in ps) → 0 < length ps → length s.message.bytes ≤ piece_bytes (pieces_in ps) → is_pushed s ps ≡ true
 unfolding is_pushed
 pushed_from s [] r some h = absurd (omega arith)

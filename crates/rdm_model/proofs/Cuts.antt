@@ -26,17 +26,20 @@ row_parts bytes from (p ∷ ps) qs r =
     let later = row_parts bytes (from + length p.bytes) ps qs r.2 in
     ((r.0, r.1, later.0), row_from bytes (from + length p.bytes + piece_bytes ps) (from + (length p.bytes + piece_bytes ps)) qs (omega arith) later.1)
 
+-- rows that follow each other are one row
 pub row_append : (bytes : List ℕ) (from : ℕ) (ps qs : List Piece) → InRow bytes from ps → InRow bytes (from + piece_bytes ps) qs → InRow bytes from (ps ++ qs)
 unfolding piece_bytes
 row_append bytes from [] qs r s = row_from bytes (from + 0) from qs (omega arith) s
 row_append bytes from (p ∷ ps) qs r s =
     (r.0, r.1, row_append bytes (from + length p.bytes) ps qs r.2 (row_from bytes (from + (length p.bytes + piece_bytes ps)) (from + length p.bytes + piece_bytes ps) qs (omega arith) s))
 
+-- pieces in two parts have the bytes of both
 pub piece_bytes-append : (ps qs : List Piece) → piece_bytes (ps ++ qs) ≡ piece_bytes ps + piece_bytes qs
 unfolding piece_bytes
 piece_bytes-append [] qs = omega arith
 piece_bytes-append (p ∷ ps) qs = let e = piece_bytes-append ps qs in omega arith
 
+-- one piece has its own bytes
 pub single_bytes : (p : Piece) → piece_bytes (p ∷ []) ≡ length p.bytes
 unfolding piece_bytes
 single_bytes p = omega arith
@@ -97,6 +100,7 @@ pub pieces_in_row : (size : ℕ) (bytes : List ℕ) → InRow bytes 0 (pieces si
 unfolding pieces
 pieces_in_row size bytes = cut_in_row (length bytes) size 0 bytes bytes refl
 
+-- the pieces of a message have all its bytes
 pub pieces_bytes : (size : ℕ) (bytes : List ℕ) → piece_bytes (pieces size bytes) ≡ length bytes
 unfolding pieces
 pieces_bytes size bytes = cut_bytes (length bytes) size 0 bytes
@@ -120,6 +124,7 @@ take_of_take k m xs ys e =
 pub part_of_front : (n : ℕ) (p : Piece) (whole : List ℕ) → Part p (take n whole) → Part p whole
 part_of_front n p whole h = take_of_take (length p.bytes) (n - p.offset) (drop p.offset whole) p.bytes (h ∙ ap (take (length p.bytes)) (drop_of_take p.offset n whole))
 
+-- a row of the first bytes is a row of the message
 pub row_of_front : (n : ℕ) (whole : List ℕ) (from : ℕ) (ps : List Piece) → InRow (take n whole) from ps → InRow whole from ps
 row_of_front n whole from [] r = tt
 row_of_front n whole from (p ∷ ps) r = (r.0, part_of_front n p whole r.1, row_of_front n whole (from + length p.bytes) ps r.2)
@@ -154,6 +159,7 @@ cut_some (suc fuel) size offset bytes =
       | false ↦ omega arith
     ]
 
+-- a message has a piece, even where it has no byte
 pub pieces_some : (size : ℕ) (bytes : List ℕ) → 0 < length (pieces size bytes)
 unfolding pieces
 pieces_some size bytes = cut_some (length bytes) size 0 bytes

@@ -132,6 +132,7 @@ pub sends_to_append : (sents : List Sent) (t : Sent) (to : Life) → sends_to (s
 unfolding sends_to
 sends_to_append sents t to = filter-append (λ (x : Sent). same_life x.to to) sents (t ∷ [])
 
+-- a send that comes last stands at its place
 placed_at : (own : Own) (sents : List Sent) (s : Sent) → s.message.no.0 ≡ own.limits.first + length (sends_to sents s.to) → Placed own (sents ++ s ∷ []) s
 placed_at own sents s e =
     let k : s.message.no.0 - own.limits.first ≡ length (sends_to sents s.to) = omega arith in

@@ -27,6 +27,7 @@ pub pieces_in_one : (p : Packet) (x : Piece) → packet_piece p ≡ Some x → p
 unfolding pieces_in
 pieces_in_one p x h = rw h refl
 
+-- a packet that carries no bytes has no piece
 pub pieces_in_none : (p : Packet) → packet_piece p ≡ None → pieces_in (p ∷ []) ≡ []
 unfolding pieces_in
 pieces_in_none p h = rw h refl
@@ -44,12 +45,14 @@ segments_open limits m p ps h =
     let r = member-map (λ (x : Piece). rtm m (medium_form m x)) p ps h in
     record { form = medium_form m r.0; is = sym r.2; head_is = refl }
 
+-- so do the segments of a first part
 runts_open : (limits : EpLimits) (m : Message) (runt : ℕ) (p : Packet) (ps : List Piece) → Member p (map (λ (x : Piece). rtm m (runt_form m runt x)) ps) → Opening limits m (Runt runt) p
 unfolding head_of size_of shape_of message_head shape_by
 runts_open limits m runt p ps h =
     let r = member-map (λ (x : Piece). rtm m (runt_form m runt x)) p ps h in
     record { form = runt_form m runt r.0; is = sym r.2; head_is = refl }
 
+-- a single packet that tells the head opens its message
 single_open : (limits : EpLimits) (m : Message) (kind : Kind) (form : Form) (p : Packet) → head_of m.tag m.opt form ≡ message_head limits m kind → Member p (rtm m form ∷ []) → Opening limits m kind p
 single_open limits m kind form p e (inl a) = record { form = form; is = sym a; head_is = e }
 single_open limits m kind form p e (inr a) = elim a [ ]
@@ -69,6 +72,7 @@ unfolding pieces_in packet_piece piece_of
 segment_pieces m [] = refl
 segment_pieces m (p ∷ ps) = ap (λ (xs : List Piece). p ∷ xs) (segment_pieces m ps)
 
+-- and so do segments of a first part
 runt_pieces : (m : Message) (runt : ℕ) (ps : List Piece) → pieces_in (map (λ (x : Piece). rtm m (runt_form m runt x)) ps) ≡ ps
 unfolding pieces_in packet_piece piece_of
 runt_pieces m runt [] = refl
@@ -98,6 +102,7 @@ opened_bytes limits m LongCts = length (take (room_in limits (rtm m (long_cts_fo
 opened_bytes limits m LongRead = 0
 opened_bytes limits m (Runt runt) = length (take runt m.bytes)
 
+-- the openings of a message have so many bytes
 pub openings_bytes : (limits : EpLimits) (m : Message) (kind : Kind) → piece_bytes (pieces_in (openings limits m kind)) ≡ opened_bytes limits m kind
 unfolding openings pieces_in packet_piece piece_of piece_bytes opened_bytes
 openings_bytes limits m Eager = omega arith

@@ -29,6 +29,7 @@ pub member_later : (own : Own) (ms : Messages) (d : Deed) (before : List Deed) (
 unfolding sends with_sent
 member_later own ms d before s m = member-append_left s (sends own ms before) (sent_by own ms before (sends own ms before) d) m
 
+-- sends are only added
 sends_rise : (own : Own) (ms : Messages) (d : Deed) (before : List Deed) → length (sends own ms before) ≤ length (sends own ms (d ∷ before))
 sends_rise own ms d before =
     elim (sends_step own ms d before) [
@@ -45,6 +46,7 @@ packets_by own ms before n s packet e =
       | inr a ↦ (record { by = refl; served = Sends s packet; now = e; of = a.1 }, (let x = a.1.is in cc), (let x = a.1.is in cc))
     ]
 
+-- what a turn adds to the packets of a send
 turn_step : (own : Own) (ms : Messages) (before : List Deed) (n : ℕ) (o : Option Turn) → turn own ms before ≡ o
     → ((after_turn o (progress own ms before)).packets n ≡ pushed_of own ms before n)
     ⊎ ((t : PushesOf own ms Pushed before) × (t.of.sent.number ≡ n) × ((after_turn o (progress own ms before)).packets n ≡ pushed_of own ms before n ++ t.of.packet ∷ []))

@@ -13,6 +13,7 @@ slice_get_some [] k h = absurd (omega arith)
 slice_get_some (x ∷ xs) zero h = refl
 slice_get_some (x ∷ xs) (suc k) h = slice_get_some xs k (omega arith)
 
+-- a list has no element past its end
 slice_get_none : {A : Type 0} (xs : List A) (k : ℕ) → length xs ≤ k → slice_get xs k ≡ None
 slice_get_none [] k h = refl
 slice_get_none (x ∷ xs) zero h = absurd (omega arith)
@@ -23,19 +24,23 @@ pub byte_in_some : (p : Piece) (place : ℕ) → p.offset ≤ place → place < 
 unfolding byte_in
 byte_in_some p place low high = rw (le-ltb place p.offset low) (slice_get_some p.bytes (place - p.offset) (omega arith))
 
+-- a piece has no place before its offset
 pub byte_in_before : (p : Piece) (place : ℕ) → place < p.offset → byte_in p place ≡ None
 unfolding byte_in
 byte_in_before p place low = rw (lt-ltb place p.offset low) refl
 
+-- a piece has no place past its end
 pub byte_in_after : (p : Piece) (place : ℕ) → p.offset + length p.bytes ≤ place → byte_in p place ≡ None
 unfolding byte_in
 byte_in_after p place high = rw (le-ltb place p.offset (omega arith)) (slice_get_none p.bytes (place - p.offset) (omega arith))
 
+-- the first value is there
 some_first : {A : Type 0} (x y : Option A) → is_some x ≡ true → is_some (or_else x y) ≡ true
 unfolding or_else
 some_first None y h = cc
 some_first (Some a) y h = refl
 
+-- where there is no first value it is the second
 none_first : {A : Type 0} (x y : Option A) → x ≡ None → or_else x y ≡ y
 unfolding or_else
 none_first x y h = rw h refl
@@ -52,6 +57,7 @@ row_has bytes from (p ∷ ps) place r low high =
           ∙ row_has bytes (from + length p.bytes) ps place r.2 (omega arith) (omega arith)
     ]
 
+-- a row has no place past its end
 pub row_lacks : (bytes : List ℕ) (from : ℕ) (ps : List Piece) (place : ℕ) → InRow bytes from ps → from + piece_bytes ps ≤ place → byte_at ps place ≡ None
 unfolding byte_at piece_bytes
 row_lacks bytes from [] place r high = refl
@@ -59,6 +65,7 @@ row_lacks bytes from (p ∷ ps) place r high =
     let o = r.0 in
     none_first (byte_in p place) (byte_at ps place) (byte_in_after p place (omega arith)) ∙ row_lacks bytes (from + length p.bytes) ps place r.2 (omega arith)
 
+-- a test that each number below passes
 pub each_below_from : (t : ℕ → Bool) (n : ℕ) → ((k : ℕ) → k < n → t k ≡ true) → each_below t n ≡ true
 unfolding each_below
 each_below_from t zero h = refl
@@ -69,6 +76,7 @@ pub row_covers : (bytes : List ℕ) (ps : List Piece) (n : ℕ) → InRow bytes 
 unfolding covers
 row_covers bytes ps n r h = each_below_from (λ place. is_some (byte_at ps place)) n (λ k l. row_has bytes 0 ps k r (omega arith) (omega arith))
 
+-- a row covers no more than it has bytes
 pub row_covered : (bytes : List ℕ) (ps : List Piece) (n : ℕ) → InRow bytes 0 ps → covers ps n ≡ true → n ≤ piece_bytes ps
 unfolding covers
 row_covered bytes ps n r h =
@@ -89,6 +97,7 @@ overlap_parts at len at' len' h =
     let c = and_parts (nat_lt 0 len) (nat_lt 0 len') b.0 in
     (ltb-true 0 len c.0, ltb-true 0 len' c.1, ltb-true at (at' + len') b.1, ltb-true at' (at + len) a.1)
 
+-- ranges that begin below each other's end overlap
 pub overlaps_from : (at len at' len' : ℕ) → 0 < len → 0 < len' → at < at' + len' → at' < at + len → overlaps at len at' len' ≡ true
 unfolding overlaps
 overlaps_from at len at' len' a b c d =
@@ -98,6 +107,7 @@ overlaps_from at len at' len' a b c d =
 pub apart : (at len at' len' : ℕ) → at + len ≤ at' → overlaps at len at' len' ≡ false
 apart at len at' len' h = false_from_ne_true (overlaps at len at' len') (λ o. let x = overlap_parts at len at' len' o in let y = x.3 in absurd (omega arith))
 
+-- ranges that follow each other the other way round share no place
 pub apart_after : (at len at' len' : ℕ) → at' + len' ≤ at → overlaps at len at' len' ≡ false
 apart_after at len at' len' h = false_from_ne_true (overlaps at len at' len') (λ o. let x = overlap_parts at len at' len' o in let y = x.2 in absurd (omega arith))
 

@@ -79,6 +79,7 @@ pub record DataPush (own : Own) (log : List Deed) (s : Sent) (p : Packet) : Type
   pub has_byte : 0 < data_room own.limits → piece_bytes (pieces_in (openings own.limits s.message s.kind)) + grant_bytes (grants log s.to s.number) ≤ length s.message.bytes
       → 0 < length bytes
 
+-- granted bytes that are next are allowed
 data_now : (own : Own) (log : List Deed) (s : Sent) (pushed : List Packet) (p : Packet) → GrantedNext own (grants log s.to s.number) s pushed p → DataPush own log s p
 data_now own log s pushed p g =
     let allowed : ℕ = piece_bytes (pieces_in (openings own.limits s.message s.kind)) + grant_bytes (grants log s.to s.number) in
@@ -97,6 +98,7 @@ data_now own log s pushed p g =
       has_byte = λ room fit. let e = length-drop (piece_bytes (pieces_in pushed)) s.message.bytes in omega arith;
     }
 
+-- and stay so as more grants come
 data_later : (own : Own) (d : Deed) (before : List Deed) (s : Sent) (p : Packet) → DataPush own before s p → DataPush own (d ∷ before) s p
 unfolding grants grant_bytes
 data_later own d before s p r =
@@ -115,6 +117,7 @@ data_later own d before s p r =
       has_byte = λ room fit. r.has_byte room (omega arith);
     }
 
+-- an element between two parts of a list is in it
 member_seam : {A : Type 0} (xs : List A) (y : A) (ys : List A) → Member y (xs ++ y ∷ ys)
 member_seam [] y ys = inl refl
 member_seam (x ∷ xs) y ys = inr (member_seam xs y ys)
@@ -164,6 +167,7 @@ past_front [] ys i x le h = slice_get-member ys i x h
 past_front (y ∷ xs) ys zero x le h = absurd (omega arith)
 past_front (y ∷ xs) ys (suc i) x le h = past_front xs ys i x (omega arith) h
 
+-- each of them has granted bytes
 all_data : (ps : List Packet) (p : Packet) → AllData ps → Member p ps → IsData p
 all_data [] p a h = elim h [ ]
 all_data (q ∷ ps) p a (inl e) = subst IsData e a.0
@@ -194,6 +198,7 @@ IsSingle LongCts = Unit {0}
 IsSingle LongRead = Unit {0}
 IsSingle (Runt runt) = ⊥
 
+-- such a message has one opening
 single_length : (own : Own) (s : Sent) (kind : Kind) → IsSingle kind → length (openings own.limits s.message kind) ≡ 1
 unfolding openings
 single_length own s Eager i = refl

@@ -15,6 +15,7 @@ drop_there [] k x h = cc
 drop_there (y ∷ xs) zero x h = (xs, (let e : y ≡ x = cc in ap (λ (z : _). z ∷ xs) e))
 drop_there (y ∷ xs) (suc k) x h = drop_there xs k x h
 
+-- the sends from that number on begin with the one at its place
 from_number_at : (job : Job) (n : ℕ) (sents : List Sent) (s : Sent) → job.limits.first ≤ n → slice_get sents (n - job.limits.first) ≡ Some s
     → (rest : List Sent) × (from_number job n sents ≡ s ∷ rest)
 unfolding from_number

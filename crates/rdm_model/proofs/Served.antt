@@ -31,6 +31,7 @@ pub record NextSend (own : Own) (ms : Messages) (log : List Deed) (s : Sent) (p 
   pub next : next_packet own log s (pushed_of own ms log s.number) ≡ Some p
   pub no_reply : slice_get (progress own ms log).replies 0 ≡ None
 
+-- a turn that is a packet of a send
 pub next_send_turn : (own : Own) (ms : Messages) (log : List Deed) (s : Sent) (p : Packet) → turn own ms log ≡ Some (Sends s p) → NextSend own ms log s p
 next_send_turn own ms log s p h =
     elim (turn_cases own ms log (Sends s p) h) [
@@ -76,6 +77,7 @@ push_member own ms s p k [] h = elim h [ ]
 push_member own ms s p k (d ∷ before) (inl a) = member_later own ms d before s (next_send_turn own ms before s p a.1).member
 push_member own ms s p k (d ∷ before) (inr a) = member_later own ms d before s (push_member own ms s p k before a)
 
+-- the place of a push is below the count of deeds
 pub push_before : (own : Own) (ms : Messages) (t : Turn) (k : ℕ) (log : List Deed) → PushedAt own ms t k log → k < length log
 push_before own ms t k [] h = elim h [ ]
 push_before own ms t k (d ∷ before) (inl a) = let e = a.2 in omega arith
@@ -87,6 +89,7 @@ ServedAt own ms s p i k [] = ⊥
 ServedAt own ms s p i k (d ∷ before) =
     ((d ≡ Pushed) × (turn own ms before ≡ Some (Sends s p)) × (k ≡ length before) × (i ≡ length (pushed_of own ms before s.number))) ⊎ ServedAt own ms s p i k before
 
+-- each push of a send has a place among its packets
 pub served_at : (own : Own) (ms : Messages) (s : Sent) (p : Packet) (k : ℕ) (log : List Deed) → PushedAt own ms (Sends s p) k log → (i : ℕ) × ServedAt own ms s p i k log
 served_at own ms s p k [] h = elim h [ ]
 served_at own ms s p k (d ∷ before) (inl a) = (length (pushed_of own ms before s.number), inl (a.0, a.1, a.2, refl))
@@ -136,6 +139,7 @@ push_part own ms s p x k (d ∷ before) (inr a) c = push_part own ms s p x k bef
 abbrev pub done_bytes : Own → Messages → List Deed → ℕ → ℕ
 done_bytes own ms log n = piece_bytes (pieces_in (pushed_of own ms log n))
 
+-- no fewer bytes were pushed later
 done_rises : (own : Own) (ms : Messages) (d : Deed) (before : List Deed) (n : ℕ) → done_bytes own ms before n ≤ done_bytes own ms (d ∷ before) n
 done_rises own ms d before n =
     let more = pushed_longer own ms d before n in

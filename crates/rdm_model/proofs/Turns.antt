@@ -29,12 +29,14 @@ pub record SendTurn (own : Own) (log : List Deed) (packets : ℕ → List Packet
   pub live : is_over log (packets sent.number) sent ≡ false
   pub next : next_packet own log sent (packets sent.number) ≡ Some packet
 
+-- the turn is of this send or of the others
 send_turn_cases : (s : Sent) (o : Option Packet) (others : Option Turn) (t : Turn) → send_turn s o others ≡ Some t
     → ((p : Packet) × (o ≡ Some p) × (t ≡ Sends s p)) ⊎ (others ≡ Some t)
 unfolding send_turn
 send_turn_cases s None others t h = inr h
 send_turn_cases s (Some p) others t h = inl (p, refl, cc)
 
+-- a turn of the other sends is one of all
 later_send : (own : Own) (log : List Deed) (packets : ℕ → List Packet) (s : Sent) (ss : List Sent) (t : Turn) → SendTurn own log packets ss t → SendTurn own log packets (s ∷ ss) t
 later_send own log packets s ss t r =
     record { sent = r.sent; member = inr r.member; packet = r.packet; is = r.is; live = r.live; next = r.next }
@@ -55,6 +57,7 @@ next_send_is own log packets (s ∷ ss) t h =
       ]
     ]) refl h
 
+-- the turn is this reply, or of the sends
 reply_turn_cases : (o : Option Reply) (others : Option Turn) (t : Turn) → reply_turn o others ≡ Some t
     → ((r : Reply) × (o ≡ Some r) × (t ≡ Replies r)) ⊎ ((o ≡ None) × (others ≡ Some t))
 unfolding reply_turn
@@ -71,6 +74,7 @@ next_turn_cases own log sents p t h =
       | inr a ↦ inr (a.0, next_send_is own log p.packets sents t a.1)
     ]
 
+-- what is next is the first reply, or a packet of a live send
 pub turn_cases : (own : Own) (ms : Messages) (log : List Deed) (t : Turn) → turn own ms log ≡ Some t
     → ((r : Reply) × (slice_get (progress own ms log).replies 0 ≡ Some r) × (t ≡ Replies r))
     ⊎ ((slice_get (progress own ms log).replies 0 ≡ None) × SendTurn own log (progress own ms log).packets (sends own ms log) t)
@@ -88,6 +92,7 @@ pub record GrantedNext (own : Own) (gs : List Grant) (s : Sent) (pushed : List P
   pub bytes_are : bytes ≡ take (min (piece_bytes (pieces_in (openings own.limits s.message s.kind)) + grant_bytes gs - piece_bytes (pieces_in pushed)) (data_room own.limits)) (drop (piece_bytes (pieces_in pushed)) s.message.bytes)
   pub below : piece_bytes (pieces_in pushed) < piece_bytes (pieces_in (openings own.limits s.message s.kind)) + grant_bytes gs
 
+-- granted bytes that are next: the first grant names them
 data_is : (own : Own) (s : Sent) (allowed done : ℕ) (gs : List Grant) (p : Packet) → data_packet own s allowed done gs ≡ Some p
     → (g : Grant) × (rest : List Grant) × (gs ≡ g ∷ rest) × (p ≡ CtsData (op_id g.recv) done own.life.connid (take (min (allowed - done) (data_room own.limits)) (drop done s.message.bytes))) × (done < allowed)
 unfolding data_packet
@@ -100,6 +105,7 @@ data_is own s allowed done (g ∷ gs) p h =
       | false ↦ λ is k. cc
     ]) refl h
 
+-- only a long send has granted bytes next
 granted_is : (own : Own) (gs : List Grant) (s : Sent) (pushed : List Packet) (kind : Kind) (p : Packet) → s.kind ≡ kind → granted_packet own gs s pushed kind ≡ Some p → GrantedNext own gs s pushed p
 unfolding granted_packet
 granted_is own gs s pushed LongCts p e h =
@@ -118,10 +124,12 @@ IsData (CtsData recv offset connid bytes) = Unit {0}
 IsData (Eor send recv connid) = ⊥
 IsData (Handshake words connid) = ⊥
 
+-- all packets have granted bytes
 abbrev pub AllData : List Packet → Type 0
 AllData [] = Unit {0}
 AllData (p ∷ ps) = IsData p × AllData ps
 
+-- one more of them
 data_more : (ps : List Packet) (p : Packet) → AllData ps → IsData p → AllData (ps ++ p ∷ [])
 data_more [] p a d = (d, tt)
 data_more (q ∷ ps) p a d = (a.0, data_more ps p a.1 d)
@@ -137,19 +145,23 @@ NextOf own gs s pushed p =
     ((later : List Packet) × (openings own.limits s.message s.kind ≡ pushed ++ p ∷ later))
     ⊎ ((datas : List Packet) × (pushed ≡ openings own.limits s.message s.kind ++ datas) × AllData datas × GrantedNext own gs s pushed p)
 
+-- the element after the first ones
 slice_get_after : {A : Type 0} (xs ys : List A) → slice_get (xs ++ ys) (length xs) ≡ slice_get ys 0
 slice_get_after [] ys = refl
 slice_get_after (x ∷ xs) ys = slice_get_after xs ys
 
+-- there is no element past the end
 slice_get_longer : {A : Type 0} (xs ys : List A) → slice_get xs (length (xs ++ ys)) ≡ None
 slice_get_longer [] ys = refl
 slice_get_longer (x ∷ xs) ys = slice_get_longer xs ys
 
+-- the value is the first one, or the second where there is no first
 or_else_at : {A : Type 0} (x y : Option A) (a : A) → or_else x y ≡ Some a → (o : Option A) → x ≡ o → ((b : A) × (o ≡ Some b) × (a ≡ b)) ⊎ ((o ≡ None) × (y ≡ Some a))
 unfolding or_else
 or_else_at None y a h o e = inr (sym e, h)
 or_else_at (Some b) y a h o e = inl (b, sym e, cc)
 
+-- the next packet, where some of the openings were pushed
 next_by_openings : (own : Own) (gs : List Grant) (s : Sent) (pushed later : List Packet) (p : Packet) → openings own.limits s.message s.kind ≡ pushed ++ later
     → or_else (slice_get (openings own.limits s.message s.kind) (length pushed)) (granted_packet own gs s pushed s.kind) ≡ Some p → NextOf own gs s pushed p
 next_by_openings own gs s pushed [] p e h =
