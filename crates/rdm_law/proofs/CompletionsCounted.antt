@@ -84,9 +84,9 @@ ended_count own ms d before =
     let live' : Sent → Bool = λ s. not (is_over (d ∷ before) (pushed_of own ms (d ∷ before) s.number) s) in
     let after : Sent → Bool = λ x. list_any (λ (t : Sent). t.number == x.number) (filter live' sents) in
     let w = weaker live' after live sents (λ s m t. (
-        member_list_any (λ (t : Sent). t.number == s.number) s (filter live' sents) (filter-member live' s sents m t) (eq-eqb s.number s.number refl),
-        not_live (is_over (d ∷ before) (pushed_of own ms (d ∷ before) s.number) s) (is_over before (pushed_of own ms before s.number) s) (over_still own ms d before s) t,
-      )) in
+      member_list_any (λ (t : Sent). t.number == s.number) s (filter live' sents) (filter-member live' s sents m t) (eq-eqb s.number s.number refl),
+      not_live (is_over (d ∷ before) (pushed_of own ms (d ∷ before) s.number) s) (is_over before (pushed_of own ms before s.number) s) (over_still own ms d before s) t,
+    )) in
     let b = length-filter_both after (λ x. not (after x)) (λ x. refl) (filter live sents) in
     omega arith
 
@@ -105,13 +105,13 @@ live_count own ms d before =
     elim (sends_step own ms d before) [
       | inl same ↦ (let x = ap (λ (ss : List Sent). length (filter live' ss)) same in let y = ap length same in omega arith)
       | inr new ↦ (
-        let x = ap (λ (ss : List Sent). length (filter live' ss)) new.2 in
-        let z = ap length (filter-append live' (sends own ms before) (new.0 ∷ [])) in
-        let l = length-append (filter live' (sends own ms before)) (filter live' (new.0 ∷ [])) in
-        let f = filter_count live' (new.0 ∷ []) in
-        let y = ap length new.2 in
-        let m = length-append (sends own ms before) (new.0 ∷ []) in
-        omega arith)
+          let x = ap (λ (ss : List Sent). length (filter live' ss)) new.2 in
+          let z = ap length (filter-append live' (sends own ms before) (new.0 ∷ [])) in
+          let l = length-append (filter live' (sends own ms before)) (filter live' (new.0 ∷ [])) in
+          let f = filter_count live' (new.0 ∷ []) in
+          let y = ap length new.2 in
+          let m = length-append (sends own ms before) (new.0 ∷ []) in
+          omega arith)
     ]
 
 option_count : {A B : Type 0} (f : A → B) (o : Option A) → length (map f (option_to_list o)) ≤ 1

@@ -71,7 +71,7 @@ absent_at : (n : ℕ) (m k : Matching) → m ≡ k → Absent n m → Absent n k
 absent_at n m k e a = subst (λ (x : Matching). Absent n x) e a
 
 -- the matcher by what was heard before is that by what is heard now
-earlier_matching : (first : ℕ) (d : Deed) (before : List Deed) → matching first (heard_by first before).head before ≡ matching first (heard_by first (d ∷ before)).head before
+pub earlier_matching : (first : ℕ) (d : Deed) (before : List Deed) → matching first (heard_by first before).head before ≡ matching first (heard_by first (d ∷ before)).head before
 earlier_matching first d before = matching_same first (heard_by first before).head (heard_by first (d ∷ before)).head before (agree_grows first d before).heads
 
 -- a receive that was taken back is neither posted nor paired
