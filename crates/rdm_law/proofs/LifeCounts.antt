@@ -90,7 +90,7 @@ unfolding lives_of
 lives_distinct job [] = tt
 lives_distinct job (e ∷ before) = with_distinct e.port (deed_at job e) (lives_of job before) (lives_distinct job before)
 
-with_keeps : (port : PortNo) (d : Deed) (ls : List Life) (l : Life) → Member l ls → Member l (with_life port d ls)
+pub with_keeps : (port : PortNo) (d : Deed) (ls : List Life) (l : Life) → Member l ls → Member l (with_life port d ls)
 unfolding with_life
 with_keeps port (Did (OpenLife c)) ls l m =
     elim (list_any (same_life (life port c)) ls) as (λ b. Member l (cond b ls (life port c ∷ ls))) [ true ↦ m | false ↦ inr m ]
