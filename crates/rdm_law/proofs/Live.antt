@@ -48,7 +48,7 @@ withdraws m bound n r numbered f =
     )
 
 -- a cancel that did is of a posted receive
-did_posted : (s : Scene) (recv : RecvNo) (what : DidWhat) → answer_of s (Cancel recv) ≡ DidAnswer what → is_posted s recv.0 ≡ true
+pub did_posted : (s : Scene) (recv : RecvNo) (what : DidWhat) → answer_of s (Cancel recv) ≡ DidAnswer what → is_posted s recv.0 ≡ true
 unfolding answer_of first_case
 did_posted s recv what h =
     (elim (is_posted s recv.0) as (λ b. cond (not b) (Refused NotPosted) (DidAnswer Plain) ≡ DidAnswer what → b ≡ true) [
@@ -57,7 +57,7 @@ did_posted s recv what h =
     ]) h
 
 -- a posted receive is found
-posted_recv : (s : Scene) (n : ℕ) → is_posted s n ≡ true → (r : PostedRecv) × (find (is_recv n) (matching s.own.limits.first s.ms.head s.log).posted ≡ Some r)
+pub posted_recv : (s : Scene) (n : ℕ) → is_posted s n ≡ true → (r : PostedRecv) × (find (is_recv n) (matching s.own.limits.first s.ms.head s.log).posted ≡ Some r)
 unfolding is_posted
 posted_recv s n h = some_of (find (is_recv n) (matching s.own.limits.first s.ms.head s.log).posted) h
 
