@@ -76,7 +76,7 @@ total_rises own ms d before ss =
     (λ s m. let r = pushed_longer own ms d before s.number in let e = ap length r.1 in let l = length-append (pushed_of own ms before s.number) r.0 in omega arith)
 
 -- a push of a packet adds one to the packets of its send
-total_more : (f g : Sent → ℕ) (s : Sent) (ss : List Sent) → ((t : Sent) → f t ≤ g t) → f s + 1 ≤ g s → Member s ss → total f ss + 1 ≤ total g ss
+pub total_more : (f g : Sent → ℕ) (s : Sent) (ss : List Sent) → ((t : Sent) → f t ≤ g t) → f s + 1 ≤ g s → Member s ss → total f ss + 1 ≤ total g ss
 unfolding total
 total_more f g s [] h k m = elim m [ ]
 total_more f g s (t ∷ ts) h k (inl e) =
