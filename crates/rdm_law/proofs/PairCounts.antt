@@ -103,9 +103,9 @@ items_counted own heads p (d ∷ before) =
     let items = items_length own heads d before p in
     let g = granted_step own.limits heads d before p in
     let c = count_step (there own heads p before) (there own heads p (d ∷ before)) (is_filled own.limits.first heads before p) (is_filled own.limits.first heads (d ∷ before) p)
-      (item_count own heads p before) (length (pair_items own heads d before p)) (length (asks_for (shape_in heads p) (recv_in p))) (length (end_for own (shape_in heads p) (recv_in p)))
-      (window own.limits heads (d ∷ before) p (granted_bytes own.limits heads before p)) (granted_bytes own.limits heads before p)
-      (λ h. is_pair_still own.limits.first heads d before p.recv.id.0 p.message.life p.message.no.0 h) (λ h. filled_still own.limits.first heads d before p h) old items in
+    (item_count own heads p before) (length (pair_items own heads d before p)) (length (asks_for (shape_in heads p) (recv_in p))) (length (end_for own (shape_in heads p) (recv_in p)))
+    (window own.limits heads (d ∷ before) p (granted_bytes own.limits heads before p)) (granted_bytes own.limits heads before p)
+    (λ h. is_pair_still own.limits.first heads d before p.recv.id.0 p.message.life p.message.no.0 h) (λ h. filled_still own.limits.first heads d before p h) old items in
     omega arith
 
 -- the windows of a message lie in it
