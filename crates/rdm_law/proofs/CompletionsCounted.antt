@@ -1,5 +1,5 @@
 -- Each send and each receive completes once at most.
-use Rattle.std.proofs.Common.{◌≡◌, ℕ, zero, suc, ◌+◌, ◌<◌, ◌≤◌, Bool, true, false, cond, ◌&&◌, not, List, [], ◌∷◌, ◌++◌, map, length, Option, Some, None, refl, arith, ◌⊎◌, inl, inr, sym, ◌∙◌, ap, subst}
+use Rattle.std.proofs.Common.{◌≡◌, ◌+◌, ◌≤◌, Bool, true, false, cond, not, List, [], ◌∷◌, ◌++◌, map, length, Option, Some, None, refl, arith, inl, inr, sym, ap, subst}
 use Rattle.std.specs.Prelude.{◌==◌, ◌||◌, filter, option_to_list}
 use Rattle.std.specs.List.{list_any}
 use Rattle.std.proofs.lemmas.Bool.{or_left, or_right, or_cases, eq-eqb, not-true}
@@ -9,8 +9,6 @@ use Rattle.std.proofs.lemmas.List.Filters.{length-filter_both}
 use Rattle.rdm_num.specs.Lists.{Member}
 use Rattle.rdm_num.specs.Lives.{same_life}
 use Rattle.rdm_num.specs.Pieces.{covers}
-use Rattle.rdm_num.specs.declared.numbers.Life.{Life}
-use Rattle.rdm_num.specs.declared.completion.Completion.{Completion}
 use Rattle.rdm_num.specs.declared.completion.Completion.TheVariants.{Recv as RecvCompletion}
 use Rattle.rdm_pkt.specs.declared.Packet.{Packet}
 use Rattle.rdm_model.specs.Deeds.{Deed}
@@ -19,7 +17,7 @@ use Rattle.rdm_model.specs.Currents.{is_forgotten, forgotten_by}
 use Rattle.rdm_model.specs.Matches.{Receive, receives}
 use Rattle.rdm_model.specs.Receives.{RecvEnd, ended_recv, recv_ends, recv_ends_by, with_recv_ends, receive_numbered}
 use Rattle.rdm_model.specs.Sends.{Sent, sends}
-use Rattle.rdm_model.specs.Turns.{Progress, progress, pieces_in, is_read, is_pushed, is_over, ends_send, live_of, live_sends}
+use Rattle.rdm_model.specs.Turns.{progress, pieces_in, is_read, is_pushed, is_over, ends_send, live_of, live_sends}
 use Rattle.rdm_model.specs.Completions.{outcome, recv_completion, recv_completions, ended_sends, send_completion, completions_by, completions}
 use Rattle.rdm_model.proofs.Members.{member_list_any, filter-member}
 use Rattle.rdm_model.proofs.SameReceives.{covers_more}

@@ -1,8 +1,8 @@
 -- What a life owes: a greeting to each life that it took something from, what its pairs owe, and an answer to each ask.
-use Rattle.std.proofs.Common.{◌≡◌, ℕ, zero, suc, ◌+◌, ◌-◌, ◌<◌, ◌≤◌, min, max, Bool, true, false, cond, List, [], ◌∷◌, ◌++◌, length, map, Option, Some, None, refl, arith, ◌⊎◌, inl, inr, sym, ◌∙◌, ap, subst}
-use Rattle.std.specs.Prelude.{◌==◌, find}
+use Rattle.std.proofs.Common.{◌≡◌, ℕ, zero, suc, ◌+◌, ◌-◌, ◌≤◌, min, max, Bool, true, false, cond, List, [], ◌∷◌, ◌++◌, length, Option, Some, None, refl, arith, ◌∙◌, ap}
+use Rattle.std.specs.Prelude.{◌==◌}
 use Rattle.std.specs.List.{flat_map}
-use Rattle.std.proofs.lemmas.Bool.{eqb-false, cases_lt}
+use Rattle.std.proofs.lemmas.Bool.{eqb-false}
 use Rattle.std.proofs.lemmas.List.{length-append, length-map}
 use Rattle.rdm_num.specs.Lists.{Member}
 use Rattle.rdm_num.specs.declared.numbers.Life.{Life}
@@ -13,21 +13,21 @@ use Rattle.rdm_num.specs.declared.head.Head.{Head}
 use Rattle.rdm_num.specs.declared.head.Shape.{Shape}
 use Rattle.rdm_pkt.specs.declared.Kind.{Kind}
 use Rattle.rdm_pkt.specs.declared.Kind.TheVariants.{Eager, Medium, LongCts, LongRead, Runt}
-use Rattle.rdm_pkt.specs.Openings.{Message, message_head, shape_by}
+use Rattle.rdm_pkt.specs.Openings.{Message, shape_by}
 use Rattle.rdm_match.specs.Matcher.{Pair, is_pair}
 use Rattle.rdm_wire.specs.declared.ReadAsk.{ReadAsk}
 use Rattle.rdm_model.specs.declared.job.Job.{Job}
 use Rattle.rdm_model.specs.declared.entry.Entry.{Entry}
-use Rattle.rdm_model.specs.Deeds.{Deed, Did, PushedNote, Pushed, TookNote, Took, Polled, Nothing, Item, Spelled, Asks, Gives, Garbled, deed_count}
+use Rattle.rdm_model.specs.Deeds.{Deed, Did, PushedNote, Pushed, TookNote, Took, Polled, Nothing, Spelled, Asks, Gives, Garbled, deed_count}
 use Rattle.rdm_model.specs.Owns.{Own, Heads, Messages, own_of}
-use Rattle.rdm_model.specs.Matches.{matching, pairs}
+use Rattle.rdm_model.specs.Matches.{pairs}
 use Rattle.rdm_model.specs.Reads.{ask_room, asks_in, asks_from}
-use Rattle.rdm_model.specs.Replies.{Reply, reply, handshake_by, asks_for, pair_items, pair_replies, given_of, given_by, replies_by}
+use Rattle.rdm_model.specs.Replies.{reply, handshake_by, asks_for, pair_items, pair_replies, given_of, given_by, replies_by}
 use Rattle.rdm_model.specs.Sends.{Sent, sends}
 use Rattle.rdm_model.specs.Lawful.{life_deeds}
 use Rattle.rdm_model.proofs.Matches.{pairs_extend, member_is_pair}
 use Rattle.rdm_law.proofs.Wired.{Played}
-use Rattle.rdm_law.proofs.Known.{account, sends_of}
+use Rattle.rdm_law.proofs.Known.{account}
 use Rattle.rdm_law.proofs.Named.{pairs_of, pair_known, head_length, head_shape}
 use Rattle.rdm_law.proofs.Asks.{iov_bytes}
 use Rattle.rdm_law.proofs.ClassKeys.{sent_size}
@@ -43,6 +43,7 @@ unfolding total
 flat_length f [] = refl
 flat_length f (x ∷ xs) = let l = length-append (f x) (flat_map f xs) in let r = flat_length f xs in omega arith
 
+-- one ask has one answer at most
 given_one : (from : Life) (a : ReadAsk) (o : Option Sent) → length (given_of from a o) ≤ 1
 unfolding given_of
 given_one from a None = omega arith
@@ -62,6 +63,7 @@ given_count sents (TookNote from note) = omega arith
 given_count sents Polled = omega arith
 given_count sents Nothing = omega arith
 
+-- what a deed makes owed
 replies_count : (own : Own) (heads : Heads) (sents : List Sent) (d : Deed) (before : List Deed)
     → length (replies_by own heads sents d before) ≤ length (seen_new before d) + total (λ p. length (pair_items own heads d before p)) (pairs own.limits.first heads (d ∷ before)) + is_ask d
 unfolding replies_by pair_replies
@@ -77,6 +79,7 @@ replies_count own heads sents d before =
     let a = given_count sents d in
     omega arith
 
+-- a pair that is there owes what a deed makes it owe
 item_step : (own : Own) (heads : Heads) (d : Deed) (before : List Deed) (p : Pair) → Member p (pairs own.limits.first heads (d ∷ before))
     → item_count own heads p before + length (pair_items own heads d before p) ≤ item_count own heads p (d ∷ before)
 unfolding item_count
@@ -86,6 +89,7 @@ item_step own heads d before p m =
     ap (λ (b : Bool). cond b (length (pair_items own heads d before p)) 0) is in
     omega arith
 
+-- and so do all pairs together
 pairs_step : (own : Own) (heads : Heads) (d : Deed) (before : List Deed)
     → total (λ p. item_count own heads p before) (pairs own.limits.first heads before) + total (λ p. length (pair_items own heads d before p)) (pairs own.limits.first heads (d ∷ before))
     ≤ total (λ p. item_count own heads p (d ∷ before)) (pairs own.limits.first heads (d ∷ before))
@@ -111,6 +115,7 @@ owed_by own ms (d ∷ before) =
     let p = pairs_step own ms.head d before in
     omega arith
 
+-- a part with a byte leaves less
 some_left : (left n : ℕ) → (left ≡ 0 → ⊥) → n ≤ left - min left ask_room → suc n ≤ left
 some_left zero n h le = absurd (h refl)
 some_left (suc left) n h le = omega arith
@@ -128,6 +133,7 @@ asks_in_count (suc fuel) send recv e into at left =
       | false ↦ λ is. some_left left (length (asks_in fuel send recv e (into + len) (at + len) (left - len))) (eqb-false left 0 is) rest
     ]) refl
 
+-- asks of a read list are no more than its bytes
 asks_count : (send recv : OpId) (iov : List IovEntry) (begin from : ℕ) → length (asks_from send recv iov begin from) ≤ iov_bytes iov
 unfolding asks_from iov_bytes
 asks_count send recv [] begin from = omega arith
@@ -138,6 +144,7 @@ asks_count send recv (e ∷ es) begin from =
     let l = length-append (asks_in (begin + e.length - start) send recv e (start - begin) start (begin + e.length - start)) (asks_from send recv es (begin + e.length) from) in
     omega arith
 
+-- and so are those of any message
 asks_of_shape : (limits : EpLimits) (m : Message) (kind : Kind) (recv : OpId) → length (asks_for (shape_by limits m kind) recv) ≤ iov_bytes m.iov
 unfolding asks_for shape_by
 asks_of_shape limits m LongRead recv = asks_count m.send recv m.iov 0 0

@@ -71,6 +71,7 @@ abbrev HasByte : Packet → Type 0
 HasByte (CtsData recv offset connid bytes) = 0 < length bytes
 HasByte _ = ⊥
 
+-- one more of them
 one_count : (p : Packet) (ps : List Packet) → HasByte p → length ps ≤ piece_bytes (pieces_in ps) → length (p ∷ ps) ≤ piece_bytes (pieces_in (p ∷ ps))
 unfolding pieces_in piece_bytes packet_piece
 one_count (CtsData recv offset connid bytes) ps h le = omega arith
@@ -87,6 +88,7 @@ bytes_count (p ∷ ps) h =
     let rest = bytes_count ps (λ q m. h q (inr m)) in
     one_count p ps (h p (inl refl)) rest
 
+-- each of them has granted bytes
 all_data : (ps : List Packet) (p : Packet) → AllData ps → Member p ps → IsData p
 all_data [] p a h = elim h [ ]
 all_data (q ∷ ps) p a (inl e) = subst IsData e a.0

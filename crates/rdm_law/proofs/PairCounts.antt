@@ -1,27 +1,24 @@
 -- What a pair owes: its asks once, a grant for each window, an end once.
-use Rattle.std.proofs.Common.{◌≡◌, ℕ, zero, suc, ◌+◌, ◌-◌, ◌<◌, ◌≤◌, min, Bool, true, false, cond, not, ◌&&◌, List, [], ◌∷◌, ◌++◌, length, map, Option, Some, None, refl, arith, ◌⊎◌, inl, inr, sym, ◌∙◌, ap, subst}
+use Rattle.std.proofs.Common.{◌≡◌, ℕ, ◌+◌, ◌≤◌, Bool, true, false, cond, not, ◌&&◌, List, [], ◌∷◌, ◌++◌, length, map, refl, arith, ◌⊎◌, inl, inr, ◌∙◌, ap}
 use Rattle.std.specs.Prelude.{nat_lt}
-use Rattle.std.proofs.lemmas.Bool.{cases_lt, cases_Bool, ltb-true, lt-ltb, and_parts, false_from_ne_true}
+use Rattle.std.proofs.lemmas.Bool.{cases_lt, ltb-true}
 use Rattle.std.proofs.lemmas.List.{length-append, length-map}
-use Rattle.rdm_num.specs.Lists.{Member}
 use Rattle.rdm_num.specs.declared.numbers.OpId.{OpId}
 use Rattle.rdm_num.specs.declared.limits.EpLimits.{EpLimits}
-use Rattle.rdm_num.specs.declared.head.Head.{Head}
 use Rattle.rdm_num.specs.declared.head.Shape.{Shape}
 use Rattle.rdm_num.specs.declared.head.Shape.TheVariants.{Eager, Medium, LongCts, LongRead, Runt}
 use Rattle.rdm_match.specs.Matcher.{Pair, is_pair}
-use Rattle.rdm_wire.specs.declared.ReadAsk.{ReadAsk}
 use Rattle.rdm_model.specs.Deeds.{Deed, Item, Asks, Spelled}
 use Rattle.rdm_pkt.specs.declared.Packet.TheVariants.{Cts}
 use Rattle.rdm_model.specs.Owns.{Own, Heads}
-use Rattle.rdm_model.specs.Matches.{matching, pairs}
+use Rattle.rdm_model.specs.Matches.{pairs}
 use Rattle.rdm_model.specs.Receives.{is_filled}
-use Rattle.rdm_model.specs.Grants.{window_of, window, with_window, granted_bytes}
+use Rattle.rdm_model.specs.Grants.{window, with_window, granted_bytes}
 use Rattle.rdm_model.specs.Replies.{asks_for, grant_for, end_for, pair_items}
 use Rattle.rdm_model.proofs.Matches.{is_pair_still}
 use Rattle.rdm_model.proofs.SameReceives.{filled_still}
 use Rattle.rdm_law.proofs.Owed.{shape_in, recv_in}
-use Rattle.rdm_law.proofs.Windows.{IsWindow, is_window}
+use Rattle.rdm_law.proofs.Windows.{is_window}
 
 -- the pair is there
 abbrev there : Own → Heads → Pair → List Deed → Bool
@@ -70,6 +67,7 @@ items_length own heads d before p =
     let e = cond_length over (end_for own (shape_in heads p) (recv_in p)) in
     omega arith
 
+-- a deed adds its window
 granted_step : (limits : EpLimits) (heads : Heads) (d : Deed) (before : List Deed) (p : Pair)
     → granted_bytes limits heads (d ∷ before) p ≡ granted_bytes limits heads before p + window limits heads (d ∷ before) p (granted_bytes limits heads before p)
 unfolding granted_bytes with_window
@@ -132,10 +130,12 @@ none_granted limits heads (d ∷ before) p h =
       | inr none ↦ omega arith
     ]
 
+-- a part that may be left out
 cond_less : (b : Bool) (n : ℕ) → cond b n 0 ≤ n
 cond_less true n = omega arith
 cond_less false n = omega arith
 
+-- a message owes one end at most
 ends_one : (own : Own) (shape : Shape) (recv : OpId) → length (end_for own shape recv) ≤ 1
 unfolding end_for
 ends_one own (LongRead send iov) recv = omega arith
@@ -144,6 +144,7 @@ ends_one own Eager recv = omega arith
 ends_one own Medium recv = omega arith
 ends_one own (LongCts send credits) recv = omega arith
 
+-- a long message owes no asks and no end
 long_cases : (shape : Shape) (own : Own) (recv : OpId) → ((send : OpId) × (credits : ℕ) × (shape ≡ LongCts send credits) × (asks_for shape recv ≡ []) × (end_for own shape recv ≡ []))
     ⊎ ((send : OpId) (credits : ℕ) → shape ≡ LongCts send credits → ⊥)
 unfolding asks_for end_for

@@ -29,6 +29,7 @@ abbrev AllTurned : Own → Messages → List Deed → Type 0
 AllTurned own ms [] = Unit {0}
 AllTurned own ms (d ∷ before) = AllTurned own ms before × (d ≡ Pushed → (t : Turn) × (turn own ms before ≡ Some t))
 
+-- so had each push of a life
 all_turned : (own : Own) (ms : Messages) (log : List Deed) → LifeLocal own log → Agree own.limits.first (heard_by own.limits.first log) ms log → AllTurned own ms log
 all_turned own ms [] local g = tt
 all_turned own ms (d ∷ before) local g =
@@ -50,6 +51,7 @@ filter_less p (x ∷ xs) =
     let r = filter_less p xs in
     elim (p x) as (λ b. length (cond b (x ∷ filter p xs) (filter p xs)) ≤ length (x ∷ xs)) [ true ↦ omega arith | false ↦ omega arith ]
 
+-- no more replies stay
 kept_less : (before : List Deed) (d : Deed) (rs : List Reply) → length (without_forgotten before d rs) ≤ length rs
 unfolding without_forgotten without_lives
 kept_less before d rs = filter_less (λ (r : Reply). not (list_any (same_life r.to) (forgotten_by before d))) rs
@@ -65,6 +67,7 @@ waits_step own ms d before =
     let l = length-append kept (replies_by own ms.head (sends own ms before) d before) in
     omega arith
 
+-- a deed adds what it makes owed
 owed_step : (own : Own) (ms : Messages) (d : Deed) (before : List Deed) → length (owed own ms (d ∷ before)) ≡ length (owed own ms before) + length (replies_by own ms.head (sends own ms before) d before)
 unfolding owed
 owed_step own ms d before = length-append (owed own ms before) (replies_by own ms.head (sends own ms before) d before)
@@ -85,10 +88,12 @@ total_more f g s (t ∷ ts) h k (inl e) =
     omega arith
 total_more f g s (t ∷ ts) h k (inr m) = let a = h t in let b = total_more f g s ts h k m in omega arith
 
+-- a list with a first element is not empty
 first_some : {A : Type 0} (xs : List A) (x : A) → slice_get xs 0 ≡ Some x → 0 < length xs
 first_some [] x h = cc
 first_some (y ∷ ys) x h = omega arith
 
+-- what is left after a push
 after_at : (own : Own) (ms : Messages) (before : List Deed) (t : Turn) → turn own ms before ≡ Some t → after_push own ms before Pushed (progress own ms before) ≡ after_turn (Some t) (progress own ms before)
 unfolding after_push turn
 after_at own ms before t h = ap (λ (o : Option Turn). after_turn o (progress own ms before)) h
@@ -135,14 +140,17 @@ still_waits own ms (Took from item) before = inr (refl, refl)
 still_waits own ms Polled before = inr (refl, refl)
 still_waits own ms Nothing before = inr (refl, refl)
 
+-- a push counts once
 pushes_one : (before : List Deed) → deed_count is_push' (Pushed ∷ before) ≡ deed_count is_push' before + 1
 unfolding deed_count is_push'
 pushes_one before = refl
 
+-- nothing else counts
 pushes_none : (d : Deed) (before : List Deed) → is_push' d ≡ 0 → deed_count is_push' (d ∷ before) ≡ deed_count is_push' before
 unfolding deed_count
 pushes_none d before h = omega arith
 
+-- a deed keeps the count
 counted_step : (own : Own) (ms : Messages) (d : Deed) (before : List Deed) → (d ≡ Pushed → (t : Turn) × (turn own ms before ≡ Some t))
     → deed_count is_push' before + length (progress own ms before).replies ≤ length (owed own ms before) + packet_total own ms before (sends own ms before)
     → length (progress own ms (d ∷ before)).replies ≤ length (after_push own ms before d (progress own ms before)).replies + length (replies_by own ms.head (sends own ms before) d before)

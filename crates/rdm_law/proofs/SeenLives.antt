@@ -1,8 +1,7 @@
 -- The lives from which a life took something, each once.
-use Rattle.std.proofs.Common.{◌≡◌, ℕ, zero, suc, ◌+◌, ◌<◌, ◌≤◌, Bool, true, false, cond, List, [], ◌∷◌, ◌++◌, length, Option, Some, None, refl, arith, ◌⊎◌, inl, inr, sym, ◌∙◌, ap, subst}
+use Rattle.std.proofs.Common.{◌≡◌, ℕ, zero, suc, true, false, cond, List, [], ◌∷◌, ◌++◌, length, Some, refl, arith, inl, inr, ap, subst}
 use Rattle.std.specs.Prelude.{slice_get}
 use Rattle.std.specs.List.{list_any}
-use Rattle.std.proofs.lemmas.List.{length-append, append-nil}
 use Rattle.rdm_num.specs.Lists.{Member}
 use Rattle.rdm_num.specs.declared.numbers.Life.{Life}
 use Rattle.rdm_model.specs.Deeds.{Deed, Did, PushedNote, Pushed, TookNote, Took, Polled, Nothing, Item, Spelled}
@@ -63,14 +62,17 @@ seen_took (d ∷ before) l m =
       | inr a ↦ (let r = seen_is before d l a in (r.0, inl r.1))
     ]
 
+-- what is taken from a life is from it
 took_from : (l : Life) (item : Item) → is_from l (Took l item) ≡ true
 unfolding is_from
 took_from l item = same_life-refl l
 
+-- a list of one has one place
 only_first : (x : Life) (k : ℕ) (l : Life) → slice_get (x ∷ []) k ≡ Some l → k ≡ 0
 only_first x zero l h = refl
 only_first x (suc k) l h = cc
 
+-- what a deed sees first stands alone
 new_at : (before : List Deed) (d : Deed) (k : ℕ) (l : Life) → slice_get (seen_new before d) k ≡ Some l → k ≡ 0
 unfolding seen_new
 new_at before (Took from item) k l h =
@@ -85,6 +87,7 @@ new_at before (TookNote from note) k l h = cc
 new_at before Polled k l h = cc
 new_at before Nothing k l h = cc
 
+-- nothing is seen first twice
 old_new : (before : List Deed) (d : Deed) (i k : ℕ) (l : Life) → slice_get (seen_lives before) i ≡ Some l → slice_get (seen_new before d) k ≡ Some l → ⊥
 old_new before d i k l g h =
     let t = seen_took before l (slice_get-member (seen_lives before) i l g) in
