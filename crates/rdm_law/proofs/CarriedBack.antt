@@ -1,10 +1,8 @@
 -- The bytes of what a life took are among the pieces that came of the message.
-use Rattle.std.proofs.Common.{◌≡◌, ℕ, zero, suc, Bool, true, false, cond, not, ◌&&◌, List, [], ◌∷◌, ◌++◌, length, Option, Some, None, refl, ◌⊎◌, inl, inr, sym, ◌∙◌, ap, subst}
-use Rattle.std.specs.Prelude.{◌==◌, option_to_list}
-use Rattle.std.specs.Bool.{then_some}
-use Rattle.std.proofs.lemmas.Bool.{eq-eqb, cases_Bool}
+use Rattle.std.proofs.Common.{◌≡◌, ℕ, Bool, true, false, not, List, [], ◌∷◌, Option, Some, None, refl, inl, inr, sym, ◌∙◌, ap, subst}
+use Rattle.std.specs.Prelude.{option_to_list}
+use Rattle.std.proofs.lemmas.Bool.{eq-eqb}
 use Rattle.rdm_num.specs.Lists.{Member}
-use Rattle.rdm_num.specs.Lives.{same_life}
 use Rattle.rdm_num.specs.Pieces.{Piece}
 use Rattle.rdm_num.specs.declared.numbers.Life.{Life}
 use Rattle.rdm_num.specs.declared.numbers.MsgNo.{MsgNo}
@@ -18,8 +16,8 @@ use Rattle.rdm_pkt.specs.Heads.{piece_of}
 use Rattle.rdm_match.specs.Matcher.{Pair, is_pair}
 use Rattle.rdm_wire.specs.declared.ReadData.{ReadData}
 use Rattle.rdm_model.specs.Deeds.{Deed, Took, Item, Spelled, Gives}
-use Rattle.rdm_model.specs.Owns.{Own, Heads, Messages}
-use Rattle.rdm_model.specs.Matches.{matching, pairs}
+use Rattle.rdm_model.specs.Owns.{Own, Heads}
+use Rattle.rdm_model.specs.Matches.{pairs}
 use Rattle.rdm_model.specs.Parts.{piece_by, carried_by, carried_pieces}
 use Rattle.rdm_model.specs.Named.{live_pair, has_shape, is_long_shape, is_read_shape, is_no_op}
 use Rattle.rdm_model.specs.Scenes.{Scene}
@@ -27,11 +25,10 @@ use Rattle.rdm_model.specs.Local.{heard_by}
 use Rattle.rdm_model.proofs.Members.{member-append_left, member-append_right, same_life-refl}
 use Rattle.rdm_model.proofs.Matches.{pair_still, pair_passes, heard_still}
 use Rattle.rdm_model.proofs.SameMatches.{HeadsAgree, matching_same}
-use Rattle.rdm_model.proofs.SameRegions.{Agree, agree_before}
 use Rattle.rdm_model.proofs.Grows.{agree_grows}
 use Rattle.rdm_law.proofs.Lives.{life_scene, LifeStep, LifeLocal}
 use Rattle.rdm_law.proofs.Classed.{IsTaken, taken_parts}
-use Rattle.rdm_law.proofs.Landed.{LivePair, live_pair_parts}
+use Rattle.rdm_law.proofs.Landed.{live_pair_parts}
 
 -- the pair of a receive for a message of that life
 pub record PairOf (first : ℕ) (heads : Heads) (log : List Deed) (from : Life) (recv : ℕ) : Type 0 where

@@ -65,7 +65,7 @@ asked_by_cases peer send (Took from (Asks ask)) =
 asked_by_cases peer send _ = inl refl
 
 -- no two asks of a send share a byte
-asks_all_apart : (log : List Deed) (peer : Life) (send : ℕ) → AsksApart log → AllApart (asks_of log peer send)
+pub asks_all_apart : (log : List Deed) (peer : Life) (send : ℕ) → AsksApart log → AllApart (asks_of log peer send)
 unfolding asks_of
 asks_all_apart [] peer send a = tt
 asks_all_apart (d ∷ before) peer send a =
@@ -110,7 +110,7 @@ sent_within job history j s m =
     subst (λ (k : Kind). read_from k ≤ length s.message.bytes) (sym is.4) (read_within (length s.message.bytes) _ _ _ _ _ _)
 
 -- an ask of a send lies in what is read of its message
-ask_in : (job : Job) (history : List Entry) (i j : Life) (s : Sent) (a : ReadAsk) → Played job history → Member s (sends_of job history j) → AskKnown job history i j s a
+pub ask_in : (job : Job) (history : List Entry) (i j : Life) (s : Sent) (a : ReadAsk) → Played job history → Member s (sends_of job history j) → AskKnown job history i j s a
     → (read_from s.kind ≤ a.at) × (a.at + a.length ≤ length s.message.bytes) × (0 < a.length)
 ask_in job history i j s a played m k =
     let e = sent_size job history j s played m in

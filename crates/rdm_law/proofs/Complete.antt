@@ -1,17 +1,14 @@
 -- At a settled end all is complete between standing lives.
-use Rattle.std.proofs.Common.{◌≡◌, ℕ, zero, suc, ◌+◌, ◌-◌, ◌<◌, ◌≤◌, Bool, true, false, cond, not, ◌&&◌, ◌||◌, List, [], ◌∷◌, ◌++◌, length, min, take, drop, Option, Some, None, refl, arith, ◌⊎◌, inl, inr, sym, ◌∙◌, ap, subst}
-use Rattle.std.specs.Prelude.{is_some, ◌==◌, nat_lt}
-use Rattle.std.specs.Bool.{IsTrue}
+use Rattle.std.proofs.Common.{◌≡◌, ℕ, ◌+◌, ◌-◌, ◌≤◌, Bool, true, false, cond, ◌||◌, List, [], ◌∷◌, length, min, take, drop, Option, Some, None, refl, arith, ◌⊎◌, inl, inr, sym, ◌∙◌, ap, subst}
+use Rattle.std.specs.Prelude.{nat_lt}
 use Rattle.std.specs.List.{list_any}
 use Rattle.std.proofs.lemmas.Bool.{or_cases, ltb-false}
-use Rattle.rdm_num.specs.Lists.{Member, or_else}
+use Rattle.rdm_num.specs.Lists.{Member}
 use Rattle.rdm_num.specs.Pieces.{covers, piece_bytes}
 use Rattle.rdm_num.specs.declared.numbers.Life.{Life}
 use Rattle.rdm_num.specs.declared.numbers.MsgNo.{MsgNo}
-use Rattle.rdm_num.specs.declared.numbers.SendNo.{SendNo}
 use Rattle.rdm_num.specs.declared.completion.Completion.{Completion}
 use Rattle.rdm_num.specs.declared.completion.Completion.TheVariants.{Send as SendCompletion}
-use Rattle.rdm_num.specs.declared.head.Head.{Head}
 use Rattle.rdm_pkt.specs.declared.Packet.{Packet}
 use Rattle.rdm_pkt.specs.declared.Kind.{Kind}
 use Rattle.rdm_pkt.specs.declared.Kind.TheVariants.{Eager, Medium, LongCts, LongRead, Runt}
@@ -21,36 +18,31 @@ use Rattle.rdm_model.specs.declared.job.Job.{Job}
 use Rattle.rdm_model.specs.declared.entry.Entry.{Entry}
 use Rattle.rdm_model.specs.declared.entry.Act.{Act}
 use Rattle.rdm_model.specs.Deeds.{Deed, log_of}
-use Rattle.rdm_model.specs.Owns.{Own, Messages, own_of, port_count}
-use Rattle.rdm_model.specs.Heard.{heard_head, is_heard}
-use Rattle.rdm_model.specs.Matches.{pairs}
+use Rattle.rdm_model.specs.Owns.{Own, own_of}
+use Rattle.rdm_model.specs.Heard.{heard_head}
 use Rattle.rdm_model.specs.Parts.{carried_pieces}
-use Rattle.rdm_model.specs.Receives.{RecvEnd, Filled, recv_ends, is_filled}
+use Rattle.rdm_model.specs.Receives.{RecvEnd, Filled}
 use Rattle.rdm_model.specs.Grants.{Grant, grants, grant_bytes, data_room}
-use Rattle.rdm_num.specs.Lives.{op_id, same_life}
+use Rattle.rdm_num.specs.Lives.{op_id}
 use Rattle.rdm_pkt.specs.declared.Packet.TheVariants.{CtsData}
-use Rattle.rdm_model.specs.Sends.{Sent, sends_to, sends}
+use Rattle.rdm_model.specs.Sends.{Sent, sends_to}
 use Rattle.rdm_model.specs.Currents.{is_forgotten}
-use Rattle.rdm_model.specs.Completions.{completions}
-use Rattle.rdm_model.specs.Turns.{pieces_in, data_packet, granted_packet, next_packet, is_read, is_over}
-use Rattle.rdm_model.specs.Jobs.{is_fair, law_ops}
+use Rattle.rdm_model.specs.Turns.{pieces_in, data_packet, granted_packet, next_packet, is_read}
 use Rattle.rdm_model.specs.Settled.{is_settled, next_completion_is_none, is_worn}
-use Rattle.rdm_model.specs.Steps.{clock, last_stamp}
-use Rattle.rdm_model.specs.Lawful.{life_deeds, sends_in, sent_to, sent_scene, Lawful}
-use Rattle.rdm_model.specs.Standing.{goes, drops_between, is_between, Standing, pairs_in, IsSendDone, MatchedIsComplete, AllPolled, EndsComplete}
+use Rattle.rdm_model.specs.Lawful.{life_deeds, sent_to, sent_scene}
+use Rattle.rdm_model.specs.Standing.{goes, drops_between, is_between, Standing, pairs_in, MatchedIsComplete, AllPolled}
 use Rattle.rdm_law.specs.Law.{Completes}
 use Rattle.rdm_model.proofs.SameMatches.{pairs_same}
 use Rattle.rdm_model.proofs.SameReceives.{recv_ends_same}
-use Rattle.rdm_model.proofs.SameRegions.{Agree}
 use Rattle.rdm_model.proofs.SameCompletions.{completions_same}
 use Rattle.rdm_model.proofs.Matches.{pair_heard}
 use Rattle.rdm_model.proofs.Opens.{openings_bytes}
 use Rattle.rdm_model.proofs.Turns.{Underway}
 use Rattle.rdm_model.proofs.Pushes.{pushed_of, underway}
 use Rattle.rdm_model.proofs.Served.{done_bytes}
-use Rattle.rdm_law.proofs.Wired.{Played, own_life}
+use Rattle.rdm_law.proofs.Wired.{own_life}
 use Rattle.rdm_law.proofs.Known.{account, sends_of, Known, known_one}
-use Rattle.rdm_law.proofs.Named.{pairs_of, PairKnown, pair_known}
+use Rattle.rdm_law.proofs.Named.{pairs_of}
 use Rattle.rdm_law.proofs.Sent.{agree_sent}
 use Rattle.rdm_law.proofs.SendsAre.{sends_are}
 use Rattle.rdm_law.proofs.Granted.{allowed_of, Granting}
@@ -63,7 +55,6 @@ use Rattle.rdm_law.proofs.NoneDropped.{none_dropped}
 use Rattle.rdm_law.proofs.LawfulPlayed.{lawful_played}
 use Rattle.rdm_law.proofs.ClassFree.{all_free}
 use Rattle.rdm_law.proofs.ClassOverlap.{pair_head}
-use Rattle.rdm_model.proofs.Members.{member-filter, same_life-true}
 use Rattle.rdm_model.specs.declared.entry.Act.TheVariants.{Handle}
 use Rattle.rdm_model.specs.declared.answer.Handled.TheVariants.{Dropped}
 use Rattle.rdm_law.proofs.Still.{quiet, not_worn}

@@ -1,12 +1,12 @@
 -- At a settled end a matched message between standing lives has come whole, and its send is over.
-use Rattle.std.proofs.Common.{◌≡◌, ℕ, zero, suc, ◌+◌, ◌-◌, ◌<◌, ◌≤◌, min, Bool, true, false, cond, not, ◌&&◌, ◌||◌, List, [], ◌∷◌, ◌++◌, length, take, Option, Some, None, refl, arith, ◌⊎◌, inl, inr, sym, ◌∙◌, ap, subst}
+use Rattle.std.proofs.Common.{◌≡◌, ℕ, ◌<◌, ◌≤◌, Bool, true, false, cond, ◌||◌, List, [], ◌∷◌, length, None, refl, arith, ◌⊎◌, inl, inr, sym, ◌∙◌, ap, subst}
 use Rattle.std.specs.Prelude.{is_some, ◌==◌}
 use Rattle.std.specs.List.{list_any}
-use Rattle.std.proofs.lemmas.Bool.{or_cases, or_right, and_from, cases_lt, eq-eqb, cases_Bool}
+use Rattle.std.proofs.lemmas.Bool.{or_cases, or_right, and_from, cases_lt, eq-eqb}
 use Rattle.std.proofs.lemmas.List.{length-take}
-use Rattle.rdm_num.specs.Lists.{Member, each_below}
+use Rattle.rdm_num.specs.Lists.{Member}
 use Rattle.rdm_num.specs.Lives.{same_life, op_id}
-use Rattle.rdm_num.specs.Pieces.{Piece, byte_at, covers}
+use Rattle.rdm_num.specs.Pieces.{byte_at, covers}
 use Rattle.rdm_num.specs.declared.numbers.Life.{Life}
 use Rattle.rdm_num.specs.declared.numbers.OpId.{OpId}
 use Rattle.rdm_num.specs.declared.numbers.Connid.{Connid}
@@ -16,7 +16,7 @@ use Rattle.rdm_num.specs.declared.head.Shape.{Shape}
 use Rattle.rdm_pkt.specs.declared.Packet.TheVariants.{Eor}
 use Rattle.rdm_pkt.specs.declared.Kind.{Kind}
 use Rattle.rdm_pkt.specs.declared.Kind.TheVariants.{Eager, Medium, LongCts, LongRead, Runt}
-use Rattle.rdm_pkt.specs.Openings.{Message, message_head, shape_by}
+use Rattle.rdm_pkt.specs.Openings.{Message, shape_by}
 use Rattle.rdm_match.specs.Matcher.{Pair, is_pair}
 use Rattle.rdm_model.specs.declared.job.Job.{Job}
 use Rattle.rdm_model.specs.declared.entry.Entry.{Entry}
@@ -24,7 +24,7 @@ use Rattle.rdm_model.specs.Deeds.{Deed, Took, Item, Spelled}
 use Rattle.rdm_model.specs.Owns.{Own, Messages, own_of}
 use Rattle.rdm_model.specs.Parts.{carried_pieces, has_landed}
 use Rattle.rdm_model.specs.Receives.{is_filled}
-use Rattle.rdm_model.specs.Replies.{Reply, reply, end_for}
+use Rattle.rdm_model.specs.Replies.{reply, end_for}
 use Rattle.rdm_model.specs.Sends.{Sent, sends}
 use Rattle.rdm_model.specs.Named.{read_from}
 use Rattle.rdm_model.specs.Currents.{is_forgotten}
@@ -37,17 +37,15 @@ use Rattle.rdm_model.proofs.Opens.{opened_bytes}
 use Rattle.rdm_model.proofs.Numbers.{sends_one}
 use Rattle.rdm_model.proofs.Pushes.{pushed_of, underway}
 use Rattle.rdm_model.proofs.Served.{done_bytes}
-use Rattle.rdm_law.proofs.Wired.{Played, own_life}
-use Rattle.rdm_law.proofs.Known.{account, sends_of, Known}
+use Rattle.rdm_law.proofs.Known.{account}
 use Rattle.rdm_law.proofs.Named.{pairs_of, send_number, head_length, head_shape}
 use Rattle.rdm_law.proofs.ClassAsks.{message_one}
-use Rattle.rdm_law.proofs.EndsKnown.{EndSend, end_taken}
+use Rattle.rdm_law.proofs.EndsKnown.{end_taken}
 use Rattle.rdm_law.proofs.Owed.{shape_in, recv_in}
-use Rattle.rdm_law.proofs.Meets.{Meet}
 use Rattle.rdm_law.proofs.AllEnters.{stands, rest_pushed}
 use Rattle.rdm_law.proofs.OwedBack.{end_owed}
-use Rattle.rdm_law.proofs.PushedLands.{pushed_landed, pushed_covers}
-use Rattle.rdm_law.proofs.WholePushed.{opened_done, IsAtOnce, at_once_done, whole_over, over_whole}
+use Rattle.rdm_law.proofs.PushedLands.{pushed_landed}
+use Rattle.rdm_law.proofs.WholePushed.{opened_done, IsAtOnce, at_once_done, whole_over}
 use Rattle.rdm_law.proofs.ReadLands.{Matched, rest_of, owed_taken, asked_landed}
 
 -- a matched message of which all bytes are there is filled

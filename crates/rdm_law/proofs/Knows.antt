@@ -143,7 +143,7 @@ life_at_port port None = refl
 life_at_port port (Some c) = refl
 
 -- a scene's port
-own_port : (job : Job) (port : ℕ) (log : List Deed) → (own_scene job port log).own.life.port.0 ≡ port
+pub own_port : (job : Job) (port : ℕ) (log : List Deed) → (own_scene job port log).own.life.port.0 ≡ port
 unfolding own_scene scene own_of
 own_port job port log = life_at_port port (open_life log)
 

@@ -48,7 +48,7 @@ withdraws m bound n r numbered f =
     )
 
 -- a cancel that did is of a posted receive
-did_posted : (s : Scene) (recv : RecvNo) (what : DidWhat) → answer_of s (Cancel recv) ≡ DidAnswer what → is_posted s recv.0 ≡ true
+pub did_posted : (s : Scene) (recv : RecvNo) (what : DidWhat) → answer_of s (Cancel recv) ≡ DidAnswer what → is_posted s recv.0 ≡ true
 unfolding answer_of first_case
 did_posted s recv what h =
     (elim (is_posted s recv.0) as (λ b. cond (not b) (Refused NotPosted) (DidAnswer Plain) ≡ DidAnswer what → b ≡ true) [
@@ -57,7 +57,7 @@ did_posted s recv what h =
     ]) h
 
 -- a posted receive is found
-posted_recv : (s : Scene) (n : ℕ) → is_posted s n ≡ true → (r : PostedRecv) × (find (is_recv n) (matching s.own.limits.first s.ms.head s.log).posted ≡ Some r)
+pub posted_recv : (s : Scene) (n : ℕ) → is_posted s n ≡ true → (r : PostedRecv) × (find (is_recv n) (matching s.own.limits.first s.ms.head s.log).posted ≡ Some r)
 unfolding is_posted
 posted_recv s n h = some_of (find (is_recv n) (matching s.own.limits.first s.ms.head s.log).posted) h
 
@@ -71,7 +71,7 @@ absent_at : (n : ℕ) (m k : Matching) → m ≡ k → Absent n m → Absent n k
 absent_at n m k e a = subst (λ (x : Matching). Absent n x) e a
 
 -- the matcher by what was heard before is that by what is heard now
-earlier_matching : (first : ℕ) (d : Deed) (before : List Deed) → matching first (heard_by first before).head before ≡ matching first (heard_by first (d ∷ before)).head before
+pub earlier_matching : (first : ℕ) (d : Deed) (before : List Deed) → matching first (heard_by first before).head before ≡ matching first (heard_by first (d ∷ before)).head before
 earlier_matching first d before = matching_same first (heard_by first before).head (heard_by first (d ∷ before)).head before (agree_grows first d before).heads
 
 -- a receive that was taken back is neither posted nor paired

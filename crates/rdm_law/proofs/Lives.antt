@@ -28,6 +28,8 @@ use Rattle.rdm_model.specs.Deeds.{Deed, Did, PushedNote, Pushed, TookNote, Took,
 use Rattle.rdm_model.specs.Owns.{Own, rank_of, port_count, life_at, own_of}
 use Rattle.rdm_model.specs.Notes.{OwedNote, next_note}
 use Rattle.rdm_model.specs.Turns.{Turn, turn}
+use Rattle.rdm_num.specs.declared.completion.Completion.{Completion}
+use Rattle.rdm_model.specs.Completions.{completions, poll_count}
 use Rattle.rdm_model.specs.Scenes.{Scene, scene, deeds_at}
 use Rattle.rdm_model.specs.Answers.{answer_of}
 use Rattle.rdm_model.specs.Going.{Going, GoesNote, Goes, turn_going, life_going, note_going, going, Bears, IsGoing, IsNext}
@@ -49,7 +51,7 @@ LifeStep own log (Took from item) =
     (ports : ℕ) × (port_log : List Deed) × (item_class (life_scene ports own port_log log) from own.life.connid item ≡ None)
 LifeStep own log PushedNote = Unit {0}
 LifeStep own log (TookNote from note) = Unit {0}
-LifeStep own log Polled = Unit {0}
+LifeStep own log Polled = (c : Completion) × (slice_get (completions own (heard_by own.limits.first log) log) (poll_count log) ≡ Some c)
 LifeStep own log Nothing = Unit {0}
 
 -- each deed is one that the life may do, by what it took itself
@@ -228,7 +230,7 @@ life_step job port connid ports port_log log before e (Next index op answer) p h
 life_step job port connid ports port_log log before e (Push d) p h = push_step ports (own_of job (life_of port connid)) port_log log d d.body refl h.3
 life_step job port connid ports port_log log before e (Handle d answer) p h =
     handle_step ports (own_of job (life_of port connid)) port_log log d d.body answer refl h.0
-life_step job port connid ports port_log log before e (Poll c) p h = tt
+life_step job port connid ports port_log log before e (Poll c) p h = (c, h)
 
 -- the deeds of each life are right by themselves
 pub life_local : (job : Job) (port : ℕ) (connid : Connid) (log : List Entry) → Local job port log

@@ -1,8 +1,8 @@
 -- At a settled end what one standing life pushed for the other was taken, but for packets of messages that were not heard of.
-use Rattle.std.proofs.Common.{◌≡◌, ℕ, ◌<◌, Bool, true, false, cond, not, ◌||◌, List, [], ◌∷◌, Option, Some, None, refl, arith, ◌⊎◌, inl, inr, sym, ◌∙◌, ap, subst}
+use Rattle.std.proofs.Common.{◌≡◌, ℕ, ◌<◌, true, false, not, ◌||◌, List, [], ◌∷◌, Option, Some, None, refl, arith, ◌⊎◌, inl, inr, sym, ◌∙◌, ap, subst}
 use Rattle.std.specs.Prelude.{nat_le}
 use Rattle.std.specs.List.{list_any}
-use Rattle.std.proofs.lemmas.Bool.{and_parts, and_from, or_parts, or_from, or_cases, eq-eqb, lt-leb, not-true}
+use Rattle.std.proofs.lemmas.Bool.{and_parts, and_from, or_parts, or_from, or_cases, lt-leb, not-true}
 use Rattle.rdm_num.specs.Lists.{Member}
 use Rattle.rdm_num.specs.Lives.{same_life, life}
 use Rattle.rdm_num.specs.declared.numbers.Life.{Life}
@@ -21,7 +21,7 @@ use Rattle.rdm_model.specs.declared.answer.Handled.{Handled}
 use Rattle.rdm_model.specs.declared.answer.Class.{Class}
 use Rattle.rdm_model.specs.declared.answer.Entered.{Entered}
 use Rattle.rdm_model.specs.declared.answer.Handled.TheVariants.{Took as TookAnswer, Dropped}
-use Rattle.rdm_model.specs.Deeds.{Deed, Took, Item, Spelled, item_of, deed_of, deed_by_handle, log_of, of_life, of_open_life, open_life}
+use Rattle.rdm_model.specs.Deeds.{Deed, Took, Item, Spelled, item_of, deed_of, deed_by_handle, log_of, of_open_life, open_life}
 use Rattle.rdm_model.specs.Owns.{rank_of, own_of}
 use Rattle.rdm_model.specs.Heard.{is_heard}
 use Rattle.rdm_model.specs.Turns.{Turn}

@@ -71,13 +71,13 @@ no_turn_note (Some (Replies r)) n h = cc
 no_turn_note (Some (Sends s p)) n h = cc
 
 -- an open life sends no notes
-no_life_note : (s : Scene) (now : Option Connid) (n : OwedNote) → life_going now s ≡ Some (GoesNote n) → ⊥
+pub no_life_note : (s : Scene) (now : Option Connid) (n : OwedNote) → life_going now s ≡ Some (GoesNote n) → ⊥
 unfolding life_going
 no_life_note s None n h = cc
 no_life_note s (Some c) n h = no_turn_note _ n h
 
 -- a note that goes is the first one
-first_note : (o : Option OwedNote) (others : Option Going) (n : OwedNote) → note_going o others ≡ Some (GoesNote n) → (others ≡ Some (GoesNote n) → ⊥) → o ≡ Some n
+pub first_note : (o : Option OwedNote) (others : Option Going) (n : OwedNote) → note_going o others ≡ Some (GoesNote n) → (others ≡ Some (GoesNote n) → ⊥) → o ≡ Some n
 unfolding note_going
 first_note None others n h none = absurd (none h)
 first_note (Some m) others n h none = cc

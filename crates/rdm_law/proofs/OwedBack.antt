@@ -1,28 +1,23 @@
 -- What a pair or a taken ask makes owed: all asks of the pair, its end once it is filled, and the bytes that were asked for.
-use Rattle.std.proofs.Common.{◌≡◌, ℕ, zero, suc, Bool, true, false, cond, not, ◌&&◌, List, [], ◌∷◌, ◌++◌, length, map, take, drop, Option, Some, None, refl, ◌⊎◌, inl, inr, sym, ◌∙◌, ap, subst}
-use Rattle.std.specs.Prelude.{◌==◌, find, is_some}
+use Rattle.std.proofs.Common.{◌≡◌, ℕ, Bool, true, false, cond, not, ◌&&◌, List, [], ◌∷◌, ◌++◌, map, take, drop, Option, Some, None, refl, inl, inr, sym, ◌∙◌, subst}
+use Rattle.std.specs.Prelude.{◌==◌, find}
 use Rattle.std.specs.List.{flat_map}
-use Rattle.std.proofs.lemmas.Bool.{and_parts, and_from, eq-eqb, eqb-true, cases_Bool, not_from_false}
+use Rattle.std.proofs.lemmas.Bool.{and_parts, and_from, eqb-true, cases_Bool, not_from_false}
 use Rattle.rdm_num.specs.Lists.{Member}
 use Rattle.rdm_num.specs.Lives.{same_life}
 use Rattle.rdm_num.specs.declared.numbers.Life.{Life}
-use Rattle.rdm_num.specs.declared.numbers.OpId.{OpId}
-use Rattle.rdm_num.specs.declared.numbers.Connid.{Connid}
-use Rattle.rdm_num.specs.declared.head.Shape.{Shape}
 use Rattle.rdm_match.specs.Matcher.{Pair, is_pair}
 use Rattle.rdm_wire.specs.declared.ReadAsk.{ReadAsk}
-use Rattle.rdm_wire.specs.declared.ReadData.{ReadData}
-use Rattle.rdm_model.specs.Deeds.{Deed, Took, Item, Spelled, Asks, Gives}
+use Rattle.rdm_model.specs.Deeds.{Deed, Took, Item, Asks, Gives}
 use Rattle.rdm_model.specs.Owns.{Own, Heads, Messages}
 use Rattle.rdm_model.specs.Matches.{matching, pairs}
 use Rattle.rdm_model.specs.Receives.{is_filled}
-use Rattle.rdm_model.specs.Grants.{window, granted_bytes}
-use Rattle.rdm_model.specs.Replies.{Reply, reply, handshake_by, asks_for, grant_for, end_for, pair_items, pair_replies, given_of, given_by, replies_by}
+use Rattle.rdm_model.specs.Replies.{Reply, reply, handshake_by, asks_for, end_for, pair_items, pair_replies, given_of, given_by, replies_by}
 use Rattle.rdm_model.specs.Sends.{Sent, sends}
 use Rattle.rdm_model.specs.Named.{live_send, is_good_ask, is_bad_key}
 use Rattle.rdm_model.specs.Scenes.{Scene}
 use Rattle.rdm_model.specs.Local.{heard_by}
-use Rattle.rdm_model.proofs.Members.{member-append_left, member-append_right, map-member, find_member, member_find, some_of, same_life-true, same_life-refl}
+use Rattle.rdm_model.proofs.Members.{member-append_left, member-append_right, map-member, find_member, member_find, some_of, same_life-true}
 use Rattle.rdm_model.proofs.Matches.{is_pair_member}
 use Rattle.rdm_model.proofs.SameRegions.{Agree, agree_before, sends_same}
 use Rattle.rdm_model.proofs.Grows.{agree_grows}
@@ -33,7 +28,7 @@ use Rattle.rdm_law.proofs.Numbered.{matching_numbered}
 use Rattle.rdm_model.proofs.Matches.{pair_still}
 use Rattle.rdm_law.proofs.Queue.{owed}
 use Rattle.rdm_law.proofs.Owed.{shape_in, recv_in}
-use Rattle.rdm_law.proofs.Classed.{IsTaken, taken_parts}
+use Rattle.rdm_law.proofs.Classed.{taken_parts}
 use Rattle.rdm_law.proofs.LiveSends.{live_parts}
 
 -- what one element makes is among what all make
@@ -157,7 +152,7 @@ given_now own ms d before r h =
     (member-append_right r (handshake_by own before d ++ flat_map (pair_replies own ms.head d before) (pairs own.limits.first ms.head (d ∷ before))) (given_by (sends own ms before) d) h)
 
 -- accounts that agree with one agree with each other
-agree_trans : (first : ℕ) (ks ms ns : Messages) (log : List Deed) → Agree first ks ms log → Agree first ms ns log → Agree first ks ns log
+pub agree_trans : (first : ℕ) (ks ms ns : Messages) (log : List Deed) → Agree first ks ms log → Agree first ms ns log → Agree first ks ns log
 agree_trans first ks ms ns log a b =
     record {
       heads = λ source n h is. a.heads source n h is ∙ b.heads source n h is;

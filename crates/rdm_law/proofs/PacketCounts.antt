@@ -1,12 +1,9 @@
 -- A send has no more packets than its message has bytes, and one.
-use Rattle.std.proofs.Common.{◌≡◌, ℕ, zero, suc, ◌+◌, ◌-◌, ◌<◌, ◌≤◌, Bool, true, false, cond, List, [], ◌∷◌, ◌++◌, length, map, take, drop, Option, Some, None, refl, arith, ◌⊎◌, inl, inr, sym, ◌∙◌, ap, subst}
+use Rattle.std.proofs.Common.{◌≡◌, ℕ, zero, suc, ◌+◌, ◌<◌, ◌≤◌, true, false, cond, List, [], ◌∷◌, length, take, drop, refl, arith, inl, inr, sym, ◌∙◌, ap, subst}
 use Rattle.std.specs.Prelude.{nat_le}
 use Rattle.std.proofs.lemmas.List.{length-append, length-map, length-take}
 use Rattle.rdm_num.specs.Lists.{Member}
-use Rattle.rdm_num.specs.Lives.{op_id}
 use Rattle.rdm_num.specs.Pieces.{Piece, piece_bytes, cut, pieces}
-use Rattle.rdm_num.specs.declared.numbers.OpId.{OpId}
-use Rattle.rdm_num.specs.declared.numbers.Connid.{Connid}
 use Rattle.rdm_num.specs.declared.limits.EpLimits.{EpLimits}
 use Rattle.rdm_pkt.specs.declared.Packet.{Packet}
 use Rattle.rdm_pkt.specs.declared.Packet.TheVariants.{Rtm, Cts, CtsData, Eor, Handshake}
@@ -14,7 +11,7 @@ use Rattle.rdm_pkt.specs.declared.Kind.{Kind}
 use Rattle.rdm_pkt.specs.declared.Kind.TheVariants.{Eager, Medium, LongCts, LongRead, Runt}
 use Rattle.rdm_pkt.specs.Openings.{Message, medium_form, runt_form, no_bytes, rtm, room_in, openings}
 use Rattle.rdm_model.specs.Deeds.{Deed}
-use Rattle.rdm_model.specs.Owns.{Own, Messages}
+use Rattle.rdm_model.specs.Owns.{Own}
 use Rattle.rdm_model.specs.Grants.{data_room}
 use Rattle.rdm_model.specs.Sends.{Sent, sends}
 use Rattle.rdm_model.specs.Turns.{packet_piece, pieces_in}
@@ -22,13 +19,13 @@ use Rattle.rdm_model.specs.Local.{heard_by}
 use Rattle.rdm_model.proofs.Members.{member-append_right}
 use Rattle.rdm_model.proofs.Cuts.{piece_bytes-append, row_within}
 use Rattle.rdm_model.proofs.Opens.{pieces_in-append}
-use Rattle.rdm_model.proofs.Turns.{IsData, AllData, Underway}
+use Rattle.rdm_model.proofs.Turns.{IsData, AllData}
 use Rattle.rdm_model.proofs.Pushes.{pushed_of, underway}
 use Rattle.rdm_model.proofs.Served.{push_member}
-use Rattle.rdm_model.proofs.Sending.{DataPush, IsSingle, data_push}
+use Rattle.rdm_model.proofs.Sending.{data_push}
 use Rattle.rdm_law.proofs.Lives.{LifeLocal}
 use Rattle.rdm_law.proofs.Allowed.{allowed_within}
-use Rattle.rdm_law.proofs.TurnsPushed.{PacketPush, packet_push}
+use Rattle.rdm_law.proofs.TurnsPushed.{packet_push}
 
 -- there are no more cuts than fuel, and one
 cut_count : (fuel size offset : ℕ) (bytes : List ℕ) → length (cut fuel size offset bytes) ≤ 1 + fuel
@@ -74,6 +71,7 @@ abbrev HasByte : Packet → Type 0
 HasByte (CtsData recv offset connid bytes) = 0 < length bytes
 HasByte _ = ⊥
 
+-- one more of them
 one_count : (p : Packet) (ps : List Packet) → HasByte p → length ps ≤ piece_bytes (pieces_in ps) → length (p ∷ ps) ≤ piece_bytes (pieces_in (p ∷ ps))
 unfolding pieces_in piece_bytes packet_piece
 one_count (CtsData recv offset connid bytes) ps h le = omega arith
@@ -90,6 +88,7 @@ bytes_count (p ∷ ps) h =
     let rest = bytes_count ps (λ q m. h q (inr m)) in
     one_count p ps (h p (inl refl)) rest
 
+-- each of them has granted bytes
 all_data : (ps : List Packet) (p : Packet) → AllData ps → Member p ps → IsData p
 all_data [] p a h = elim h [ ]
 all_data (q ∷ ps) p a (inl e) = subst IsData e a.0

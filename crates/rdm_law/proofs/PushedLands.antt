@@ -1,10 +1,10 @@
 -- At a settled end the bytes that a standing life pushed of a heard message have come.
-use Rattle.std.proofs.Common.{◌≡◌, ℕ, zero, suc, ◌+◌, ◌-◌, ◌<◌, ◌≤◌, Bool, true, false, cond, not, ◌&&◌, List, [], ◌∷◌, ◌++◌, length, Option, Some, None, refl, arith, ◌⊎◌, inl, inr, sym, ◌∙◌, ap, subst}
-use Rattle.std.specs.Prelude.{is_some, filter_map}
+use Rattle.std.proofs.Common.{◌≡◌, ℕ, ◌<◌, ◌≤◌, true, false, List, Option, Some, None, refl, arith, ◌⊎◌, inl, inr, sym, ◌∙◌, ap, subst}
+use Rattle.std.specs.Prelude.{is_some}
 use Rattle.std.specs.List.{cons_option}
 use Rattle.rdm_num.specs.Lists.{Member}
 use Rattle.rdm_num.specs.Lives.{op_id}
-use Rattle.rdm_num.specs.Pieces.{Piece, byte_at, covers, piece_bytes}
+use Rattle.rdm_num.specs.Pieces.{Piece, byte_at, covers}
 use Rattle.rdm_num.specs.declared.numbers.Life.{Life}
 use Rattle.rdm_num.specs.declared.numbers.OpId.{OpId}
 use Rattle.rdm_num.specs.declared.numbers.Connid.{Connid}
@@ -16,33 +16,30 @@ use Rattle.rdm_match.specs.Matcher.{Pair}
 use Rattle.rdm_model.specs.declared.job.Job.{Job}
 use Rattle.rdm_model.specs.declared.entry.Entry.{Entry}
 use Rattle.rdm_model.specs.Deeds.{Deed, Took, Item, Spelled}
-use Rattle.rdm_model.specs.Owns.{Own, Messages, own_of}
+use Rattle.rdm_model.specs.Owns.{own_of}
 use Rattle.rdm_model.specs.Heard.{is_heard}
-use Rattle.rdm_model.specs.Matches.{pairs}
 use Rattle.rdm_model.specs.Parts.{carried_pieces}
-use Rattle.rdm_model.specs.Grants.{Grant, grants}
-use Rattle.rdm_model.specs.Sends.{Sent, sends}
-use Rattle.rdm_model.specs.Turns.{Turn, Sends, packet_piece, pieces_in}
+use Rattle.rdm_model.specs.Grants.{Grant}
+use Rattle.rdm_model.specs.Sends.{Sent}
+use Rattle.rdm_model.specs.Turns.{Sends, packet_piece, pieces_in}
 use Rattle.rdm_model.specs.Lawful.{life_deeds}
 use Rattle.rdm_model.proofs.Members.{some_of}
 use Rattle.rdm_model.proofs.Rows.{row_has, each_below_from}
-use Rattle.rdm_model.proofs.Opens.{Opening, opening_is}
+use Rattle.rdm_model.proofs.Opens.{opening_is}
 use Rattle.rdm_model.proofs.Pushes.{pushed_of, underway}
 use Rattle.rdm_model.proofs.Served.{done_bytes}
-use Rattle.rdm_model.proofs.Sending.{DataPush}
 use Rattle.rdm_law.proofs.Pushing.{piece_packet}
 use Rattle.rdm_law.proofs.Lives.{TurnedAt}
 use Rattle.rdm_law.proofs.Wired.{Played, own_life}
-use Rattle.rdm_law.proofs.Known.{account, sends_of, Known}
-use Rattle.rdm_law.proofs.Named.{pairs_of}
-use Rattle.rdm_law.proofs.Chains.{pair_one, GrantKnown, grants_known}
+use Rattle.rdm_law.proofs.Known.{account, sends_of}
+use Rattle.rdm_law.proofs.Chains.{pair_one, grants_known}
 use Rattle.rdm_law.proofs.Whole.{byte_of_piece}
 use Rattle.rdm_law.proofs.Landed.{piece_at}
-use Rattle.rdm_law.proofs.Fresh.{Has, in_range}
+use Rattle.rdm_law.proofs.Fresh.{in_range}
 use Rattle.rdm_law.proofs.Turned.{turn_is}
 use Rattle.rdm_law.proofs.Meets.{Meet, IsUnheard, delivered}
 use Rattle.rdm_law.proofs.AllEnters.{send_turned, sends_going}
-use Rattle.rdm_law.proofs.CarriedBack.{CameFor, came_for, came_opening}
+use Rattle.rdm_law.proofs.CarriedBack.{came_for, came_opening}
 
 -- the element is the first, if it is there, or one of the others
 option_member : (o : Option Piece) (xs : List Piece) (x : Piece) → Member x (cons_option o xs) → (o ≡ Some x) ⊎ Member x xs

@@ -1,15 +1,11 @@
 -- At a settled end a read message has come whole, and its send is over.
-use Rattle.std.proofs.Common.{◌≡◌, ℕ, zero, suc, ◌+◌, ◌-◌, ◌<◌, ◌≤◌, min, Bool, true, false, cond, not, ◌&&◌, ◌||◌, List, [], ◌∷◌, ◌++◌, length, take, drop, Option, Some, None, refl, arith, ◌⊎◌, inl, inr, sym, ◌∙◌, ap, subst}
-use Rattle.std.specs.Prelude.{is_some, ◌==◌, slice_get}
-use Rattle.std.specs.List.{list_any}
-use Rattle.std.proofs.lemmas.Bool.{or_cases, or_right, and_from, cases_lt, eq-eqb}
+use Rattle.std.proofs.Common.{◌≡◌, ℕ, ◌+◌, ◌-◌, ◌<◌, ◌≤◌, min, true, false, List, length, take, drop, Some, refl, arith, inl, inr, sym, ◌∙◌, ap, subst}
+use Rattle.std.specs.Prelude.{is_some}
 use Rattle.std.proofs.lemmas.List.{length-take, length-drop}
 use Rattle.rdm_num.specs.Lists.{Member}
-use Rattle.rdm_num.specs.Lives.{same_life, op_id}
-use Rattle.rdm_num.specs.Pieces.{Piece, byte_at, covers}
+use Rattle.rdm_num.specs.Pieces.{Piece, byte_at}
 use Rattle.rdm_num.specs.declared.numbers.Life.{Life}
 use Rattle.rdm_num.specs.declared.numbers.OpId.{OpId}
-use Rattle.rdm_num.specs.declared.numbers.Connid.{Connid}
 use Rattle.rdm_num.specs.declared.limits.EpLimits.{EpLimits}
 use Rattle.rdm_num.specs.declared.head.Head.{Head}
 use Rattle.rdm_num.specs.declared.head.Shape.{Shape}
@@ -23,32 +19,24 @@ use Rattle.rdm_wire.specs.declared.ReadData.{ReadData}
 use Rattle.rdm_model.specs.declared.job.Job.{Job}
 use Rattle.rdm_model.specs.declared.entry.Entry.{Entry}
 use Rattle.rdm_model.specs.Deeds.{Deed, Took, Item, Spelled, Asks, Gives}
-use Rattle.rdm_model.specs.Owns.{Own, Messages, own_of}
+use Rattle.rdm_model.specs.Owns.{Messages, own_of}
 use Rattle.rdm_model.specs.Heard.{is_heard}
 use Rattle.rdm_model.specs.Parts.{carried_pieces}
-use Rattle.rdm_model.specs.Receives.{is_filled}
-use Rattle.rdm_model.specs.Replies.{Reply, reply, asks_for, end_for}
-use Rattle.rdm_model.specs.Sends.{Sent, sends}
+use Rattle.rdm_model.specs.Replies.{Reply, reply, asks_for}
+use Rattle.rdm_model.specs.Sends.{Sent}
 use Rattle.rdm_model.specs.Named.{read_from}
 use Rattle.rdm_model.specs.Currents.{is_forgotten}
-use Rattle.rdm_model.specs.Turns.{Turn, Replies, is_read, is_over, is_pushed, ends_send, progress, next_packet}
-use Rattle.rdm_model.specs.Going.{Going, Goes, turn_going}
+use Rattle.rdm_model.specs.Turns.{Replies, is_read}
+use Rattle.rdm_model.specs.Going.{Goes, turn_going}
 use Rattle.rdm_model.specs.Lawful.{life_deeds}
-use Rattle.rdm_model.proofs.Members.{member_list_any, same_life-refl}
 use Rattle.rdm_model.proofs.SameRegions.{Agree}
-use Rattle.rdm_model.proofs.Opens.{opened_bytes}
 use Rattle.rdm_model.proofs.Numbers.{sends_one}
-use Rattle.rdm_model.proofs.Pushes.{pushed_of, underway}
-use Rattle.rdm_model.proofs.Served.{PushedAt, done_bytes}
-use Rattle.rdm_law.proofs.Lives.{TurnedAt}
-use Rattle.rdm_law.proofs.Wired.{Played, own_life}
-use Rattle.rdm_law.proofs.Known.{account, sends_of, Known}
-use Rattle.rdm_law.proofs.Named.{pairs_of, send_number, AskOf, ask_of, head_shape, head_length}
+use Rattle.rdm_law.proofs.Wired.{own_life}
+use Rattle.rdm_law.proofs.Known.{account, sends_of}
+use Rattle.rdm_law.proofs.Named.{pairs_of, send_number, ask_of, head_shape}
 use Rattle.rdm_law.proofs.Chains.{pair_one}
 use Rattle.rdm_law.proofs.Asks.{iov_bytes, asks_from_cover, asks_for_recv}
 use Rattle.rdm_law.proofs.ClassKeys.{sent_size}
-use Rattle.rdm_law.proofs.ClassAsks.{message_one}
-use Rattle.rdm_law.proofs.EndsKnown.{EndSend, end_taken}
 use Rattle.rdm_law.proofs.Landed.{piece_at}
 use Rattle.rdm_law.proofs.Owed.{shape_in, recv_in}
 use Rattle.rdm_law.proofs.OwedRest.{owed_rest}
@@ -57,10 +45,8 @@ use Rattle.rdm_law.proofs.Still.{settled_still, at_rest, AtRest}
 use Rattle.rdm_law.proofs.TurnsPushed.{pushed_turned}
 use Rattle.rdm_law.proofs.Meets.{Meet, IsUnheard, delivered}
 use Rattle.rdm_law.proofs.AllEnters.{stands}
-use Rattle.rdm_law.proofs.CarriedBack.{CameFor, came_for}
-use Rattle.rdm_law.proofs.OwedBack.{asks_owed, end_owed, given_reply, GivenOwed, given_owed}
-use Rattle.rdm_law.proofs.PushedLands.{pushed_landed}
-use Rattle.rdm_law.proofs.WholePushed.{opened_done}
+use Rattle.rdm_law.proofs.CarriedBack.{came_for}
+use Rattle.rdm_law.proofs.OwedBack.{asks_owed, given_reply, given_owed}
 
 -- what each of two standing lives has at rest
 pub rest_of : (job : Job) (history : List Entry) (i j : Life) → Meet job history i j → AtRest (own_of job j) (account job history j) (life_deeds job history j)
@@ -99,7 +85,7 @@ owed_taken job history i j r item m h to is rep =
     ]
 
 -- an account agrees with itself
-agree_refl : (first : ℕ) (ms : Messages) (log : List Deed) → Agree first ms ms log
+pub agree_refl : (first : ℕ) (ms : Messages) (log : List Deed) → Agree first ms ms log
 agree_refl first ms log = record { heads = λ source n h is. refl; bytes = λ p is. refl }
 
 -- an ask for each place that is to be read

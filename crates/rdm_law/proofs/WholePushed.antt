@@ -1,11 +1,11 @@
 -- At a settled end a message that is neither granted nor read was pushed whole.
-use Rattle.std.proofs.Common.{◌≡◌, ℕ, zero, suc, ◌+◌, ◌-◌, ◌<◌, ◌≤◌, Bool, true, false, cond, not, ◌&&◌, ◌||◌, List, [], ◌∷◌, ◌++◌, length, Option, Some, None, refl, arith, ◌⊎◌, inl, inr, sym, ◌∙◌, ap, subst}
-use Rattle.std.specs.Prelude.{slice_get, is_some, nat_lt}
-use Rattle.std.proofs.lemmas.Bool.{or_cases, or_right, ltb-false, and_parts}
+use Rattle.std.proofs.Common.{◌≡◌, ℕ, zero, suc, ◌+◌, ◌<◌, ◌≤◌, Bool, true, false, cond, ◌||◌, List, [], ◌∷◌, ◌++◌, length, Option, Some, None, refl, arith, ◌⊎◌, inl, inr, sym, ◌∙◌, ap, subst}
+use Rattle.std.specs.Prelude.{slice_get}
+use Rattle.std.proofs.lemmas.Bool.{or_cases, or_right}
 use Rattle.std.proofs.lemmas.List.{length-append, append-nil}
 use Rattle.std.specs.List.{list_any}
 use Rattle.rdm_num.specs.Lists.{Member, or_else}
-use Rattle.rdm_num.specs.Pieces.{Piece, covers, piece_bytes}
+use Rattle.rdm_num.specs.Pieces.{piece_bytes}
 use Rattle.rdm_pkt.specs.declared.Packet.{Packet}
 use Rattle.rdm_pkt.specs.declared.Kind.{Kind}
 use Rattle.rdm_pkt.specs.declared.Kind.TheVariants.{Eager, Medium, LongCts, LongRead, Runt}
@@ -13,12 +13,11 @@ use Rattle.rdm_pkt.specs.Openings.{openings}
 use Rattle.rdm_model.specs.Deeds.{Deed}
 use Rattle.rdm_model.specs.Owns.{Own, Messages}
 use Rattle.rdm_model.specs.Currents.{is_forgotten}
-use Rattle.rdm_model.specs.Grants.{Grant, grants, grant_bytes}
 use Rattle.rdm_model.specs.Sends.{Sent, sends}
-use Rattle.rdm_model.specs.Turns.{pieces_in, data_packet, granted_packet, next_packet, is_read, is_pushed, is_over, ends_send}
-use Rattle.rdm_model.proofs.Cuts.{InRow, piece_bytes-append, row_within}
+use Rattle.rdm_model.specs.Turns.{pieces_in, next_packet, is_read, is_pushed, is_over, ends_send}
+use Rattle.rdm_model.proofs.Cuts.{InRow, piece_bytes-append}
 use Rattle.rdm_model.proofs.Rows.{row_covers, row_covered}
-use Rattle.rdm_model.proofs.Opens.{pieces_in-append, opened_bytes, openings_bytes, some_opening}
+use Rattle.rdm_model.proofs.Opens.{pieces_in-append, opened_bytes, openings_bytes}
 use Rattle.rdm_model.proofs.Turns.{Underway}
 use Rattle.rdm_model.proofs.Pushes.{pushed_of, underway}
 use Rattle.rdm_model.proofs.Served.{done_bytes}
