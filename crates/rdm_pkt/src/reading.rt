@@ -230,7 +230,7 @@ fn read_tag(is_there: bool, bytes: &[u8], place: usize) -> Option<u64>
 
 /// Exactly one of the raw address and the identifier is there.
 #[tactic(auto, unfolding(crate::specs::Grammar::opt_fits))]
-fn opt_fits(opt: &Opt) -> bool
+pub fn opt_fits(opt: &Opt) -> bool
     ensures { result ≡ Grammar.opt_fits opt.now }
 {
     opt.raw.is_some() != opt.connid.is_some()
@@ -269,7 +269,7 @@ fn read_medium(alloc: Global, bytes: &[u8]) -> Result<Option<Packet>, NoMemory>
 }
 
 /// The data end where the message ends, or before.
-fn ends_by(offset: u64, part: &[u8], size: u64) -> bool
+pub fn ends_by(offset: u64, part: &[u8], size: u64) -> bool
     ensures { result ≡ nat_le (offset + length part.now) size }
 {
     let length = part.len() as u64;
