@@ -1,6 +1,6 @@
 -- Numbers within their ranges.
-use Rattle.std.proofs.Common.{◌≡◌, ℕ, suc, ◌+◌, ◌<◌, ◌≤◌, ◌^◌, true, List, [], ◌∷◌, ◌++◌, length, take, get_or, Some, None, Bool, if◌then◌else◌, Option, refl, add-one, arith}
-use Rattle.std.specs.Prelude.{map, flat_map, nat_le, nat_lt, ◌&&◌, is_some}
+use Rattle.std.proofs.Common.{◌≡◌, ℕ, suc, ◌+◌, ◌<◌, ◌≤◌, ◌^◌, true, List, [], ◌∷◌, ◌++◌, length, take, get_or, Some, None, if◌then◌else◌, Option, refl, add-one, arith}
+use Rattle.std.specs.Prelude.{map, flat_map, nat_le, nat_lt, is_some}
 use Rattle.std.proofs.lemmas.Grind.{flat_map-append}
 use Rattle.std.proofs.Math.Seq.{take-suc}
 use Rattle.std.specs.List.{list_all}
@@ -12,7 +12,6 @@ use Rattle.rdm_num.specs.declared.numbers.Connid.{Connid}
 use Rattle.rdm_hdr.specs.declared.Opt.{Opt}
 use Rattle.rdm_hdr.specs.Fields.{Field, Number, Data, field_fits, fields_fit}
 use Rattle.rdm_hdr.specs.Headers.{base_fields, raw_fields, cq_data_fields, connid_fields, opt_fields}
-use Rattle.rdm_pkt.specs.declared.Packet.{Packet}
 use Rattle.rdm_pkt.specs.declared.Packet.TheVariants.{Rtm, Cts, CtsData, Eor, Handshake}
 use Rattle.rdm_pkt.specs.declared.Form.{Form}
 use Rattle.rdm_pkt.specs.declared.Form.TheVariants.{Eager, Medium, LongCts, LongRead, Runt}
@@ -70,7 +69,7 @@ pub fit_more : (iov : List IovEntry) (i : ℕ) (d : IovEntry) → i < length iov
     → (get_or iov i d).offset < 2 ^ 64 → (get_or iov i d).length < 2 ^ 64 → (get_or iov i d).key < 2 ^ 64 → fields_fit (flat_map entry_fields (take (i + 1) iov)) ≡ true
 fit_more iov i d h before a b e =
     rw (add-one, take-suc iov i d h, flat_map-append entry_fields (take i iov) (get_or iov i d ∷ []))
-       (fit-append (flat_map entry_fields (take i iov)) (flat_map entry_fields (get_or iov i d ∷ [])) before (fit_entry (get_or iov i d) a b e))
+    (fit-append (flat_map entry_fields (take i iov)) (flat_map entry_fields (get_or iov i d ∷ [])) before (fit_entry (get_or iov i d) a b e))
 
 -- ---- forms
 
@@ -91,8 +90,8 @@ pub fit_runt : (size : ℕ) (send : OpId) (iov : List IovEntry) (runt offset : �
 unfolding form_fields
 fit_runt size send iov runt offset bytes p q r t u =
     fit_eight size (Number 4 send.0 ∷ Number 4 (length iov) ∷ Number 8 runt ∷ Number 8 offset ∷ []) p
-      (fit_four send.0 (Number 4 (length iov) ∷ Number 8 runt ∷ Number 8 offset ∷ []) q
-        (fit_four (length iov) (Number 8 runt ∷ Number 8 offset ∷ []) (omega arith) (fit_eight runt (Number 8 offset ∷ []) t (fit_eight offset [] u fit-nothing))))
+    (fit_four send.0 (Number 4 (length iov) ∷ Number 8 runt ∷ Number 8 offset ∷ []) q
+    (fit_four (length iov) (Number 8 runt ∷ Number 8 offset ∷ []) (omega arith) (fit_eight runt (Number 8 offset ∷ []) t (fit_eight offset [] u fit-nothing))))
 
 -- a read list and data are in their ranges where both are
 pub fit_last : (iov : List IovEntry) (bytes : List ℕ) → fields_fit (flat_map entry_fields iov) ≡ true → fields_fit (Data bytes ∷ []) ≡ true → fields_fit (flat_map entry_fields iov ++ Data bytes ∷ []) ≡ true
@@ -120,14 +119,14 @@ pub fit_rtm : (number : MsgNo) (tag : Option ℕ) (opt : Opt) (form : Form) → 
 unfolding layout
 fit_rtm number tag opt form small a b d e =
     fit-append _ (last_fields form)
-      (fit-append _ (opt_fields opt)
-        (fit-append _ (tag_fields tag)
-          (fit-append (head_fields (type_of form + (if is_some tag then 1 else 0)) (rtm_flags tag opt)) (Number 4 number.0 ∷ form_fields form)
-            (fit_head (type_of form + (if is_some tag then 1 else 0)) (rtm_flags tag opt) (one-more (type_of form) (is_some tag) (type_small form)) (flags-small tag opt))
-            (fit_four number.0 (form_fields form) small d))
-          a)
-        b)
-      e
+    (fit-append _ (opt_fields opt)
+    (fit-append _ (tag_fields tag)
+    (fit-append (head_fields (type_of form + (if is_some tag then 1 else 0)) (rtm_flags tag opt)) (Number 4 number.0 ∷ form_fields form)
+    (fit_head (type_of form + (if is_some tag then 1 else 0)) (rtm_flags tag opt) (one-more (type_of form) (is_some tag) (type_small form)) (flags-small tag opt))
+    (fit_four number.0 (form_fields form) small d))
+    a)
+    b)
+    e
 
 -- the form of a packet that meets its conditions meets its own
 pub form_meets : (number : MsgNo) (tag : Option ℕ) (opt : Opt) (form : Form) → packet_fits (Rtm number tag opt form) ≡ true → form_fits form ≡ true
@@ -139,14 +138,14 @@ pub fit_cts : (send recv : OpId) (size : ℕ) (connid : Connid) → send.0 < 2 ^
 unfolding layout
 fit_cts send recv size connid a b d e =
     fit-append (head_fields 3 32768) (Number 4 send.0 ∷ Number 4 recv.0 ∷ Number 8 size ∷ Number 4 connid.0 ∷ []) (fit_head 3 32768 (omega arith) (omega arith))
-      (fit_four send.0 _ a (fit_four recv.0 _ b (fit_eight size _ d (fit_four connid.0 [] e fit-nothing))))
+    (fit_four send.0 _ a (fit_four recv.0 _ b (fit_eight size _ d (fit_four connid.0 [] e fit-nothing))))
 
 -- the end of an operation is in its ranges where its numbers are
 pub fit_eor : (send recv : OpId) (connid : Connid) → send.0 < 2 ^ 32 → recv.0 < 2 ^ 32 → connid.0 < 2 ^ 32 → fields_fit (layout (Eor send recv connid)) ≡ true
 unfolding layout
 fit_eor send recv connid a b e =
     fit-append (head_fields 7 32768) (Number 4 send.0 ∷ Number 4 recv.0 ∷ Number 4 connid.0 ∷ []) (fit_head 7 32768 (omega arith) (omega arith))
-      (fit_four send.0 _ a (fit_four recv.0 _ b (fit_four connid.0 [] e fit-nothing)))
+    (fit_four send.0 _ a (fit_four recv.0 _ b (fit_four connid.0 [] e fit-nothing)))
 
 -- granted data are in their ranges where their numbers and bytes are
 pub fit_cts_data : (recv : OpId) (offset : ℕ) (connid : Connid) (bytes : List ℕ) → packet_fits (CtsData recv offset connid bytes) ≡ true → recv.0 < 2 ^ 32 → connid.0 < 2 ^ 32 → fields_fit (Data bytes ∷ []) ≡ true
@@ -156,7 +155,7 @@ fit_cts_data recv offset connid bytes h a b d =
     let parts = and_parts (nat_le 1 (length bytes)) (nat_lt (offset + length bytes) (2 ^ 64)) h in
     let room : suc (offset + length bytes) ≤ 2 ^ 64 = leb-true (suc (offset + length bytes)) (2 ^ 64) parts.1 in
     fit-append (head_fields 4 32768) (Number 4 recv.0 ∷ Number 8 (length bytes) ∷ Number 8 offset ∷ Number 4 connid.0 ∷ Data bytes ∷ []) (fit_head 4 32768 (omega arith) (omega arith))
-      (fit_four recv.0 _ a (fit_eight (length bytes) _ (omega arith) (fit_eight offset _ (omega arith) (fit_four connid.0 _ b d))))
+    (fit_four recv.0 _ a (fit_eight (length bytes) _ (omega arith) (fit_eight offset _ (omega arith) (fit_four connid.0 _ b d))))
 
 -- a handshake is in its ranges where its words are
 pub fit_handshake : (words : List ℕ) (connid : Connid) → packet_fits (Handshake words connid) ≡ true → connid.0 < 2 ^ 32 → fields_fit (map (Number 8) words) ≡ true → fields_fit (layout (Handshake words connid)) ≡ true
@@ -165,5 +164,5 @@ fit_handshake words connid h a b =
     let parts = and_parts (nat_le 1 (length words)) (nat_le (length words) 8) h in
     let few : length words ≤ 8 = leb-true (length words) 8 parts.1 in
     fit-append _ (Number 4 connid.0 ∷ [])
-      (fit-append (head_fields 9 32768) (Number 4 (length words + 3) ∷ map (Number 8) words) (fit_head 9 32768 (omega arith) (omega arith)) (fit_four (length words + 3) (map (Number 8) words) (omega arith) b))
-      (fit_four connid.0 [] a fit-nothing)
+    (fit-append (head_fields 9 32768) (Number 4 (length words + 3) ∷ map (Number 8) words) (fit_head 9 32768 (omega arith) (omega arith)) (fit_four (length words + 3) (map (Number 8) words) (omega arith) b))
+    (fit_four connid.0 [] a fit-nothing)

@@ -47,16 +47,36 @@ fn form_fits(form: &Form) -> bool
 {
     match form {
         Form::Eager { .. } => true,
-        Form::Medium { msg_length, offset, bytes } => {
+        Form::Medium {
+            msg_length,
+            offset,
+            bytes,
+        } => {
             let part = bytes.as_slice();
             part.len() >= 1 && ends_by(*offset, part, *msg_length)
         }
-        Form::LongCts { msg_length, credit_request, bytes, .. } => {
+        Form::LongCts {
+            msg_length,
+            credit_request,
+            bytes,
+            ..
+        } => {
             let length = bytes.as_slice().len() as u64;
             length >= 1 && length < *msg_length && *credit_request >= 1
         }
-        Form::LongRead { msg_length, iov, .. } => iov_fits(iov.as_slice(), *msg_length),
-        Form::Runt { msg_length, iov, runt_length, offset, bytes, .. } => {
+        Form::LongRead {
+            msg_length,
+            iov,
+            ..
+        } => iov_fits(iov.as_slice(), *msg_length),
+        Form::Runt {
+            msg_length,
+            iov,
+            runt_length,
+            offset,
+            bytes,
+            ..
+        } => {
             let part = bytes.as_slice();
             iov_fits(iov.as_slice(), *msg_length)
                 && part.len() >= 1

@@ -21,19 +21,33 @@ impl Packet {
                 opt_in_range(opt);
                 form_in_range(form);
             }
-            Packet::Cts { send_id, recv_id, recv_length, connid } => {
+            Packet::Cts {
+                send_id,
+                recv_id,
+                recv_length,
+                connid,
+            } => {
                 number_in_range(send_id.0);
                 number_in_range(recv_id.0);
                 word_in_range(*recv_length);
                 number_in_range(connid.0);
             }
-            Packet::CtsData { recv_id, offset, connid, bytes } => {
+            Packet::CtsData {
+                recv_id,
+                offset,
+                connid,
+                bytes,
+            } => {
                 number_in_range(recv_id.0);
                 word_in_range(*offset);
                 number_in_range(connid.0);
                 bytes_in_range(bytes.as_slice());
             }
-            Packet::Eor { send_id, recv_id, connid } => {
+            Packet::Eor {
+                send_id,
+                recv_id,
+                connid,
+            } => {
                 number_in_range(send_id.0);
                 number_in_range(recv_id.0);
                 number_in_range(connid.0);
@@ -120,23 +134,43 @@ fn form_in_range(form: &Form)
 {
     match form {
         Form::Eager { bytes } => bytes_in_range(bytes.as_slice()),
-        Form::Medium { msg_length, offset, bytes } => {
+        Form::Medium {
+            msg_length,
+            offset,
+            bytes,
+        } => {
             word_in_range(*msg_length);
             word_in_range(*offset);
             bytes_in_range(bytes.as_slice());
         }
-        Form::LongCts { msg_length, send_id, credit_request, bytes } => {
+        Form::LongCts {
+            msg_length,
+            send_id,
+            credit_request,
+            bytes,
+        } => {
             word_in_range(*msg_length);
             number_in_range(send_id.0);
             number_in_range(*credit_request);
             bytes_in_range(bytes.as_slice());
         }
-        Form::LongRead { msg_length, send_id, iov } => {
+        Form::LongRead {
+            msg_length,
+            send_id,
+            iov,
+        } => {
             word_in_range(*msg_length);
             number_in_range(send_id.0);
             iov_in_range(iov.as_slice());
         }
-        Form::Runt { msg_length, send_id, iov, runt_length, offset, bytes } => {
+        Form::Runt {
+            msg_length,
+            send_id,
+            iov,
+            runt_length,
+            offset,
+            bytes,
+        } => {
             word_in_range(*msg_length);
             number_in_range(send_id.0);
             word_in_range(*runt_length);
