@@ -2,8 +2,9 @@
 ghost use Rattle.std.specs.Prelude.{◌≡◌};
 ghost use Rattle.rdm_pkt.specs.Grammar as Grammar;
 
+use crate::read_forms::ends_by;
 use crate::read_list::iov_fits;
-use crate::reading::{ends_by, opt_fits};
+use crate::reading::opt_fits;
 use crate::{Form, Packet};
 
 impl Packet {
