@@ -104,7 +104,7 @@ small false false false true = omega arith
 small false false false false = omega arith
 
 -- a type and one more
-one-more : (kind : ℕ) (b : Bool) → kind < 255 → kind + (if b then 1 else 0) < 256
+pub one-more : (kind : ℕ) (b : Bool) → kind < 255 → kind + (if b then 1 else 0) < 256
 one-more kind true h = omega arith
 one-more kind false h = omega arith
 
@@ -114,7 +114,7 @@ is_some-then_some true x = refl
 is_some-then_some false x = refl
 
 -- flags have room in two bytes
-flags-small : (tag : Option ℕ) (opt : Opt) → rtm_flags tag opt < 65536
+pub flags-small : (tag : Option ℕ) (opt : Opt) → rtm_flags tag opt < 65536
 unfolding rtm_flags opt_flags
 flags-small tag opt = small (is_some tag) (is_some opt.raw) (is_some opt.cq_data) (is_some opt.connid)
 

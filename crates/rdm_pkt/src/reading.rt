@@ -8,7 +8,7 @@ ghost use Rattle.rdm_pkt.specs.Grammar as Grammar;
 ghost use Rattle.rdm_pkt.specs.Reading.{EagerRow, MediumRow, LongCtsRow, LongReadRow, RuntRow, CtsRow, CtsDataRow, EorRow, HandshakeRow, if_spelled, values_at, rtm_at, packet_in, words_at};
 ghost use Rattle.rdm_pkt.specs.Opened.{opening_in};
 
-use crate::read_list::{iov_fits, read_iov};
+use crate::read_forms::{read_eager, read_long_cts, read_long_read, read_medium, read_runt};
 use crate::writing::{CONNID_FLAG, VERSION, rtm_flags, tagged_kind};
 use crate::{Form, Packet};
 use rdm_hdr::{NoMemory, Opt, has_bit, read_opt, size_if, u16_at, u32_at, u64_at};
@@ -48,13 +48,14 @@ fn has_head(bytes: &[u8], kind: u8, flags: u16) -> bool
 }
 
 /// The bytes from a place on.
-fn after(bytes: &[u8], place: usize) -> &[u8]
+pub fn after(bytes: &[u8], place: usize) -> &[u8]
     requires { place ≤ length bytes.now }
     ensures { result.now ≡ drop place bytes.now }
 {
     &bytes[place..]
 }
 
+/// A grant.
 fn read_cts(bytes: &[u8]) -> Option<Packet>
     ensures { result ≡ if_spelled bytes.now (values_at CtsRow bytes.now) }
 {
@@ -76,6 +77,7 @@ fn read_cts(bytes: &[u8]) -> Option<Packet>
     })
 }
 
+/// Granted data.
 fn read_cts_data(alloc: Global, bytes: &[u8]) -> Result<Option<Packet>, NoMemory>
     ensures { IfOk result (λ r. r ≡ if_spelled bytes.now (values_at CtsDataRow bytes.now)) }
 {
@@ -102,6 +104,7 @@ fn read_cts_data(alloc: Global, bytes: &[u8]) -> Result<Option<Packet>, NoMemory
     }))
 }
 
+/// The end of an operation.
 fn read_eor(bytes: &[u8]) -> Option<Packet>
     ensures { result ≡ if_spelled bytes.now (values_at EorRow bytes.now) }
 {
@@ -118,6 +121,7 @@ fn read_eor(bytes: &[u8]) -> Option<Packet>
     })
 }
 
+/// A handshake.
 fn read_handshake(alloc: Global, bytes: &[u8]) -> Result<Option<Packet>, NoMemory>
     ensures { IfOk result (λ r. r ≡ if_spelled bytes.now (values_at HandshakeRow bytes.now)) }
 {
@@ -159,17 +163,17 @@ fn read_words(alloc: Global, count: usize, bytes: &[u8]) -> Result<Words, NoMemo
 
 /// What the headers say that each packet has which opens a message.
 #[derive(Clone, Copy)]
-struct Opening {
-    no: MsgNo,
-    tag: Option<u64>,
-    opt: Opt,
+pub struct Opening {
+    pub no: MsgNo,
+    pub tag: Option<u64>,
+    pub opt: Opt,
     /// Where the read list or the data begin.
-    place: usize,
+    pub place: usize,
 }
 
 impl Opening {
     /// The packet with those headers.
-    fn packet(&self, form: Form) -> Packet
+    pub fn packet(&self, form: Form) -> Packet
         ensures { result ≡ Packet.Rtm self.now.no self.now.tag self.now.opt form }
     {
         Packet::Rtm {
@@ -183,7 +187,7 @@ impl Opening {
 
 /// The headers of a packet that opens a message, of the untagged type `kind`, whose mandatory header has `size` bytes
 /// where there is no tag.
-fn read_opening(kind: u8, size: usize, bytes: &[u8]) -> Option<Opening>
+pub fn read_opening(kind: u8, size: usize, bytes: &[u8]) -> Option<Opening>
     requires small { kind < 255 }
     requires least { 8 ≤ size }
     requires most { size ≤ 40 }
@@ -230,135 +234,8 @@ fn read_tag(is_there: bool, bytes: &[u8], place: usize) -> Option<u64>
 
 /// Exactly one of the raw address and the identifier is there.
 #[tactic(auto, unfolding(crate::specs::Grammar::opt_fits))]
-fn opt_fits(opt: &Opt) -> bool
+pub fn opt_fits(opt: &Opt) -> bool
     ensures { result ≡ Grammar.opt_fits opt.now }
 {
     opt.raw.is_some() != opt.connid.is_some()
-}
-
-fn read_eager(alloc: Global, bytes: &[u8]) -> Result<Option<Packet>, NoMemory>
-    ensures { IfOk result (λ r. r ≡ if_spelled bytes.now (rtm_at EagerRow bytes.now)) }
-{
-    let Some(opening) = read_opening(64, 8, bytes) else {
-        return Ok(None);
-    };
-    let bytes = Bytes::from_slice(alloc, after(bytes, opening.place))?;
-    Ok(Some(opening.packet(Form::Eager { bytes })))
-}
-
-fn read_medium(alloc: Global, bytes: &[u8]) -> Result<Option<Packet>, NoMemory>
-    ensures { IfOk result (λ r. r ≡ if_spelled bytes.now (rtm_at MediumRow bytes.now)) }
-{
-    let Some(opening) = read_opening(66, 24, bytes) else {
-        return Ok(None);
-    };
-    let data = after(bytes, opening.place);
-    let msg_length = u64_at(bytes, 8);
-    let offset = u64_at(bytes, 16);
-    if data.is_empty() {
-        return Ok(None);
-    }
-    if !ends_by(offset, data, msg_length) {
-        return Ok(None);
-    }
-    Ok(Some(opening.packet(Form::Medium {
-        msg_length,
-        offset,
-        bytes: Bytes::from_slice(alloc, data)?,
-    })))
-}
-
-/// The data end where the message ends, or before.
-fn ends_by(offset: u64, part: &[u8], size: u64) -> bool
-    ensures { result ≡ nat_le (offset + length part.now) size }
-{
-    let length = part.len() as u64;
-    length <= size && offset <= size - length
-}
-
-fn read_long_cts(alloc: Global, bytes: &[u8]) -> Result<Option<Packet>, NoMemory>
-    ensures { IfOk result (λ r. r ≡ if_spelled bytes.now (rtm_at LongCtsRow bytes.now)) }
-{
-    let Some(opening) = read_opening(68, 24, bytes) else {
-        return Ok(None);
-    };
-    let data = after(bytes, opening.place);
-    let msg_length = u64_at(bytes, 8);
-    let credit_request = u32_at(bytes, 20);
-    if data.is_empty() {
-        return Ok(None);
-    }
-    if data.len() as u64 >= msg_length {
-        return Ok(None);
-    }
-    if credit_request == 0 {
-        return Ok(None);
-    }
-    Ok(Some(opening.packet(Form::LongCts {
-        msg_length,
-        send_id: OpId(u32_at(bytes, 16)),
-        credit_request,
-        bytes: Bytes::from_slice(alloc, data)?,
-    })))
-}
-
-fn read_long_read(bytes: &[u8]) -> Option<Packet>
-    ensures { result ≡ if_spelled bytes.now (rtm_at LongReadRow bytes.now) }
-{
-    let opening = read_opening(128, 24, bytes)?;
-    let count = u32_at(bytes, 20) as usize;
-    if count > 4 {
-        return None;
-    }
-    if bytes.len() != opening.place + 24 * count {
-        return None;
-    }
-    let iov = read_iov(count, opening.place, bytes);
-    let msg_length = u64_at(bytes, 8);
-    if !iov_fits(iov.as_slice(), msg_length) {
-        return None;
-    }
-    Some(opening.packet(Form::LongRead {
-        msg_length,
-        send_id: OpId(u32_at(bytes, 16)),
-        iov,
-    }))
-}
-
-fn read_runt(alloc: Global, bytes: &[u8]) -> Result<Option<Packet>, NoMemory>
-    ensures { IfOk result (λ r. r ≡ if_spelled bytes.now (rtm_at RuntRow bytes.now)) }
-{
-    let Some(opening) = read_opening(192, 40, bytes) else {
-        return Ok(None);
-    };
-    let count = u32_at(bytes, 20) as usize;
-    if count > 4 {
-        return Ok(None);
-    }
-    let place = opening.place + 24 * count;
-    if bytes.len() <= place {
-        return Ok(None);
-    }
-    let data = after(bytes, place);
-    let iov = read_iov(count, opening.place, bytes);
-    let msg_length = u64_at(bytes, 8);
-    if !iov_fits(iov.as_slice(), msg_length) {
-        return Ok(None);
-    }
-    let runt_length = u64_at(bytes, 24);
-    let offset = u64_at(bytes, 32);
-    if !ends_by(offset, data, runt_length) {
-        return Ok(None);
-    }
-    if runt_length >= msg_length {
-        return Ok(None);
-    }
-    Ok(Some(opening.packet(Form::Runt {
-        msg_length,
-        send_id: OpId(u32_at(bytes, 16)),
-        iov,
-        runt_length,
-        offset,
-        bytes: Bytes::from_slice(alloc, data)?,
-    })))
 }

@@ -2,15 +2,27 @@ use crate::{Kind, Packet, choose};
 use rdm_num::EpLimits;
 use std::alloc::Global;
 
-/// Whether the bytes are read as a packet.
+/// Whether the bytes are read as a packet that is written as those bytes again.
 fn is_packet(alloc: Global, bytes: &[u8]) -> bool {
-    match Packet::read(alloc, bytes) {
-        Ok(Some(packet)) => {
-            drop(packet);
-            true
-        }
-        _ => false,
+    let Ok(Some(packet)) = Packet::read(alloc, bytes) else {
+        return false;
+    };
+    let mut again = Vec::new(alloc);
+    packet.fits() && packet.write(&mut again).is_ok() && again.as_slice() == bytes
+}
+
+/// Whether the bytes are a packet, and none with another version, a byte more or a byte less.
+fn is_exact(alloc: Global, bytes: &[u8]) -> bool {
+    let mut other = Vec::new(alloc);
+    if other.extend_from_slice(bytes).is_err() || other.len() < 4 {
+        return false;
     }
+    other[1] = 3;
+    let older = is_packet(alloc, &other);
+    other[1] = 4;
+    let shorter = is_packet(alloc, &other[..other.len() - 1]);
+    let longer = other.push(0).is_err() || is_packet(alloc, &other);
+    is_packet(alloc, bytes) && !older && !shorter && !longer
 }
 
 /// A grant of 228 bytes from receive 0 for send 0, and what becomes no packet by one change.
@@ -35,10 +47,7 @@ fn grants(rt: HostRuntime) {
         }
         _ => assert!(rt; false),
     }
-    assert!(rt; !is_packet(alloc, &grant[..23]));
-    let mut other = grant;
-    other[1] = 3;
-    assert!(rt; !is_packet(alloc, &other));
+    assert!(rt; is_exact(alloc, &grant));
     let mut empty = grant;
     empty[12] = 0;
     assert!(rt; !is_packet(alloc, &empty));
@@ -74,11 +83,63 @@ fn handshakes(rt: HostRuntime) {
     let first = [
         9, 4, 0, 0x80, 4, 0, 0, 0, 0x19, 0, 0, 0, 0, 0, 0, 0, 7, 0, 0, 0,
     ];
-    assert!(rt; is_packet(alloc, &first));
-    assert!(rt; !is_packet(alloc, &first[..19]));
+    assert!(rt; is_exact(alloc, &first));
     let mut none = first;
     none[4] = 3;
     assert!(rt; !is_packet(alloc, &none));
+}
+
+/// The other packets that open no message: granted data of one byte, and the end of an operation.
+#[test]
+fn data_and_ends(rt: HostRuntime) {
+    let alloc = rt.alloc();
+    let granted = [
+        4, 4, 0, 0x80, 1, 0, 0, 0, 1, 0, 0, 0, 0, 0, 0, 0, 0xfe, 0xff, 0xff, 0xff, 0xff, 0xff,
+        0xff, 0xff, 7, 0, 0, 0, 9,
+    ];
+    assert!(rt; is_exact(alloc, &granted));
+    let mut far = granted;
+    far[16] = 0xff;
+    assert!(rt; !is_packet(alloc, &far));
+    let mut longer = granted;
+    longer[8] = 2;
+    assert!(rt; !is_packet(alloc, &longer));
+    let end = [7, 4, 0, 0x80, 1, 0, 0, 0, 2, 0, 0, 0, 7, 0, 0, 0];
+    assert!(rt; is_exact(alloc, &end));
+    let mut flagged = end;
+    flagged[2] = 1;
+    assert!(rt; !is_packet(alloc, &flagged));
+}
+
+/// A first part ahead of a read: two bytes of a message of five, at offset 1 of a first part of three.
+#[test]
+fn first_parts(rt: HostRuntime) {
+    let alloc = rt.alloc();
+    let runt = [
+        193, 4, 10, 0x80, 0, 0, 0, 0, 5, 0, 0, 0, 0, 0, 0, 0, 1, 0, 0, 0, 1, 0, 0, 0, 3, 0, 0, 0,
+        0, 0, 0, 0, 1, 0, 0, 0, 0, 0, 0, 0, 6, 0, 0, 0, 0, 0, 0, 0, 8, 0, 0, 0, 0, 0, 0, 0, 7, 0,
+        0, 0, 2, 0, 0, 0, 0, 0, 0, 0, 5, 0, 0, 0, 0, 0, 0, 0, 3, 0, 0, 0, 0, 0, 0, 0, 98, 99,
+    ];
+    assert!(rt; is_packet(alloc, &runt));
+    assert!(rt; is_packet(alloc, &runt[..85]));
+    assert!(rt; !is_packet(alloc, &runt[..84]));
+    for (place, value) in [
+        (2, 8),
+        (2, 11),
+        (8, 3),
+        (8, 6),
+        (20, 0),
+        (20, 2),
+        (24, 2),
+        (24, 5),
+        (32, 2),
+        (68, 4),
+    ] {
+        let mut other = runt;
+        assert!(rt; place < other.len());
+        other[place] = value;
+        assert!(rt; !is_packet(alloc, &other), "at {place}: {value}");
+    }
 }
 
 /// Packets at the edges of their conditions: untagged, with the identifier 7.
@@ -107,7 +168,7 @@ fn edges(rt: HostRuntime) {
         128, 4, 4, 0x80, 0, 0, 0, 0, 5, 0, 0, 0, 0, 0, 0, 0, 1, 0, 0, 0, 1, 0, 0, 0, 7, 0, 0, 0, 2,
         0, 0, 0, 0, 0, 0, 0, 5, 0, 0, 0, 0, 0, 0, 0, 3, 0, 0, 0, 0, 0, 0, 0,
     ];
-    assert!(rt; is_packet(alloc, &long_read));
+    assert!(rt; is_exact(alloc, &long_read));
     let mut shorter = long_read;
     shorter[36] = 4;
     assert!(rt; !is_packet(alloc, &shorter));

@@ -6,7 +6,7 @@ use Rattle.rdm_pkt.specs.Reading.{iov_at}
 use Rattle.rdm_pkt.specs.Opened.{last_place}
 use Rattle.rdm_pkt.proofs.Openers.{opening-none, opening-some, true-not-false}
 use Rattle.rdm_pkt.proofs.ReadForms.{long_read-is, long_read-takes, count_at, same-iov}
-use Rattle.rdm_pkt.proofs.reading.read_long_read.Goals as goal
+use Rattle.rdm_pkt.proofs.read_forms.read_long_read.Goals as goal
 
 pub returns-in_err-opening : goal.returns-in_err-opening
 returns-in_err-opening c = c.from_residual.ensures ∙ sym (long_read-takes c.args.bytes.now (λ i. (c.type_inv.bytes i).fits) (λ o few end fit. opening-none 128 24 c.args.bytes.now (sym c.read_opening.ensures.value ∙ c.in_err-opening.was) o))

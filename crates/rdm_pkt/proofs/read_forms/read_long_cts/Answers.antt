@@ -3,7 +3,7 @@ use Rattle.rdm_pkt.specs.declared.reading.Opening.{Opening}
 use Rattle.rdm_pkt.specs.Opened.{last_place}
 use Rattle.rdm_pkt.proofs.Openers.{opening-none, opening-some}
 use Rattle.rdm_pkt.proofs.Forms.{long_cts-is, long_cts-takes, is-empty, not-empty}
-use Rattle.rdm_pkt.proofs.reading.read_long_cts.Goals as goal
+use Rattle.rdm_pkt.proofs.read_forms.read_long_cts.Goals as goal
 
 pub returns-in_default : goal.returns-in_default
 returns-in_default c = sym (long_cts-takes c.args.bytes.now (λ i. (c.type_inv.bytes i).fits) (λ o some part credits. opening-none 68 24 c.args.bytes.now (sym c.read_opening.ensures.value ∙ c.in_default.is) o))

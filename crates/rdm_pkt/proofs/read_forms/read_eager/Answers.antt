@@ -1,7 +1,7 @@
 use Rattle.std.proofs.Common.{sym, ◌∙◌}
 use Rattle.rdm_pkt.proofs.Openers.{opening-none, opening-some}
 use Rattle.rdm_pkt.proofs.Forms.{eager-is, eager-takes}
-use Rattle.rdm_pkt.proofs.reading.read_eager.Goals as goal
+use Rattle.rdm_pkt.proofs.read_forms.read_eager.Goals as goal
 
 pub returns-in_default : goal.returns-in_default
 returns-in_default c = sym (eager-takes c.args.bytes.now (λ i. (c.type_inv.bytes i).fits) (λ o. opening-none 64 8 c.args.bytes.now (sym c.read_opening.ensures.value ∙ c.in_default.is) o))

@@ -7,7 +7,7 @@ use Rattle.rdm_pkt.specs.Opened.{last_place}
 use Rattle.rdm_pkt.proofs.Openers.{opening-none, opening-some, true-not-false}
 use Rattle.rdm_pkt.proofs.ReadForms.{runt-is, runt-takes, RuntParts, runt_place, count_at, same-iov}
 use Rattle.rdm_pkt.proofs.Forms.{not-above, not-below}
-use Rattle.rdm_pkt.proofs.reading.read_runt.Goals as goal
+use Rattle.rdm_pkt.proofs.read_forms.read_runt.Goals as goal
 
 pub returns-in_default : goal.returns-in_default
 returns-in_default c = sym (runt-takes c.args.bytes.now (λ i. (c.type_inv.bytes i).fits) (λ o parts. opening-none 192 40 c.args.bytes.now (sym c.read_opening.ensures.value ∙ c.in_default.is) o))
