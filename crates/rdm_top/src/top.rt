@@ -1,6 +1,8 @@
 //! The top call.
-ghost use Rattle.std.specs.Prelude.{◌≡◌, ◌≤◌, ◌↔◌, ◌≢◌, ◌++◌, true, false, List, ℕ, length, IfOk, string_bytes};
+ghost use Rattle.std.specs.Prelude.{◌≡◌, ◌≤◌, ◌↔◌, ◌≢◌, ◌++◌, true, false, List, ℕ, length, IfOk, IsTrue, string_bytes};
+ghost use Rattle.rdm_model.specs.Jobs.{is_fair, law_ops};
 ghost use Rattle.rdm_model.specs.Played.{IsPlayed};
+ghost use Rattle.rdm_script.specs.FirstPath.{IsFirstPath};
 ghost use Rattle.rdm_top.specs.Promise.{is_replay, Replies, Untouched, Caused};
 
 use crate::reading::{ReadError, read_all};
@@ -9,7 +11,7 @@ use crate::writing::write_all;
 use rdm_io::{Sink, Source};
 use rdm_model::{Job, Report};
 use rdm_report::text;
-use rdm_script::{ScriptRefused, job_of};
+use rdm_script::{ScriptRefused, built_jobs, job_of};
 use std::alloc::{AllocError, Global};
 
 /// Does what the words after the program's name say. `replay` reads a script from the source, makes
@@ -47,6 +49,7 @@ fn replay<S: Source, K: Sink>(alloc: Global, source: &mut S, sink: &mut K) -> St
         Err(ScriptRefused::Memory) => return Status::Memory,
         Err(ScriptRefused::Bad(bad)) => return Status::BadScript(bad),
     };
+    built_jobs();
     let Ok(report) = play(alloc, &job) else {
         return Status::Memory;
     };
@@ -62,6 +65,8 @@ fn replay<S: Source, K: Sink>(alloc: Global, source: &mut S, sink: &mut K) -> St
 
 /// The report of a job: the steps that it chooses, and then rounds until nothing is left to do.
 fn play(_alloc: Global, job: &Job) -> Result<Report, AllocError>
+    requires first { IsFirstPath job.now }
+    requires fair { IsTrue (is_fair law_ops job.now) }
     ensures { IfOk result (λ report. IsPlayed job.now report) }
 {
     let _job = job;
