@@ -1,12 +1,10 @@
-//! Plays a script that comes from a source, and gives its report to a sink.
+//! Reads a whole input, and gives a whole output, with each fault's cause.
 #![tactic(auto)]
 
 mod reading;
 mod status;
-#[cfg(test)]
-mod tests;
-mod top;
 mod writing;
 
+pub use reading::{ReadError, read_all};
 pub use status::Status;
-pub use top::job;
+pub use writing::write_all;
