@@ -1,6 +1,5 @@
 -- A lawful history of a fair job has no more entries than the job's bound.
 use Rattle.std.proofs.Common.{◌≡◌, ℕ, zero, suc, ◌+◌, ◌*◌, ◌<◌, ◌≤◌, List, [], ◌∷◌, length, IsTrue, refl, arith, sym, ◌∙◌, ap}
-use native.Mathlib.Nat.{mul-le-mul, zero-mul}
 use Rattle.std.specs.Prelude.{sum_by}
 use Rattle.rdm_num.specs.Lists.{Member}
 use Rattle.rdm_num.specs.declared.numbers.Life.{Life}
@@ -16,8 +15,10 @@ use Rattle.rdm_model.specs.Sends.{Sent}
 use Rattle.rdm_model.specs.Steps.{is_push}
 use Rattle.rdm_model.proofs.Pushes.{pushed_of}
 use Rattle.rdm_model.specs.Lawful.{life_deeds}
+use Rattle.rdm_law.specs.Law.{IsBounded}
+use Rattle.rdm_law.proofs.ClassFree.{all_free}
+use Rattle.rdm_law.proofs.LawfulPlayed.{lawful_played}
 use Rattle.rdm_law.proofs.ClassData.{fair_room}
-use Rattle.rdm_law.proofs.FairJobs.{fair_job}
 use Rattle.rdm_law.proofs.Wired.{Played, own_life}
 use Rattle.rdm_law.proofs.Known.{account, sends_of}
 use Rattle.rdm_law.proofs.Named.{pairs_of}
@@ -30,7 +31,9 @@ use Rattle.rdm_law.proofs.KindCounts.{kinds_total, push_kinds}
 use Rattle.rdm_law.proofs.PollCounts.{polls_total}
 use Rattle.rdm_law.proofs.PushCounts.{pushes_counted}
 use Rattle.rdm_law.proofs.PacketCounts.{packets_counted}
+use Rattle.rdm_law.proofs.SquareCounts.{total_each, square_le, fair_ports, ones_of_ops}
 use Rattle.rdm_law.proofs.SeenLives.{seen_lives}
+use Rattle.rdm_law.proofs.SeenCounts.{seen_few}
 use Rattle.rdm_law.proofs.OwedCounts.{owed_counted}
 use Rattle.rdm_law.proofs.AskCounts.{asks_counted}
 use Rattle.rdm_law.proofs.SendSums.{sent_bytes, sends_few, sends_bytes}
@@ -45,6 +48,7 @@ count_total f (d ∷ before) = let r = count_total f before in omega arith
 life_pushes : (job : Job) (history : List Entry) (l : Life) → Played job history → length (seen_lives (life_deeds job history l)) ≤ length (lives_of job history)
     → total is_push' (life_deeds job history l)
     ≤ (length (lives_of job history) + total (pair_load job history l) (pairs_of job history l)) + (total sent_bytes (sends_of job history l) + total send_load (sends_of job history l))
+unfolding own_of
 life_pushes job history l played seen =
     let own = own_of job l in
     let log = life_deeds job history l in
@@ -55,20 +59,6 @@ life_pushes job history l played seen =
     let d = asks_counted job history l played in
     let e = count_total is_push' log in
     omega arith
-
-more : (n k : ℕ) → n + k * n ≡ suc k * n
-more n k = grind arith
-
-times : (n : ℕ) {A : Type 0} (xs : List A) → total (λ x. n) xs ≡ length xs * n
-unfolding total
-times n [] = sym (zero-mul n)
-times n (x ∷ xs) = ap (λ k. n + k) (times n xs) ∙ more n (length xs)
-
-square : (n x : ℕ) → n ≤ x → n * n ≤ x * x
-square n x le = mul-le-mul le le
-
-twice : (x : ℕ) → 2 * (x * x) ≡ 2 * x * x
-twice x = grind arith
 
 -- the bytes that lives send are no more than the job asks for
 life_bytes : (job : Job) (history : List Entry) → Played job history → total (λ l. total sent_bytes (sends_of job history l)) (lives_of job history) ≤ sum_of_ops sent_length job
@@ -108,9 +98,9 @@ life_loads job history played =
 abbrev SeenFew : Job → List Entry → Type 0
 SeenFew job history = (l : Life) → length (seen_lives (life_deeds job history l)) ≤ length (lives_of job history)
 
--- what all lives push
+-- what all lives push, twice as each push may be handled
 all_pushes : (job : Job) (history : List Entry) → Played job history → SeenFew job history
-    → total (λ e. is_push' (deed_at job e)) history ≤ sum_of_ops open_count job * sum_of_ops open_count job + 2 * sum_of_ops one job + 3 * sum_of_ops sent_length job
+    → 2 * total (λ e. is_push' (deed_at job e)) history ≤ 2 * sum_of_ops open_count job * sum_of_ops open_count job + 4 * sum_of_ops one job + 6 * sum_of_ops sent_length job
 all_pushes job history played seen =
     let ls = lives_of job history in
     let f : Life → ℕ = λ l. total (pair_load job history l) (pairs_of job history l) in
@@ -121,23 +111,14 @@ all_pushes job history played seen =
     let c = total_plus (λ l. length ls + f l) (λ l. g l + h l) ls in
     let d = total_plus (λ l. length ls) f ls in
     let e = total_plus g h ls in
-    let t = times (length ls) ls in
+    let t = total_each (length ls) ls in
     let x = pairs_exchanged job history played in
     let y = life_bytes job history played in
     let z = life_loads job history played in
     let n = lives_count job history in
     let o = ops_weight job history open_count played in
     let few : length ls ≤ sum_of_ops open_count job = omega arith in
-    let q = square (length ls) (sum_of_ops open_count job) few in
-    omega arith
-
--- the instructions of a job
-ones : (job : Job) → sum_of_ops one job ≡ sum_by (λ (r : Rank). length r.ops) job.ranks
-unfolding sum_of_ops
-ones job =
-    let a = sum_total (λ (r : Rank). sum_by one r.ops) job.ranks in
-    let b = sum_total (λ (r : Rank). length r.ops) job.ranks in
-    let c = total_same (λ (r : Rank). sum_by one r.ops) (λ (r : Rank). length r.ops) job.ranks (λ r m. let s = sum_total one r.ops in let t = total_ones r.ops in omega arith) in
+    let q = square_le (length ls) (sum_of_ops open_count job) few in
     omega arith
 
 -- a history of a fair job has no more entries than its bound
@@ -146,11 +127,16 @@ unfolding bound
 entries_bounded job history played seen =
     let k = kinds_total job history played in
     let p = push_kinds job history in
-    let n = notes_counted job history (fair_job job played.fair).ports played in
+    let n = notes_counted job history (fair_ports job played.fair) played in
     let l = all_pushes job history played seen in
     let h = handled_le history played.wire in
     let c = polls_total job history played in
     let o = ops_weight job history one played in
-    let i = ones job in
-    let q = twice (sum_of_ops open_count job) in
+    let i = ones_of_ops job in
     omega arith
+
+-- a lawful history of a fair job is bounded
+pub is_bounded : IsBounded
+is_bounded job history fair lawful =
+    let played = lawful_played job history fair (all_free job) lawful in
+    entries_bounded job history played (λ l. seen_few job history played l)
