@@ -43,6 +43,7 @@ filter_step : {A : Type 0} (p : A → Bool) (x : A) (xs : List A) → length (fi
 unfolding one
 filter_step p x xs = elim (p x) as (λ b. length (cond b (x ∷ filter p xs) (filter p xs)) ≡ one b + length (filter p xs)) [ true ↦ omega arith | false ↦ omega arith ]
 
+-- two of which one holds at most, and that a third follows from
 bits : (a p q : Bool) → (a ≡ true → (p ≡ true) × (q ≡ false)) → (q ≡ true → p ≡ true) → one a + one q ≤ one p
 unfolding one
 bits true true true h k = (let e = (h refl).1 in cc)
@@ -65,6 +66,7 @@ split a p q (x ∷ xs) h k =
     let w = filter_step q x xs in
     omega arith
 
+-- a filter has no more elements than its list
 filter_below : {A : Type 0} (p : A → Bool) (xs : List A) → length (filter p xs) ≤ length xs
 filter_below p [] = omega arith
 filter_below {A} p (x ∷ xs) =
@@ -75,6 +77,7 @@ filter_below {A} p (x ∷ xs) =
 filter_more : {A : Type 0} (p : A → Bool) (xs ys : List A) → length (filter p xs) ≤ length (filter p (xs ++ ys))
 filter_more p xs ys = let e = ap length (filter-append p xs ys) in let l = length-append (filter p xs) (filter p ys) in omega arith
 
+-- a list without its first element that passes is no longer
 without_below : {A : Type 0} (t : A → Bool) (xs : List A) → length (without_first t xs) ≤ length xs
 unfolding without_first
 without_below t [] = omega arith
@@ -96,17 +99,20 @@ without_found {A} t (x ∷ xs) y h =
 abbrev size : Matching → ℕ
 size m = length m.posted + length m.pairs
 
+-- 1 for a post
 abbrev adds : Event → ℕ
 adds (Post r) = 1
 adds (Arrive a) = 0
 adds (Cancel n) = 0
 adds (Forget l) = 0
 
+-- a post adds one receive
 post_size : (m : Matching) (r : PostedRecv) (o : Option Arrived) → size (after_post m r o) ≤ size m + 1
 unfolding after_post
 post_size m r None = let a = length-append m.posted (r ∷ []) in omega arith
 post_size m r (Some x) = let a = length-append m.pairs (record { recv = r; message = x } ∷ []) in omega arith
 
+-- an arrival adds none
 arrive_size : (m : Matching) (a : Arrived) (o : Option PostedRecv) → find (λ r. accepts r a) m.posted ≡ o → size (after_arrive m a o) ≤ size m
 unfolding after_arrive
 arrive_size m a None f = omega arith
@@ -115,6 +121,7 @@ arrive_size m a (Some r) f =
     let w = without_found (λ q. accepts q a) m.posted r f in
     omega arith
 
+-- so an event adds what it posts
 after_size : (m : Matching) (e : Event) → size (after m e) ≤ size m + adds e
 unfolding after
 after_size m (Post r) = post_size m r (find (accepts r) m.arrived)
@@ -122,6 +129,7 @@ after_size m (Arrive a) = let s = arrive_size m a (find (λ r. accepts r a) m.po
 after_size m (Cancel n) = let w = without_below (is_recv n) m.posted in omega arith
 after_size m (Forget l) = let w = filter_below (λ (r : PostedRecv). not (is_life r.from l)) m.posted in omega arith
 
+-- a cancel of a posted receive takes one away
 cancel_size : (m : Matching) (n : ℕ) → suc (length (without_first (is_recv n) m.posted)) ≤ length m.posted → suc (size (after m (Cancel n))) ≤ size m
 unfolding after
 cancel_size m n h = omega arith
@@ -168,6 +176,7 @@ unfolding other_life
 other_most life None = omega arith
 other_most life (Some old) = elim (same_life old life) as (λ b. length (cond b [] (old ∷ [])) ≤ 1) [ true ↦ omega arith | false ↦ omega arith ]
 
+-- so a deed forgets one life at most
 forgotten_most : (before : List Deed) (d : Deed) → length (forgotten_by before d) ≤ 1
 unfolding forgotten_by
 forgotten_most before (Did (Insert life)) = other_most life (current before life.port.0)
@@ -179,16 +188,19 @@ flat_one f [] e n l z h = omega arith
 flat_one f (x ∷ []) e n l z h = let a = length-append (f x) (flat_map f []) in let b = h x (inl refl) in omega arith
 flat_one f (x ∷ (y ∷ ys)) e n l z h = absurd (omega arith)
 
+-- a receive that ended has ended
 ended_more : (es fs : List RecvEnd) (n : ℕ) → has_ended es n ≡ true → has_ended (es ++ fs) n ≡ true
 unfolding has_ended
 ended_more es fs n h =
     let m = list_any_member (λ e. ended_recv e == n) es h in
     member_list_any (λ e. ended_recv e == n) m.0 (es ++ fs) (member-append_left m.0 es fs m.1) m.2
 
+-- a receive that is gone has ended
 ended_member : (es : List RecvEnd) (n : ℕ) → Member (Gone n) es → has_ended es n ≡ true
 unfolding has_ended ended_recv
 ended_member es n h = member_list_any (λ e. ended_recv e == n) (Gone n) es h (eq-eqb n n refl)
 
+-- what one element brings is brought
 flat_member : {A B : Type 0} (f : A → List B) (x : A) (y : B) (xs : List A) → Member x xs → Member y (f x) → Member y (flat_map f xs)
 flat_member f x y [] h k = elim h [ ]
 flat_member {A} {B} f x y (z ∷ zs) (inl is) k = member-append_left y (f z) (flat_map f zs) (subst (λ (t : A). Member y (f t)) (sym is) k)
@@ -272,6 +284,7 @@ record Counts (first : ℕ) (heads : Heads) (log : List Deed) : Type 0 where
   pub ended : length (recv_ends first heads log) ≤ length (filter (is_filled first heads log) (pairs first heads log)) + withdrawn + ended_receives first heads log
   pub kept : size (matching first heads log) + withdrawn ≤ length (receives log)
 
+-- the same by accounts that agree
 counts_same : (first : ℕ) (hs ks : Heads) (log : List Deed) → HeadsAgree hs ks log → Counts first hs log → Counts first ks log
 unfolding ended_receives
 counts_same first hs ks log a c =
@@ -286,10 +299,12 @@ counts_same first hs ks log a c =
     let k = c.kept in
     record { withdrawn = c.withdrawn; ended = omega arith; kept = omega arith }
 
+-- before anything
 counts_none : (first : ℕ) (heads : Heads) → Counts first heads []
 unfolding recv_ends matching receives
 counts_none first heads = record { withdrawn = 0; ended = omega arith; kept = omega arith }
 
+-- so it is after each deed
 counts : (own : Own) (log : List Deed) → LifeLocal own log → Counts own.limits.first (heard_by own.limits.first log).head log
 counts own [] local = counts_none own.limits.first (heard_by own.limits.first []).head
 counts own (d ∷ before) local =

@@ -35,6 +35,7 @@ sends_most own ms d before =
       | inr new ↦ (let e = ap (λ (ss : List Sent). length ss) new.2 in let a = length-append (sends own ms before) (new.0 ∷ []) in omega arith)
     ]
 
+-- what a deed adds to sends and receives
 did_step : (own : Own) (ms : Messages) (d : Deed) (before : List Deed)
     → length (sends own ms (d ∷ before)) + 2 * length (receives (d ∷ before)) ≤ length (sends own ms before) + 2 * length (receives before) + two d
 unfolding sends with_sent sent_by receives with_received received_by deed_weight
@@ -51,10 +52,12 @@ did_step own ms _ before =
     let r = length-append (receives before) [] in
     omega arith
 
+-- before anything
 did_none : (own : Own) (ms : Messages) → length (sends own ms []) + 2 * length (receives []) ≤ 0
 unfolding sends receives
 did_none own ms = omega arith
 
+-- so all of them are of deeds that did
 did_counted : (own : Own) (ms : Messages) (log : List Deed) → length (sends own ms log) + 2 * length (receives log) ≤ total two log
 unfolding total
 did_counted own ms [] = did_none own ms
@@ -77,11 +80,13 @@ life_polls own log local =
     let t = count_total is_poll log in
     omega arith
 
+-- a sum of doubles
 total_twice : {A : Type 0} (f : A → ℕ) (xs : List A) → total (λ x. 2 * f x) xs ≡ 2 * total f xs
 unfolding total
 total_twice f [] = refl
 total_twice f (x ∷ xs) = let e = total_twice f xs in omega arith
 
+-- a deed weighs no more than its instruction
 two_le : (job : Job) (e : Entry) → two (deed_at job e) ≤ 2 * entry_weight job one e
 two_le job e = let d = deed_le (rank_of job e.port.0).ops one e.act in omega arith
 
