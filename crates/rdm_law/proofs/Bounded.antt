@@ -39,6 +39,7 @@ use Rattle.rdm_law.proofs.AskCounts.{asks_counted}
 use Rattle.rdm_law.proofs.SendSums.{sent_bytes, sends_few, sends_bytes}
 use Rattle.rdm_law.proofs.Exchange.{send_load, pair_load, pairs_exchanged}
 
+-- both ways to count deeds agree
 count_total : (f : Deed → ℕ) (log : List Deed) → deed_count f log ≡ total f log
 unfolding deed_count total
 count_total f [] = refl
@@ -80,6 +81,7 @@ life_sends job history played =
     let c = ops_weight job history one played in
     omega arith
 
+-- the weight of sends
 loads : (ss : List Sent) → total send_load ss ≡ length ss + total sent_bytes ss
 loads ss = let a = total_plus (λ (s : Sent). 1) sent_bytes ss in let b = total_ones ss in omega arith
 

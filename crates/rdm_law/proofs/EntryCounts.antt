@@ -40,6 +40,7 @@ op_weight ops w _ = 0
 abbrev pub entry_weight : Job → (Instr → ℕ) → Entry → ℕ
 entry_weight job w e = op_weight (rank_of job e.port.0).ops w e.act
 
+-- an act weighs what its instruction adds to those before it
 act_step : (job : Job) (s : Scene) (w : Instr → ℕ) (before : List Entry) (e : Entry) (act : Act) (n : ℕ) → n ≡ count is_next before → Does job class_of s before e act
     → op_weight (rank_of job e.port.0).ops w act + total w (take n (rank_of job e.port.0).ops) ≡ total w (take (n + is_next act) (rank_of job e.port.0).ops)
 unfolding op_weight weight_of is_next
@@ -105,6 +106,7 @@ abbrev WasPushed : Datagram → List Entry → Type 0
 WasPushed d [] = ⊥
 WasPushed d (e ∷ before) = (e.act ≡ Push d) ⊎ WasPushed d before
 
+-- what a port pushed was pushed
 pushed_any : (d : Datagram) (port : ℕ) (history : List Entry) → PushedIn d (log_of port history) → WasPushed d history
 unfolding log_of
 pushed_any d port [] h = elim h [ ]
@@ -125,6 +127,7 @@ record Waits (history : List Entry) : Type 0 where
   counted : length waiting + total (λ (e : Entry). is_handle e.act) history ≡ total (λ (e : Entry). is_push e.act) history
   all : (d : Datagram) → WasPushed d history → IsUnhandled d history → Member d waiting
 
+-- what waits after one more entry
 waits_by : (e : Entry) (before : List Entry) (act : Act) → e.act ≡ act → Wire before → Comes before e act → Waits before → Waits (e ∷ before)
 unfolding total is_handle is_push
 waits_by e before (Push d) is w c was =
@@ -163,6 +166,7 @@ waits_by e before (Poll x) is w c was =
     let k = was.counted in
     record { waiting = was.waiting; counted = omega arith; all = λ q m u. elim m [ inl a ↦ (let e' : Poll x ≡ Push q = sym is ∙ a in cc) | inr a ↦ was.all q a u.0 ] }
 
+-- what waits after a history
 waits : (history : List Entry) → Wire history → Waits history
 unfolding total
 waits [] w = record { waiting = []; counted = refl; all = λ d m u. elim m [ ] }
