@@ -1,10 +1,8 @@
 -- Each push between lives and each poll is a deed of a life; notes are few.
-use Rattle.std.proofs.Common.{◌≡◌, ℕ, zero, suc, ◌+◌, ◌*◌, ◌<◌, ◌≤◌, Bool, true, false, cond, not, List, [], ◌∷◌, ◌++◌, length, map, Option, Some, None, refl, arith, ◌⊎◌, inl, inr, sym, ◌∙◌, ap, subst, length-append}
-use Rattle.std.specs.Prelude.{◌&&◌, ◌==◌, nat_eq, slice_get, filter}
-use Rattle.std.proofs.lemmas.Bool.{cases_eq, eq-eqb, and_from, cases_Bool}
-use Rattle.std.proofs.lemmas.Option.{slice_get_within}
-use Rattle.std.proofs.lemmas.List.{length-map}
-use Rattle.rdm_num.specs.Lists.{Member, below}
+use Rattle.std.proofs.Common.{◌≡◌, ℕ, ◌+◌, ◌≤◌, true, List, [], ◌∷◌, Option, Some, None, refl, arith, ◌⊎◌, inl, inr, sym, ◌∙◌, ap, subst}
+use Rattle.std.specs.Prelude.{nat_eq, slice_get}
+use Rattle.std.proofs.lemmas.Bool.{eq-eqb, and_from}
+use Rattle.rdm_num.specs.Lists.{Member}
 use Rattle.rdm_num.specs.Lives.{life}
 use Rattle.rdm_num.specs.declared.numbers.PortNo.{PortNo}
 use Rattle.rdm_num.specs.declared.numbers.Connid.{Connid}
@@ -13,11 +11,8 @@ use Rattle.rdm_num.specs.declared.completion.Completion.{Completion}
 use Rattle.rdm_wire.specs.declared.Datagram.{Datagram}
 use Rattle.rdm_wire.specs.declared.Body.{Body}
 use Rattle.rdm_wire.specs.declared.Body.TheVariants.{Note, Between}
-use Rattle.rdm_wire.specs.declared.NoteBody.{NoteBody}
-use Rattle.rdm_wire.specs.declared.NoteBody.TheVariants.{Opened as OpenedNote}
 use Rattle.rdm_model.specs.declared.job.Job.{Job}
 use Rattle.rdm_model.specs.declared.job.Instr.{Instr}
-use Rattle.rdm_model.specs.declared.job.Instr.TheVariants.{OpenLife, Note as NoteOp}
 use Rattle.rdm_model.specs.declared.answer.Next.{Next as Answer}
 use Rattle.rdm_model.specs.declared.answer.Next.TheVariants.{Did as DidAnswer}
 use Rattle.rdm_model.specs.declared.answer.Handled.{Handled}
@@ -25,26 +20,23 @@ use Rattle.rdm_model.specs.declared.answer.Handled.TheVariants.{Took as TookAnsw
 use Rattle.rdm_model.specs.declared.entry.Entry.{Entry}
 use Rattle.rdm_model.specs.declared.entry.Act.{Act}
 use Rattle.rdm_model.specs.declared.entry.Act.TheVariants.{Next, Push, Handle, Poll}
-use Rattle.rdm_model.specs.Deeds.{Deed, Did, PushedNote, Pushed, Polled, deed_by_next, deed_by_push, deed_by_handle, deed_of, deeds, deed_count, log_of, open_life, is_connid, of_open_life}
-use Rattle.rdm_model.specs.Owns.{rank_of, port_count}
-use Rattle.rdm_model.specs.Notes.{OwedNote, note_to, notes_by, notes, is_note_push, next_note}
+use Rattle.rdm_model.specs.Deeds.{Deed, deed_by_next, deed_by_push, deed_by_handle, deed_of, log_of, open_life, is_connid, of_open_life}
+use Rattle.rdm_model.specs.Owns.{rank_of}
 use Rattle.rdm_model.specs.Completions.{completions, is_poll, poll_count}
-use Rattle.rdm_model.specs.Scenes.{Scene, scene, deeds_at}
-use Rattle.rdm_model.specs.Going.{Going, GoesNote, Goes, note_going, going, life_going, IsGoing, IsNext}
+use Rattle.rdm_model.specs.Scenes.{Scene, scene}
+use Rattle.rdm_model.specs.Going.{IsNext}
 use Rattle.rdm_model.specs.Classes.{class_of}
-use Rattle.rdm_model.specs.Steps.{is_push, Does}
-use Rattle.rdm_model.specs.Local.{own_scene, Local}
+use Rattle.rdm_model.specs.Steps.{Does}
+use Rattle.rdm_model.specs.Local.{own_scene}
 use Rattle.rdm_model.specs.Lawful.{port_deeds, life_deeds}
-use Rattle.rdm_law.proofs.Logs.{at_log_of}
 use Rattle.rdm_law.proofs.Lives.{is_connid-from}
 use Rattle.rdm_law.proofs.Pushed.{open_push}
 use Rattle.rdm_law.proofs.Wired.{Played, played_before}
 use Rattle.rdm_law.proofs.Lawfully.{own_entry}
-use Rattle.rdm_law.proofs.Opened.{open_opened, first_note, no_life_note}
-use Rattle.rdm_law.proofs.Totals.{total, is_push', total_le, total_plus}
-use Rattle.rdm_law.proofs.Pigeons.{total_grows, total_to, total_to_le}
-use Rattle.rdm_law.proofs.EntryCounts.{op_weight, entry_weight, by_ports, past_ports}
-use Rattle.rdm_law.proofs.LifeCounts.{deed_weight, deed_le, deed_at, lives_of, lives_member, is_mine, life_cases, with_keeps}
+use Rattle.rdm_law.proofs.Opened.{open_opened}
+use Rattle.rdm_law.proofs.Totals.{total, is_push', total_le}
+use Rattle.rdm_law.proofs.Pigeons.{total_grows}
+use Rattle.rdm_law.proofs.LifeCounts.{deed_at, lives_of, lives_member, is_mine, life_cases, with_keeps}
 
 -- each entry that counts is a deed of one of the lives
 abbrev pub AreCovered : Job → (Deed → ℕ) → List Life → List Entry → Type 0

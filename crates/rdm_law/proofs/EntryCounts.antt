@@ -1,5 +1,5 @@
 -- The entries of a history by kinds: instructions are those of the programs, and no more is handled than was pushed.
-use Rattle.std.proofs.Common.{◌≡◌, ℕ, zero, suc, ◌+◌, ◌<◌, ◌≤◌, max, Bool, true, false, cond, List, [], ◌∷◌, ◌++◌, length, take, get_or, Option, Some, None, refl, arith, ◌⊎◌, inl, inr, sym, ◌∙◌, ap, subst}
+use Rattle.std.proofs.Common.{◌≡◌, ℕ, suc, ◌+◌, ◌≤◌, max, List, [], ◌∷◌, length, take, get_or, Option, Some, None, refl, arith, ◌⊎◌, inl, inr, sym, ◌∙◌, ap, subst}
 use Rattle.std.specs.Prelude.{slice_get, sum_by}
 use Rattle.std.proofs.lemmas.Bool.{cases_eq}
 use Rattle.rdm_num.specs.Lists.{Member}
@@ -7,9 +7,6 @@ use Rattle.rdm_wire.specs.declared.Datagram.{Datagram}
 use Rattle.rdm_model.specs.declared.job.Job.{Job}
 use Rattle.rdm_model.specs.declared.job.Rank.{Rank}
 use Rattle.rdm_model.specs.declared.job.Instr.{Instr}
-use Rattle.rdm_model.specs.declared.answer.Next.{Next as Answer}
-use Rattle.rdm_model.specs.declared.answer.Next.TheVariants.{Did as DidAnswer}
-use Rattle.rdm_model.specs.declared.answer.Handled.{Handled}
 use Rattle.rdm_model.specs.declared.entry.Entry.{Entry}
 use Rattle.rdm_model.specs.declared.entry.Act.{Act}
 use Rattle.rdm_model.specs.declared.entry.Act.TheVariants.{Next, Push, Handle, Poll}
@@ -23,7 +20,7 @@ use Rattle.rdm_model.specs.Local.{own_scene, Local}
 use Rattle.rdm_model.specs.Wire.{PushedIn, IsOther, IsUnhandled, Comes, Wire}
 use Rattle.rdm_law.proofs.Logs.{log_of-same, log_of-other}
 use Rattle.rdm_law.proofs.Wired.{Played}
-use Rattle.rdm_law.proofs.Totals.{total, total_same, sum_total, Without, take_out}
+use Rattle.rdm_law.proofs.Totals.{total, total_same, sum_total, take_out}
 use Rattle.rdm_law.proofs.Pigeons.{total_to, total_to_le, total_to_zero, total_to_at, total_take, total_front, total_places}
 
 -- the weight of an instruction, if there is one

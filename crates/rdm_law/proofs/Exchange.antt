@@ -1,5 +1,5 @@
 -- The pairs of all lives are no more than their sends, and neither are their bytes.
-use Rattle.std.proofs.Common.{◌≡◌, ℕ, zero, suc, ◌+◌, ◌≤◌, Bool, true, false, cond, List, [], ◌∷◌, ◌++◌, length, map, Some, refl, arith, ◌⊎◌, inl, inr, sym, ◌∙◌, ap, subst}
+use Rattle.std.proofs.Common.{◌≡◌, ℕ, ◌+◌, ◌≤◌, true, cond, List, [], ◌∷◌, ◌++◌, length, map, refl, arith, inl, inr, sym, ◌∙◌, ap, subst}
 use Rattle.rdm_num.specs.Lists.{Member}
 use Rattle.rdm_num.specs.Lives.{same_life}
 use Rattle.rdm_num.specs.declared.numbers.Connid.{Connid}
@@ -10,20 +10,20 @@ use Rattle.rdm_num.specs.declared.head.Head.{Head}
 use Rattle.rdm_model.specs.declared.job.Job.{Job}
 use Rattle.rdm_model.specs.declared.job.Instr.TheVariants.{OpenLife}
 use Rattle.rdm_model.specs.declared.entry.Entry.{Entry}
-use Rattle.rdm_model.specs.Deeds.{Deed, Did, open_life, of_life}
+use Rattle.rdm_model.specs.Deeds.{Deed, Did, of_life}
 use Rattle.rdm_model.specs.Owns.{own_of}
-use Rattle.rdm_model.specs.Sends.{Sent, sends}
+use Rattle.rdm_model.specs.Sends.{Sent}
 use Rattle.rdm_model.specs.Lawful.{port_deeds, life_deeds}
-use Rattle.rdm_model.proofs.Members.{member-append_left, member-append_right, member-map, same_life-true, same_life-refl}
+use Rattle.rdm_model.proofs.Members.{member-append_left, member-append_right, same_life-true, same_life-refl}
 use Rattle.rdm_model.proofs.Numbers.{made}
 use Rattle.rdm_law.proofs.Lives.{at_of_life}
 use Rattle.rdm_law.proofs.Distinct.{matching_distinct}
 use Rattle.rdm_law.proofs.Numbered.{LacksPair, PairsApart, matching_numbered}
 use Rattle.rdm_law.proofs.Opened.{IsOpened, open_opened}
 use Rattle.rdm_law.proofs.Wired.{Played}
-use Rattle.rdm_law.proofs.Known.{account, sends_of, Known}
+use Rattle.rdm_law.proofs.Known.{account, sends_of}
 use Rattle.rdm_law.proofs.Named.{pairs_of, pair_known}
-use Rattle.rdm_law.proofs.Totals.{total, total-append, total-map, total_le, total_same, total_swap, take_out}
+use Rattle.rdm_law.proofs.Totals.{total, total-append, total-map, total_le, total_swap, take_out}
 use Rattle.rdm_law.proofs.Pigeons.{AreDistinct, one_passes}
 use Rattle.rdm_law.proofs.LifeCounts.{lives_of, lives_distinct, lives_member}
 use Rattle.rdm_law.proofs.SendSums.{sent_bytes}

@@ -1,8 +1,8 @@
 -- Sums over the lives of a history: each entry is a deed of one life at most.
-use Rattle.std.proofs.Common.{◌≡◌, ℕ, zero, suc, ◌+◌, ◌*◌, ◌<◌, ◌≤◌, Bool, true, false, cond, List, [], ◌∷◌, ◌++◌, length, Option, Some, None, refl, arith, ◌⊎◌, inl, inr, sym, ◌∙◌, ap, subst}
+use Rattle.std.proofs.Common.{◌≡◌, ℕ, ◌+◌, ◌≤◌, Bool, true, false, cond, List, [], ◌∷◌, length, Option, Some, refl, arith, inl, inr, sym, ◌∙◌, ap, subst}
 use Rattle.std.specs.Prelude.{◌&&◌, ◌==◌, nat_eq, slice_get}
 use Rattle.std.specs.List.{list_any}
-use Rattle.std.proofs.lemmas.Bool.{cases_eq, cases_Bool, eq-eqb, eqb-true, ne_eqb, and_from, and_parts, and_left, and_right}
+use Rattle.std.proofs.lemmas.Bool.{cases_eq, eq-eqb, eqb-true, ne_eqb, and_from, and_parts, and_left, and_right}
 use Rattle.rdm_num.specs.Lists.{Member}
 use Rattle.rdm_num.specs.Lives.{same_life, life}
 use Rattle.rdm_num.specs.declared.numbers.PortNo.{PortNo}
@@ -20,7 +20,7 @@ use Rattle.rdm_wire.specs.declared.Body.TheVariants.{Note, Between}
 use Rattle.rdm_model.specs.declared.entry.Entry.{Entry}
 use Rattle.rdm_model.specs.declared.entry.Act.{Act}
 use Rattle.rdm_model.specs.declared.entry.Act.TheVariants.{Next, Push, Handle, Poll}
-use Rattle.rdm_model.specs.Deeds.{Deed, Did, Nothing, deed_by_next, deed_by_push, deed_by_handle, deed_of, deeds, log_of, open_life, is_connid, of_life}
+use Rattle.rdm_model.specs.Deeds.{Deed, Did, deed_by_next, deed_by_push, deed_by_handle, deed_of, deeds, log_of, open_life, is_connid, of_life}
 use Rattle.rdm_model.specs.Owns.{rank_of}
 use Rattle.rdm_model.specs.Jobs.{open_count}
 use Rattle.rdm_model.specs.Scenes.{deeds_at}
@@ -28,9 +28,9 @@ use Rattle.rdm_model.specs.Lawful.{port_deeds, life_deeds}
 use Rattle.rdm_model.proofs.Members.{list_any_member, member_list_any, same_life-true, same_life-refl}
 use Rattle.rdm_law.proofs.Logs.{log_of-same, log_of-other, at_log_of}
 use Rattle.rdm_law.proofs.Lives.{at_of_life, same_port, is_connid-from, is_connid-true}
-use Rattle.rdm_law.proofs.Opened.{IsOpened, open_opened}
+use Rattle.rdm_law.proofs.Opened.{IsOpened}
 use Rattle.rdm_law.proofs.Totals.{total, total_le, total_plus}
-use Rattle.rdm_law.proofs.Pigeons.{AreDistinct, one_passes, total_grows}
+use Rattle.rdm_law.proofs.Pigeons.{AreDistinct, one_passes}
 use Rattle.rdm_law.proofs.EntryCounts.{weight_of, op_weight, entry_weight}
 
 -- the weight of the instruction that a deed did

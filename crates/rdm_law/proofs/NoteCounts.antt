@@ -1,11 +1,10 @@
 -- Notes that were pushed are no more than were owed, and polls no more than completions.
-use Rattle.std.proofs.Common.{◌≡◌, ℕ, zero, suc, ◌+◌, ◌*◌, ◌<◌, ◌≤◌, Bool, true, false, cond, not, List, [], ◌∷◌, ◌++◌, length, map, Option, Some, None, refl, arith, ◌⊎◌, inl, inr, sym, ◌∙◌, ap, subst, length-append}
+use Rattle.std.proofs.Common.{◌≡◌, ℕ, zero, suc, ◌+◌, ◌*◌, ◌<◌, ◌≤◌, Bool, true, false, cond, not, List, [], ◌∷◌, length, Option, Some, refl, arith, ap, subst, length-append}
 use Rattle.std.specs.Prelude.{◌==◌, slice_get, filter}
 use Rattle.std.proofs.lemmas.Option.{slice_get_within}
 use Rattle.std.proofs.lemmas.List.{length-map}
-use Rattle.rdm_num.specs.Lists.{Member, below}
+use Rattle.rdm_num.specs.Lists.{below}
 use Rattle.rdm_num.specs.declared.numbers.PortNo.{PortNo}
-use Rattle.rdm_num.specs.declared.numbers.Connid.{Connid}
 use Rattle.rdm_wire.specs.declared.Datagram.{Datagram}
 use Rattle.rdm_wire.specs.declared.Body.{Body}
 use Rattle.rdm_wire.specs.declared.Body.TheVariants.{Note, Between}
@@ -26,7 +25,7 @@ use Rattle.rdm_model.specs.Owns.{Own, rank_of, port_count}
 use Rattle.rdm_model.specs.Notes.{OwedNote, note_to, notes_by, notes, is_note_push, next_note}
 use Rattle.rdm_model.specs.Completions.{completions, completions_by, is_poll, poll_count}
 use Rattle.rdm_model.specs.Scenes.{Scene, scene, deeds_at}
-use Rattle.rdm_model.specs.Going.{Going, GoesNote, Goes, going, life_going, note_going, IsGoing, IsNext}
+use Rattle.rdm_model.specs.Going.{Going, GoesNote, Goes, going, life_going, IsGoing, IsNext}
 use Rattle.rdm_model.specs.Classes.{class_of}
 use Rattle.rdm_model.specs.Steps.{Does}
 use Rattle.rdm_model.specs.Local.{heard_by, own_scene, Local}
@@ -39,7 +38,7 @@ use Rattle.rdm_law.proofs.Opened.{first_note, no_life_note}
 use Rattle.rdm_law.proofs.Knows.{own_port}
 use Rattle.rdm_law.proofs.Totals.{total}
 use Rattle.rdm_law.proofs.Pigeons.{total_to, total_to_le}
-use Rattle.rdm_law.proofs.EntryCounts.{op_weight, entry_weight, by_ports, past_ports}
+use Rattle.rdm_law.proofs.EntryCounts.{entry_weight, by_ports, past_ports}
 use Rattle.rdm_law.proofs.LifeCounts.{deed_weight, deed_le, deed_at}
 
 -- 1 for each instruction

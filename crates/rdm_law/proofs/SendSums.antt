@@ -1,8 +1,7 @@
 -- A life sends and receives no more often than it did instructions, and no more bytes than these ask for.
-use Rattle.std.proofs.Common.{◌≡◌, ℕ, ◌+◌, ◌≤◌, List, [], ◌∷◌, ◌++◌, length, drop, get_or, Option, Some, None, refl, arith, ap, length-append, length-take}
+use Rattle.std.proofs.Common.{ℕ, ◌+◌, ◌≤◌, List, [], ◌∷◌, length, drop, get_or, Option, Some, None, arith, length-append, length-take}
 use Rattle.rdm_num.specs.declared.numbers.Life.{Life}
 use Rattle.rdm_num.specs.declared.request.SendReq.{SendReq}
-use Rattle.rdm_model.specs.declared.job.Instr.{Instr}
 use Rattle.rdm_model.specs.declared.job.Instr.TheVariants.{Send, Recv}
 use Rattle.rdm_model.specs.Jobs.{sent_length}
 use Rattle.rdm_model.specs.Deeds.{Deed, Did}
