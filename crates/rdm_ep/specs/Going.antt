@@ -1,6 +1,7 @@
 -- What goes out from an endpoint, and what is polled.
 use Rattle.std.specs.Prelude.{◌≡◌, ℕ, ◌+◌, Bool, false, List, [], ◌∷◌, ◌++◌, Option, Some, None, drop, slice_get}
 use Rattle.rdm_num.specs.declared.numbers.Life.{Life}
+use Rattle.rdm_num.specs.declared.numbers.SendNo.{SendNo}
 use Rattle.rdm_num.specs.declared.completion.Completion.{Completion}
 use Rattle.rdm_num.specs.declared.completion.Completion.TheVariants.{Send}
 use Rattle.rdm_pkt.specs.declared.Packet.{Packet}
@@ -56,3 +57,9 @@ polled_by v (c ∷ cs) = record v { completions = cs; polled = v.polled + 1 }
 -- the endpoint after a poll
 unfoldable pub after_poll : EndpointView → EndpointView
 after_poll v = polled_by v v.completions
+
+-- the first send of a list was taken out, and has that number
+pub record IsFirst (old new : List Outbound) (number : SendNo) : Type 0 where
+  pub first : Outbound
+  pub list : old ≡ first ∷ new
+  pub number_is : number ≡ first.number

@@ -1,5 +1,5 @@
 -- What the handling of a datagram makes of an endpoint.
-use Rattle.std.specs.Prelude.{ℕ, ◌+◌, Bool, true, false, not, ◌&&◌, ◌||◌, ◌==◌, nat_lt, nat_le, if◌then◌else◌, List, [], ◌∷◌, ◌++◌, length, Option, Some, None, is_none, is_some, find, slice_get}
+use Rattle.std.specs.Prelude.{◌≡◌, ℕ, ◌+◌, Bool, true, false, not, ◌&&◌, ◌||◌, ◌==◌, nat_lt, nat_le, if◌then◌else◌, List, [], ◌∷◌, ◌++◌, length, Option, Some, None, is_none, is_some, find, slice_get}
 use Rattle.std.specs.List.{list_any}
 use Rattle.rdm_num.specs.Lists.{first_case}
 use Rattle.rdm_num.specs.Lives.{same_life, life}
@@ -24,7 +24,7 @@ use Rattle.rdm_model.specs.Sources.{is_other, is_malformed, has_raw}
 use Rattle.rdm_ep.specs.declared.state.Heard.{Heard}
 use Rattle.rdm_ep.specs.declared.state.Inbound.{Inbound}
 use Rattle.rdm_ep.specs.declared.answer.HandleAnswer.{HandleAnswer}
-use Rattle.rdm_ep.specs.declared.answer.HandleAnswer.TheVariants.{Took, Dropped, AgainEarly}
+use Rattle.rdm_ep.specs.declared.answer.HandleAnswer.TheVariants.{Took, Dropped, AgainEarly, Memory}
 use Rattle.rdm_ep.specs.View.{EndpointView, current_in}
 use Rattle.rdm_ep.specs.Peers.{peer_in, with_peer, greeted_peer, known_peer}
 use Rattle.rdm_ep.specs.Receiving.{takes, after_arrive}
@@ -147,3 +147,8 @@ body_answer v d (Between from to load) = item_answer v (life d.src from) to (ite
 unfoldable pub after_body : HandleAnswer → Datagram → Body → EndpointView → EndpointView
 after_body answer d (Note note) v = v
 after_body answer d (Between from to load) v = after_answer answer (life d.src from) (item_of load) v
+
+-- the endpoint is as the answer to a datagram says
+abbrev pub HandlesAs : EndpointView → EndpointView → Datagram → HandleAnswer → Type 0
+HandlesAs old new d Memory = new ≡ old
+HandlesAs old new d answer = (answer ≡ body_answer old d d.body) × (new ≡ after_body answer d d.body old)

@@ -1,10 +1,14 @@
 -- An endpoint as contracts see it, and what each call makes of it.
+pub mod Places
 pub mod View
+pub mod Counts
 pub mod Peers
 pub mod Sending
 pub mod Receiving
 pub mod Handling
+pub mod Verdicts
 pub mod Going
--- What its lists are of the deeds of its life, where these are plain.
+-- What its lists are of the deeds of its life, where these are plain, and what its calls answer then, as a port tells it.
 pub mod Plain
 pub mod Keeps
+pub mod Answers

@@ -1,5 +1,5 @@
 -- What the calls that receive make of an endpoint.
-use Rattle.std.specs.Prelude.{ℕ, ◌+◌, ◌-◌, Bool, false, ◌||◌, nat_le, List, [], ◌∷◌, ◌++◌, length, take, Option, Some, None, is_none, find}
+use Rattle.std.specs.Prelude.{◌≡◌, ◌<◌, ◌≤◌, ⊤, ℕ, ◌+◌, ◌-◌, Bool, true, false, get_or, ◌||◌, nat_le, List, [], ◌∷◌, ◌++◌, length, take, Option, Some, None, is_none, find}
 use Rattle.rdm_num.specs.Lists.{first_case, without_first}
 use Rattle.rdm_num.specs.declared.numbers.PortNo.{PortNo}
 use Rattle.rdm_num.specs.declared.numbers.Life.{Life}
@@ -76,11 +76,38 @@ unfoldable pub after_post : EndpointView → Posted → Option Inbound → Endpo
 after_post v p None = record v { posted = v.posted ++ p ∷ [] }
 after_post v p (Some i) = landed p i (record v { arrived = without_first (takes p) v.arrived })
 
+-- one more receive was accepted
+abbrev pub one_more_receive : EndpointView → EndpointView
+one_more_receive v = record v { receives = v.receives + 1 }
+
 -- the endpoint after a receive that was accepted
 unfoldable pub after_recv : EndpointView → RecvReq → EndpointView
-after_recv v req = after_post (record v { receives = v.receives + 1 }) (posted_by v req) (find (takes (posted_by v req)) v.arrived)
+after_recv v req = after_post (one_more_receive v) (posted_by v req) (find (takes (posted_by v req)) v.arrived)
 
 -- the first receive that accepts a message takes it, or it waits last
 unfoldable pub after_arrive : EndpointView → Inbound → Option Posted → EndpointView
 after_arrive v i None = record v { arrived = v.arrived ++ i ∷ [] }
 after_arrive v i (Some p) = landed p i (record v { posted = without_first (λ q. takes q i) v.posted })
+
+-- the endpoint is as the answer to a receive says
+abbrev pub ReceivesAs : EndpointView → EndpointView → RecvReq → RecvAnswer → Type 0
+ReceivesAs old new req (Did recv) = new ≡ after_recv old req
+ReceivesAs old new req _ = new ≡ old
+
+-- all that an accepted receive says of the endpoint
+pub record CanReceive (v : EndpointView) (req : RecvReq) (from : Option Life) : Type 0 where
+  pub answer : recv_answer v req ≡ Did (record { 0 = v.receives })
+  pub named : named_in v req.from ≡ from
+  pub region : req.region.0 < length v.regions
+  pub range : req.at + req.len ≤ length (get_or v.regions req.region.0 [])
+  pub room : v.sends + v.receives < v.own.limits.cq + v.polled
+
+-- a receive that was not accepted
+abbrev pub IsNoReceive : RecvAnswer → Type 0
+IsNoReceive (Did recv) = ⊥
+IsNoReceive _ = ⊤
+
+-- a receive that waits for a place
+unfoldable pub is_again : RecvAnswer → Bool
+is_again (Again pool) = true
+is_again _ = false

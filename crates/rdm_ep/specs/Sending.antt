@@ -1,5 +1,5 @@
 -- What the calls that register, insert and send make of an endpoint.
-use Rattle.std.specs.Prelude.{ℕ, ◌+◌, Bool, false, ◌&&◌, ◌==◌, nat_lt, nat_le, List, [], ◌∷◌, ◌++◌, length, get_or, Option, Some, None, is_none, Result, Ok, Err, if◌then◌else◌}
+use Rattle.std.specs.Prelude.{◌≡◌, ◌<◌, ◌≤◌, ⊤, ℕ, ◌+◌, Bool, true, false, not, ◌&&◌, ◌==◌, nat_lt, nat_le, List, [], ◌∷◌, ◌++◌, length, get_or, Option, Some, None, is_none, Result, Ok, Err, if◌then◌else◌}
 use Rattle.std.specs.List.{list_any}
 use Rattle.rdm_num.specs.Lists.{first_case}
 use Rattle.rdm_num.specs.Pieces.{overlaps}
@@ -13,12 +13,13 @@ use Rattle.rdm_model.specs.declared.answer.PoolName.TheVariants as Pool
 use Rattle.rdm_model.specs.Sends.{wants_raw, opt_for, range_of}
 use Rattle.rdm_ep.specs.declared.state.Posted.{Posted}
 use Rattle.rdm_ep.specs.declared.state.Outbound.{Outbound}
+use Rattle.rdm_ep.specs.declared.state.AcceptedSend.{AcceptedSend}
 use Rattle.rdm_ep.specs.declared.answer.SendAnswer.{SendAnswer}
 use Rattle.rdm_ep.specs.declared.answer.SendAnswer.TheVariants.{Did, Refused, Again}
 use Rattle.rdm_ep.specs.declared.answer.Inserted.{Inserted as InsertedAnswer}
 use Rattle.rdm_ep.specs.declared.answer.Inserted.TheVariants.{Inserted, Same}
 use Rattle.rdm_ep.specs.declared.answer.InsertRefused.{InsertRefused}
-use Rattle.rdm_ep.specs.declared.answer.InsertRefused.TheVariants.{Superseded}
+use Rattle.rdm_ep.specs.declared.answer.InsertRefused.TheVariants.{Superseded, Memory}
 use Rattle.rdm_ep.specs.View.{EndpointView, current_in, cq_in}
 use Rattle.rdm_ep.specs.Peers.{peer_in, with_peer, sent_peer}
 
@@ -30,6 +31,11 @@ after_reg v content = record v { regions = v.regions ++ content ∷ [] }
 unfoldable pub insert_answer : Life → Option Life → Result InsertedAnswer InsertRefused
 insert_answer life None = Ok Inserted
 insert_answer life (Some old) = if same_life old life then Ok Same else Err Superseded
+
+-- the life would take the place of another one
+unfoldable pub supersedes : Life → Option Life → Bool
+supersedes life None = false
+supersedes life (Some old) = not (same_life old life)
 
 -- the endpoint after an insert
 unfoldable pub after_insert : EndpointView → Life → EndpointView
@@ -103,3 +109,33 @@ after_send_to v req (Some to) =
 -- the endpoint after a send that was accepted
 unfoldable pub after_send : EndpointView → SendReq → EndpointView
 after_send v req = after_send_to v req (current_in v req.to.0)
+
+-- the endpoint is as the answer to a send says
+abbrev pub SendsAs : EndpointView → EndpointView → SendReq → SendAnswer → Type 0
+SendsAs old new req (Did send msg) = new ≡ after_send old req
+SendsAs old new req _ = new ≡ old
+
+-- the endpoint is as the answer to an insert says
+abbrev pub InsertsAs : EndpointView → EndpointView → Life → Result InsertedAnswer InsertRefused → Type 0
+InsertsAs old new life (Err Memory) = new ≡ old
+InsertsAs old new life (Err Superseded) = (insert_answer life (current_in old life.port.0) ≡ Err Superseded) × (new ≡ old)
+InsertsAs old new life (Ok answer) = (insert_answer life (current_in old life.port.0) ≡ Ok answer) × (new ≡ after_insert old life)
+
+-- all that an accepted send says of the endpoint
+pub record CanSend (v : EndpointView) (req : SendReq) (a : AcceptedSend) : Type 0 where
+  pub answer : send_answer v req ≡ Did (record { 0 = v.sends }) a.msg
+  pub current : current_in v req.to.0 ≡ Some a.to
+  pub number : v.own.limits.first + (peer_in v.peers a.to).sent ≡ a.msg.0
+  pub region : req.region.0 < length v.regions
+  pub range : req.at + req.len ≤ length (get_or v.regions req.region.0 [])
+  pub room : v.sends + v.receives < v.own.limits.cq + v.polled
+
+-- a send that was not accepted
+abbrev pub IsNoSend : SendAnswer → Type 0
+IsNoSend (Did send msg) = ⊥
+IsNoSend _ = ⊤
+
+-- a send that waits for a place
+unfoldable pub is_again : SendAnswer → Bool
+is_again (Again pool) = true
+is_again _ = false

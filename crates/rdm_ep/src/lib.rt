@@ -3,8 +3,19 @@
 #![tactic(auto)]
 
 mod answer;
+mod current;
 mod endpoint;
+mod going;
+mod handling;
+mod packets;
+mod peers;
+mod ranges;
+mod receiving;
+mod sending;
 mod state;
+mod telling;
+mod taking;
+mod verdict;
 
 pub use answer::{
     CancelAnswer, HandleAnswer, InsertRefused, Inserted, Outgoing, RecvAnswer, SendAnswer,

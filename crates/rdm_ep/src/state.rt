@@ -1,5 +1,6 @@
 //! What an endpoint keeps.
 use rdm_num::{Bytes, Life, MsgNo, RecvNo, RecvReq, SendNo, SendReq};
+use rdm_model::Class;
 use rdm_pkt::Packet;
 
 /// What is known of a life.
@@ -47,4 +48,20 @@ pub struct Outbound {
     pub to: Life,
     pub req: SendReq,
     pub packet: Packet,
+}
+
+/// Where the message of an accepted send goes, and its number.
+#[derive(Clone, Copy, Debug)]
+pub(crate) struct AcceptedSend {
+    pub to: Life,
+    pub msg: MsgNo,
+}
+
+/// What is to be done with what came.
+#[derive(Debug, Drop)]
+pub(crate) enum Verdict {
+    Refuse(Class),
+    Message(Inbound),
+    /// A handshake with this word of features.
+    Features(Option<u64>),
 }

@@ -1,94 +1,53 @@
 -- At a settled end all grants that one standing life owed another were taken.
-use Rattle.std.proofs.Common.{zero, suc, ◌+◌, ◌-◌, ◌<◌, ◌≤◌, cond, length, take, drop, arith}
-use Rattle.std.specs.Prelude.{min, nat_lt, slice_get}
-use Rattle.std.proofs.lemmas.Bool.{ltb-false}
-use Rattle.rdm_num.specs.Lives.{op_id}
-use Rattle.rdm_num.specs.Pieces.{piece_bytes, covers}
-use Rattle.rdm_model.specs.Parts.{carried_pieces}
+use Rattle.std.proofs.Common.{◌<◌, ◌≤◌, arith}
 use Rattle.rdm_num.specs.declared.numbers.OpId.{OpId}
 use Rattle.rdm_num.specs.declared.numbers.Stamp.{Stamp}
-use Rattle.rdm_pkt.specs.declared.Packet.{Packet}
-use Rattle.rdm_pkt.specs.declared.Packet.TheVariants.{Cts, CtsData}
-use Rattle.rdm_pkt.specs.declared.Kind.{Kind}
-use Rattle.rdm_pkt.specs.declared.Kind.TheVariants.{Eager, Medium, LongCts, LongRead, Runt}
-use Rattle.rdm_pkt.specs.Openings.{openings}
+use Rattle.rdm_pkt.specs.declared.Packet.TheVariants.{Cts}
 use Rattle.rdm_model.specs.Currents.{is_forgotten}
-use Rattle.rdm_model.specs.Owns.{Own}
-use Rattle.rdm_model.specs.Grants.{Grant, grants, grant_bytes, data_room}
-use Rattle.rdm_model.specs.Sends.{Sent, sends}
-use Rattle.rdm_model.specs.Turns.{Replies, progress, pieces_in, is_read, data_packet, granted_packet, next_packet}
-use Rattle.rdm_model.proofs.Opens.{openings_bytes}
-use Rattle.rdm_model.proofs.Turns.{Underway}
+use Rattle.rdm_model.specs.Turns.{Replies}
 use Rattle.rdm_model.specs.Local.{Local}
 use Rattle.rdm_model.specs.declared.entry.Act.TheVariants.{Push}
-use Rattle.rdm_model.specs.Matches.{pairs}
-use Rattle.rdm_model.specs.Heard.{heard_head, is_heard}
-use Rattle.rdm_match.specs.Matcher.{Pair}
-use Rattle.rdm_model.proofs.Matches.{pair_heard}
-use Rattle.rdm_model.proofs.Pushes.{pushed_of, underway}
-use Rattle.rdm_model.proofs.Served.{done_bytes}
 use Rattle.rdm_law.proofs.Still.{settled_still, at_rest}
-use Rattle.rdm_law.proofs.AllEnters.{stands, heard_from}
-use Rattle.rdm_law.proofs.PushedLands.{pushed_covers}
-use Rattle.rdm_law.proofs.WholePushed.{over_whole}
-use Rattle.rdm_law.proofs.Windows.{reach}
-use Rattle.rdm_law.proofs.GrantsEnd.{granted_all}
+use Rattle.rdm_law.proofs.AllEnters.{stands}
 use Rattle.rdm_law.proofs.Pushed.{PlacedAt}
 use Rattle.rdm_law.proofs.Wired.{TakenAs}
-use Rattle.rdm_law.proofs.Known.{account, sends_of}
+use Rattle.rdm_law.proofs.Known.{account}
 use Rattle.rdm_law.proofs.Datagrams.{stamp_rises}
 use Rattle.rdm_law.proofs.Queue.{Placed}
 use Rattle.rdm_law.proofs.Answered.{Answered}
 use Rattle.rdm_law.proofs.PlacedRest.{answered_turned, turned_placed, place_rest}
 use Rattle.rdm_law.proofs.GrantsTaken.{placed_pushed}
-use Rattle.rdm_law.proofs.GrantsReach.{AllTaken, reach_allowed}
-use Rattle.rdm_law.proofs.Granted.{Granting, allowed_of}
-use Rattle.rdm_law.proofs.WholePushed.{none_left, opened_done}
-use Rattle.std.proofs.Common.{◌≡◌, ℕ, ◌<◌, Bool, true, false, cond, not, ◌||◌, List, [], ◌∷◌, Option, Some, None, refl, arith, ◌⊎◌, inl, inr, sym, ◌∙◌, ap, subst}
-use Rattle.std.specs.Prelude.{nat_le}
+use Rattle.rdm_law.proofs.GrantsReach.{AllTaken}
+use Rattle.std.proofs.Common.{◌≡◌, ℕ, ◌<◌, false, List, [], ◌∷◌, Some, arith, inl, inr, sym, ◌∙◌, ap, subst}
 use Rattle.std.specs.List.{list_any}
-use Rattle.std.proofs.lemmas.Bool.{and_parts, and_from, or_parts, or_from, or_cases, eq-eqb, lt-leb, not-true}
+use Rattle.std.proofs.lemmas.Bool.{or_parts}
 use Rattle.rdm_num.specs.Lists.{Member}
-use Rattle.rdm_num.specs.Lives.{same_life, life}
 use Rattle.rdm_num.specs.declared.numbers.Life.{Life}
 use Rattle.rdm_num.specs.declared.numbers.Connid.{Connid}
 use Rattle.rdm_num.specs.declared.numbers.PortNo.{PortNo}
-use Rattle.rdm_pkt.specs.declared.Packet.TheVariants.{Rtm}
 use Rattle.rdm_wire.specs.declared.Datagram.{Datagram}
-use Rattle.rdm_wire.specs.declared.Body.{Body}
-use Rattle.rdm_wire.specs.declared.Body.TheVariants.{Note, Between}
+use Rattle.rdm_wire.specs.declared.Body.TheVariants.{Between}
 use Rattle.rdm_wire.specs.declared.Load.{Load}
 use Rattle.rdm_model.specs.declared.job.Job.{Job}
 use Rattle.rdm_model.specs.declared.entry.Entry.{Entry}
 use Rattle.rdm_model.specs.declared.entry.Act.{Act}
 use Rattle.rdm_model.specs.declared.entry.Act.TheVariants.{Handle}
-use Rattle.rdm_model.specs.declared.answer.Handled.{Handled}
-use Rattle.rdm_model.specs.declared.answer.Class.{Class}
-use Rattle.rdm_model.specs.declared.answer.Entered.{Entered}
-use Rattle.rdm_model.specs.declared.answer.Handled.TheVariants.{Took as TookAnswer, Dropped}
-use Rattle.rdm_model.specs.Deeds.{Deed, Took, Item, Spelled, item_of, deed_of, deed_by_handle, log_of, of_life, of_open_life, open_life}
-use Rattle.rdm_model.specs.Owns.{rank_of, own_of}
-use Rattle.rdm_model.specs.Heard.{is_heard}
-use Rattle.rdm_model.specs.Turns.{Turn}
+use Rattle.rdm_model.specs.declared.answer.Handled.TheVariants.{Dropped}
+use Rattle.rdm_model.specs.Deeds.{Item, Spelled, log_of}
+use Rattle.rdm_model.specs.Owns.{own_of}
 use Rattle.rdm_model.specs.Going.{Goes, turn_going}
-use Rattle.rdm_model.specs.Classes.{class_of, lives_class}
-use Rattle.rdm_model.specs.Scenes.{Scene, scene, deeds_at}
-use Rattle.rdm_model.specs.Steps.{last_stamp, clock, Does, Classing}
-use Rattle.rdm_model.specs.Takes.{taken_answer, class_answer, handled_answer, needs_place, body_needs_place, is_again_early, is_met}
+use Rattle.rdm_model.specs.Classes.{class_of}
+use Rattle.rdm_model.specs.Scenes.{deeds_at}
+use Rattle.rdm_model.specs.Steps.{last_stamp, clock, Does}
+use Rattle.rdm_model.specs.Takes.{handled_answer}
 use Rattle.rdm_model.specs.Local.{own_scene}
 use Rattle.rdm_model.specs.Wire.{PushedIn, Comes}
-use Rattle.rdm_model.specs.Settled.{waiting_datagrams, is_worn, is_worn_by, is_settled}
-use Rattle.rdm_model.specs.Lawful.{life_deeds, port_deeds, sent_scene}
-use Rattle.rdm_model.specs.Standing.{goes, drops_between, Standing}
-use Rattle.rdm_model.proofs.Members.{same_life-refl}
-use Rattle.rdm_law.proofs.Lives.{TurnedAt, is_connid-true}
-use Rattle.rdm_law.proofs.SmallBytes.{all_member}
-use Rattle.rdm_law.proofs.Pushed.{of_life_newest}
-use Rattle.rdm_law.proofs.Wired.{Played, played_before, took_to, bears_item}
+use Rattle.rdm_model.specs.Settled.{waiting_datagrams}
+use Rattle.rdm_model.specs.Lawful.{life_deeds, port_deeds}
+use Rattle.rdm_model.specs.Standing.{drops_between}
+use Rattle.rdm_law.proofs.Wired.{Played, played_before}
 use Rattle.rdm_law.proofs.Waiting.{waits_in_history}
-use Rattle.rdm_law.proofs.Still.{quiet, open_rank, not_worn}
-use Rattle.rdm_law.proofs.Datagrams.{turned_carried}
-use Rattle.rdm_law.proofs.Delivered.{HandledIt, handled_cases, it_was, local_at, deed_stays, dropped_between, same_port}
+use Rattle.rdm_law.proofs.Delivered.{HandledIt, handled_cases, it_was, local_at, dropped_between}
 use Rattle.rdm_law.proofs.Meets.{Meet, IsUnheard, taken_or, waits_unheard}
 use Rattle.rdm_law.proofs.Wired.{HandledBy}
 

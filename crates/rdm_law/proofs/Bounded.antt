@@ -1,18 +1,12 @@
 -- A lawful history of a fair job has no more entries than the job's bound.
-use Rattle.std.proofs.Common.{◌≡◌, ℕ, zero, suc, ◌+◌, ◌*◌, ◌<◌, ◌≤◌, List, [], ◌∷◌, length, IsTrue, refl, arith, sym, ◌∙◌, ap}
-use Rattle.std.specs.Prelude.{sum_by}
-use Rattle.rdm_num.specs.Lists.{Member}
+use Rattle.std.proofs.Common.{◌≡◌, ℕ, ◌+◌, ◌*◌, ◌≤◌, List, [], ◌∷◌, length, refl, arith}
 use Rattle.rdm_num.specs.declared.numbers.Life.{Life}
 use Rattle.rdm_model.specs.declared.job.Job.{Job}
-use Rattle.rdm_model.specs.declared.job.Rank.{Rank}
 use Rattle.rdm_model.specs.declared.entry.Entry.{Entry}
 use Rattle.rdm_model.specs.Deeds.{Deed, deed_count}
-use Rattle.rdm_model.specs.Owns.{own_of, rank_of, port_count}
-use Rattle.rdm_model.specs.Jobs.{is_fair, law_ops, bound, sum_of_ops, sent_length, open_count}
-use Rattle.rdm_model.specs.Notes.{is_note_push}
-use Rattle.rdm_model.specs.Completions.{is_poll}
+use Rattle.rdm_model.specs.Owns.{own_of, rank_of}
+use Rattle.rdm_model.specs.Jobs.{bound, sum_of_ops, sent_length, open_count}
 use Rattle.rdm_model.specs.Sends.{Sent}
-use Rattle.rdm_model.specs.Steps.{is_push}
 use Rattle.rdm_model.proofs.Pushes.{pushed_of}
 use Rattle.rdm_model.specs.Lawful.{life_deeds}
 use Rattle.rdm_law.specs.Law.{IsBounded}
@@ -22,8 +16,8 @@ use Rattle.rdm_law.proofs.ClassData.{fair_room}
 use Rattle.rdm_law.proofs.Wired.{Played, own_life}
 use Rattle.rdm_law.proofs.Known.{account, sends_of}
 use Rattle.rdm_law.proofs.Named.{pairs_of}
-use Rattle.rdm_law.proofs.Totals.{total, is_push', is_ask, total_le, total_same, total_plus, total_ones, sum_total}
-use Rattle.rdm_law.proofs.EntryCounts.{entry_weight, is_handle, ops_weight, handled_le}
+use Rattle.rdm_law.proofs.Totals.{total, is_push', total_le, total_same, total_plus, total_ones}
+use Rattle.rdm_law.proofs.EntryCounts.{entry_weight, ops_weight, handled_le}
 use Rattle.rdm_law.proofs.LifeCounts.{deed_weight, deed_le, deed_at, lives_of, lives_distinct, lives_count, lives_weight}
 use Rattle.rdm_law.proofs.Covers.{covered_weight, are_covered, push_life}
 use Rattle.rdm_law.proofs.NoteCounts.{one, notes_counted}
@@ -39,6 +33,7 @@ use Rattle.rdm_law.proofs.AskCounts.{asks_counted}
 use Rattle.rdm_law.proofs.SendSums.{sent_bytes, sends_few, sends_bytes}
 use Rattle.rdm_law.proofs.Exchange.{send_load, pair_load, pairs_exchanged}
 
+-- both ways to count deeds agree
 count_total : (f : Deed → ℕ) (log : List Deed) → deed_count f log ≡ total f log
 unfolding deed_count total
 count_total f [] = refl
@@ -80,6 +75,7 @@ life_sends job history played =
     let c = ops_weight job history one played in
     omega arith
 
+-- the weight of sends
 loads : (ss : List Sent) → total send_load ss ≡ length ss + total sent_bytes ss
 loads ss = let a = total_plus (λ (s : Sent). 1) sent_bytes ss in let b = total_ones ss in omega arith
 

@@ -1,10 +1,8 @@
 -- Each push between lives and each poll is a deed of a life; notes are few.
-use Rattle.std.proofs.Common.{◌≡◌, ℕ, zero, suc, ◌+◌, ◌*◌, ◌<◌, ◌≤◌, Bool, true, false, cond, not, List, [], ◌∷◌, ◌++◌, length, map, Option, Some, None, refl, arith, ◌⊎◌, inl, inr, sym, ◌∙◌, ap, subst, length-append}
-use Rattle.std.specs.Prelude.{◌&&◌, ◌==◌, nat_eq, slice_get, filter}
-use Rattle.std.proofs.lemmas.Bool.{cases_eq, eq-eqb, and_from, cases_Bool}
-use Rattle.std.proofs.lemmas.Option.{slice_get_within}
-use Rattle.std.proofs.lemmas.List.{length-map}
-use Rattle.rdm_num.specs.Lists.{Member, below}
+use Rattle.std.proofs.Common.{◌≡◌, ℕ, ◌+◌, ◌≤◌, true, List, [], ◌∷◌, Option, Some, None, refl, arith, ◌⊎◌, inl, inr, sym, ◌∙◌, ap, subst}
+use Rattle.std.specs.Prelude.{nat_eq, slice_get}
+use Rattle.std.proofs.lemmas.Bool.{eq-eqb, and_from}
+use Rattle.rdm_num.specs.Lists.{Member}
 use Rattle.rdm_num.specs.Lives.{life}
 use Rattle.rdm_num.specs.declared.numbers.PortNo.{PortNo}
 use Rattle.rdm_num.specs.declared.numbers.Connid.{Connid}
@@ -13,11 +11,8 @@ use Rattle.rdm_num.specs.declared.completion.Completion.{Completion}
 use Rattle.rdm_wire.specs.declared.Datagram.{Datagram}
 use Rattle.rdm_wire.specs.declared.Body.{Body}
 use Rattle.rdm_wire.specs.declared.Body.TheVariants.{Note, Between}
-use Rattle.rdm_wire.specs.declared.NoteBody.{NoteBody}
-use Rattle.rdm_wire.specs.declared.NoteBody.TheVariants.{Opened as OpenedNote}
 use Rattle.rdm_model.specs.declared.job.Job.{Job}
 use Rattle.rdm_model.specs.declared.job.Instr.{Instr}
-use Rattle.rdm_model.specs.declared.job.Instr.TheVariants.{OpenLife, Note as NoteOp}
 use Rattle.rdm_model.specs.declared.answer.Next.{Next as Answer}
 use Rattle.rdm_model.specs.declared.answer.Next.TheVariants.{Did as DidAnswer}
 use Rattle.rdm_model.specs.declared.answer.Handled.{Handled}
@@ -25,26 +20,23 @@ use Rattle.rdm_model.specs.declared.answer.Handled.TheVariants.{Took as TookAnsw
 use Rattle.rdm_model.specs.declared.entry.Entry.{Entry}
 use Rattle.rdm_model.specs.declared.entry.Act.{Act}
 use Rattle.rdm_model.specs.declared.entry.Act.TheVariants.{Next, Push, Handle, Poll}
-use Rattle.rdm_model.specs.Deeds.{Deed, Did, PushedNote, Pushed, Polled, deed_by_next, deed_by_push, deed_by_handle, deed_of, deeds, deed_count, log_of, open_life, is_connid, of_open_life}
-use Rattle.rdm_model.specs.Owns.{rank_of, port_count}
-use Rattle.rdm_model.specs.Notes.{OwedNote, note_to, notes_by, notes, is_note_push, next_note}
+use Rattle.rdm_model.specs.Deeds.{Deed, deed_by_next, deed_by_push, deed_by_handle, deed_of, log_of, open_life, is_connid, of_open_life}
+use Rattle.rdm_model.specs.Owns.{rank_of}
 use Rattle.rdm_model.specs.Completions.{completions, is_poll, poll_count}
-use Rattle.rdm_model.specs.Scenes.{Scene, scene, deeds_at}
-use Rattle.rdm_model.specs.Going.{Going, GoesNote, Goes, note_going, going, life_going, IsGoing, IsNext}
+use Rattle.rdm_model.specs.Scenes.{Scene, scene}
+use Rattle.rdm_model.specs.Going.{IsNext}
 use Rattle.rdm_model.specs.Classes.{class_of}
-use Rattle.rdm_model.specs.Steps.{is_push, Does}
-use Rattle.rdm_model.specs.Local.{own_scene, Local}
+use Rattle.rdm_model.specs.Steps.{Does}
+use Rattle.rdm_model.specs.Local.{own_scene}
 use Rattle.rdm_model.specs.Lawful.{port_deeds, life_deeds}
-use Rattle.rdm_law.proofs.Logs.{at_log_of}
 use Rattle.rdm_law.proofs.Lives.{is_connid-from}
 use Rattle.rdm_law.proofs.Pushed.{open_push}
 use Rattle.rdm_law.proofs.Wired.{Played, played_before}
 use Rattle.rdm_law.proofs.Lawfully.{own_entry}
-use Rattle.rdm_law.proofs.Opened.{open_opened, first_note, no_life_note}
-use Rattle.rdm_law.proofs.Totals.{total, is_push', total_le, total_plus}
-use Rattle.rdm_law.proofs.Pigeons.{total_grows, total_to, total_to_le}
-use Rattle.rdm_law.proofs.EntryCounts.{op_weight, entry_weight, by_ports, past_ports}
-use Rattle.rdm_law.proofs.LifeCounts.{deed_weight, deed_le, deed_at, lives_of, lives_member, is_mine, life_cases, with_keeps}
+use Rattle.rdm_law.proofs.Opened.{open_opened}
+use Rattle.rdm_law.proofs.Totals.{total, is_push', total_le}
+use Rattle.rdm_law.proofs.Pigeons.{total_grows}
+use Rattle.rdm_law.proofs.LifeCounts.{deed_at, lives_of, lives_member, is_mine, life_cases, with_keeps}
 
 -- each entry that counts is a deed of one of the lives
 abbrev pub AreCovered : Job → (Deed → ℕ) → List Life → List Entry → Type 0
@@ -52,10 +44,12 @@ AreCovered job g ls [] = Unit {0}
 AreCovered job g ls (e ∷ before) =
     AreCovered job g ls before × ((g (deed_at job e) ≡ 0) ⊎ ((l : Life) × Member l ls × (e.port.0 ≡ l.port.0) × (is_mine job e before l ≡ true)))
 
+-- deeds only get more
 life_more : (job : Job) (g : Deed → ℕ) (e : Entry) (before : List Entry) (l : Life) → total g (life_deeds job before l) ≤ total g (life_deeds job (e ∷ before) l)
 unfolding total
 life_more job g e before l = life_cases (λ ds. total g (life_deeds job before l) ≤ total g ds) job l e before (λ s is. omega arith) (λ is. omega arith)
 
+-- a life gains its own deed
 life_gains : (job : Job) (g : Deed → ℕ) (e : Entry) (before : List Entry) (l : Life) → e.port.0 ≡ l.port.0 → is_mine job e before l ≡ true
     → total g (life_deeds job before l) + g (deed_at job e) ≤ total g (life_deeds job (e ∷ before) l)
 unfolding total
@@ -83,6 +77,7 @@ covered_weight job g ls (e ∷ before) c =
 abbrev NeedsLife : (Deed → ℕ) → List Instr → Act → Option Connid → Type 0
 NeedsLife g ops act now = (g (deed_of ops act) ≡ 0) ⊎ ((c : Connid) × (now ≡ Some c))
 
+-- where what counts needs an open life, the lives of the history cover it
 pub are_covered : (job : Job) (g : Deed → ℕ) (ls : List Life) (history : List Entry)
     → ((before : List Entry) (e : Entry) → Does job class_of (own_scene job e.port.0 (port_deeds job e.port.0 before)) (log_of e.port.0 before) e e.act
     → NeedsLife g (rank_of job e.port.0).ops e.act (open_life (port_deeds job e.port.0 before)))
@@ -109,21 +104,25 @@ are_covered job g ls (e ∷ before) need sub played =
       ],
     )
 
+-- the life that is open in a scene
 scene_now : (job : Job) (port : ℕ) (log : List Deed) → (own_scene job port log).now ≡ open_life log
 unfolding own_scene scene
 scene_now job port log = refl
 
+-- an instruction is no push
 next_none : (o : Option Instr) (answer : Answer) → is_push' (deed_by_next o answer) ≡ 0
 unfolding is_push' deed_by_next
 next_none (Some i) (DidAnswer what) = refl
 next_none o answer = refl
 
+-- nor is a handling
 handle_none : (src : PortNo) (body : Body) (answer : Handled) → is_push' (deed_by_handle src body answer) ≡ 0
 unfolding is_push' deed_by_handle
 handle_none src (Note n) (TookAnswer entered) = refl
 handle_none src (Between f to load) (TookAnswer entered) = refl
 handle_none src _ _ = refl
 
+-- a push between lives needs an open one
 push_needs : (job : Job) (port : ℕ) (log : List Deed) (d : Datagram) (body : Body) → d.body ≡ body → IsNext (own_scene job port log) d
     → (is_push' (deed_by_push body) ≡ 0) ⊎ ((c : Connid) × (open_life log ≡ Some c))
 unfolding is_push' deed_by_push
@@ -140,30 +139,36 @@ push_life job before e (Push d) does = push_needs job e.port.0 (port_deeds job e
 push_life job before e (Handle d answer) does = inl (handle_none d.src d.body answer)
 push_life job before e (Poll c) does = inl refl
 
+-- an instruction is no poll
 next_poll : (o : Option Instr) (answer : Answer) → is_poll (deed_by_next o answer) ≡ 0
 unfolding is_poll deed_by_next
 next_poll (Some i) (DidAnswer what) = refl
 next_poll o answer = refl
 
+-- nor is a push
 push_poll : (body : Body) → is_poll (deed_by_push body) ≡ 0
 unfolding is_poll deed_by_push
 push_poll (Note n) = refl
 push_poll (Between f to load) = refl
 
+-- nor is a handling
 handle_poll : (src : PortNo) (body : Body) (answer : Handled) → is_poll (deed_by_handle src body answer) ≡ 0
 unfolding is_poll deed_by_handle
 handle_poll src (Note n) (TookAnswer entered) = refl
 handle_poll src (Between f to load) (TookAnswer entered) = refl
 handle_poll src _ _ = refl
 
+-- where no life is open, no deeds are those of the open one
 empty_log : (job : Job) (port : ℕ) (log : List Deed) → open_life log ≡ None → (own_scene job port log).log ≡ []
 unfolding own_scene scene of_open_life
 empty_log job port log h = rw h refl
 
+-- no deeds complete nothing
 no_completion : (s : Scene) (c : Completion) → slice_get (completions s.own s.ms []) (poll_count []) ≡ Some c → ⊥
 unfolding completions
 no_completion s c h = cc
 
+-- so nothing is polled there
 none_polled : (job : Job) (port : ℕ) (log : List Deed) (c : Completion) → open_life log ≡ None
     → slice_get (completions (own_scene job port log).own (own_scene job port log).ms (own_scene job port log).log) (poll_count (own_scene job port log).log) ≡ Some c
     → (c : Connid) × (◌≡◌ {A = Option Connid} None (Some c))
@@ -173,6 +178,7 @@ none_polled job port log c is h =
     let h' : slice_get (completions s.own s.ms []) (poll_count []) ≡ Some c = subst (λ (ds : List Deed). slice_get (completions s.own s.ms ds) (poll_count ds) ≡ Some c) e h in
     absurd (no_completion (own_scene job port log) c h')
 
+-- a poll needs an open life
 poll_needs : (job : Job) (port : ℕ) (log : List Deed) (c : Completion) (o : Option Connid) → open_life log ≡ o
     → slice_get (completions (own_scene job port log).own (own_scene job port log).ms (own_scene job port log).log) (poll_count (own_scene job port log).log) ≡ Some c
     → (c : Connid) × (o ≡ Some c)

@@ -1,7 +1,6 @@
 -- A life has two completions of each receive at most, by their number, and one of each send.
-use Rattle.std.proofs.Common.{◌≡◌, ℕ, zero, suc, ◌+◌, ◌*◌, ◌≤◌, Bool, true, false, cond, ◌&&◌, not, List, [], ◌∷◌, ◌++◌, map, length, Option, Some, None, refl, arith, inl, inr, sym, ◌∙◌, ap, subst}
+use Rattle.std.proofs.Common.{◌≡◌, ℕ, suc, ◌+◌, ◌*◌, ◌≤◌, Bool, true, false, cond, ◌&&◌, not, List, [], ◌∷◌, ◌++◌, map, length, Option, Some, None, refl, arith, inl, inr, sym, ◌∙◌, ap, subst}
 use Rattle.std.specs.Prelude.{◌==◌, filter, find, flat_map}
-use Rattle.std.specs.List.{list_any}
 use Rattle.std.proofs.lemmas.Bool.{eq-eqb, and_parts, not-true}
 use Rattle.std.proofs.lemmas.List.{length-append, length-map}
 use Rattle.std.proofs.lemmas.List.Elements.{filter-append}
@@ -21,10 +20,9 @@ use Rattle.rdm_model.specs.Local.{heard_by}
 use Rattle.rdm_model.specs.Matches.{Receive, receive, receives, received_by, with_received, arrival, events_by, matching, pairs}
 use Rattle.rdm_model.specs.Receives.{RecvEnd, Filled, Gone, ended_recv, has_ended, is_filled, filled_by, concerns, gone_with, withdrawn_by, recv_ends_by, with_recv_ends, recv_ends}
 use Rattle.rdm_model.specs.Sends.{sends}
-use Rattle.rdm_model.specs.Turns.{live_sends}
 use Rattle.rdm_model.specs.Completions.{completions}
 use Rattle.rdm_model.proofs.Lists.{filter_same}
-use Rattle.rdm_model.proofs.Members.{member-append_left, member-append_right, member-map, map-member, filter-member, list_any_member, member_list_any, some_of}
+use Rattle.rdm_model.proofs.Members.{member-append_left, member-append_right, member-map, map-member, filter-member, list_any_member, member_list_any}
 use Rattle.rdm_model.proofs.Matches.{pairs_extend}
 use Rattle.rdm_model.proofs.SameMatches.{HeadsAgree, matching_same}
 use Rattle.rdm_model.proofs.SameReceives.{is_filled_same, recv_ends_same, filled_still}

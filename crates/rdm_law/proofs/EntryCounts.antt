@@ -1,5 +1,5 @@
 -- The entries of a history by kinds: instructions are those of the programs, and no more is handled than was pushed.
-use Rattle.std.proofs.Common.{◌≡◌, ℕ, zero, suc, ◌+◌, ◌<◌, ◌≤◌, max, Bool, true, false, cond, List, [], ◌∷◌, ◌++◌, length, take, get_or, Option, Some, None, refl, arith, ◌⊎◌, inl, inr, sym, ◌∙◌, ap, subst}
+use Rattle.std.proofs.Common.{◌≡◌, ℕ, suc, ◌+◌, ◌≤◌, max, List, [], ◌∷◌, length, take, get_or, Option, Some, None, refl, arith, ◌⊎◌, inl, inr, sym, ◌∙◌, ap, subst}
 use Rattle.std.specs.Prelude.{slice_get, sum_by}
 use Rattle.std.proofs.lemmas.Bool.{cases_eq}
 use Rattle.rdm_num.specs.Lists.{Member}
@@ -7,9 +7,6 @@ use Rattle.rdm_wire.specs.declared.Datagram.{Datagram}
 use Rattle.rdm_model.specs.declared.job.Job.{Job}
 use Rattle.rdm_model.specs.declared.job.Rank.{Rank}
 use Rattle.rdm_model.specs.declared.job.Instr.{Instr}
-use Rattle.rdm_model.specs.declared.answer.Next.{Next as Answer}
-use Rattle.rdm_model.specs.declared.answer.Next.TheVariants.{Did as DidAnswer}
-use Rattle.rdm_model.specs.declared.answer.Handled.{Handled}
 use Rattle.rdm_model.specs.declared.entry.Entry.{Entry}
 use Rattle.rdm_model.specs.declared.entry.Act.{Act}
 use Rattle.rdm_model.specs.declared.entry.Act.TheVariants.{Next, Push, Handle, Poll}
@@ -23,7 +20,7 @@ use Rattle.rdm_model.specs.Local.{own_scene, Local}
 use Rattle.rdm_model.specs.Wire.{PushedIn, IsOther, IsUnhandled, Comes, Wire}
 use Rattle.rdm_law.proofs.Logs.{log_of-same, log_of-other}
 use Rattle.rdm_law.proofs.Wired.{Played}
-use Rattle.rdm_law.proofs.Totals.{total, total_same, sum_total, Without, take_out}
+use Rattle.rdm_law.proofs.Totals.{total, total_same, sum_total, take_out}
 use Rattle.rdm_law.proofs.Pigeons.{total_to, total_to_le, total_to_zero, total_to_at, total_take, total_front, total_places}
 
 -- the weight of an instruction, if there is one
@@ -40,6 +37,7 @@ op_weight ops w _ = 0
 abbrev pub entry_weight : Job → (Instr → ℕ) → Entry → ℕ
 entry_weight job w e = op_weight (rank_of job e.port.0).ops w e.act
 
+-- an act weighs what its instruction adds to those before it
 act_step : (job : Job) (s : Scene) (w : Instr → ℕ) (before : List Entry) (e : Entry) (act : Act) (n : ℕ) → n ≡ count is_next before → Does job class_of s before e act
     → op_weight (rank_of job e.port.0).ops w act + total w (take n (rank_of job e.port.0).ops) ≡ total w (take (n + is_next act) (rank_of job e.port.0).ops)
 unfolding op_weight weight_of is_next
@@ -105,6 +103,7 @@ abbrev WasPushed : Datagram → List Entry → Type 0
 WasPushed d [] = ⊥
 WasPushed d (e ∷ before) = (e.act ≡ Push d) ⊎ WasPushed d before
 
+-- what a port pushed was pushed
 pushed_any : (d : Datagram) (port : ℕ) (history : List Entry) → PushedIn d (log_of port history) → WasPushed d history
 unfolding log_of
 pushed_any d port [] h = elim h [ ]
@@ -125,6 +124,7 @@ record Waits (history : List Entry) : Type 0 where
   counted : length waiting + total (λ (e : Entry). is_handle e.act) history ≡ total (λ (e : Entry). is_push e.act) history
   all : (d : Datagram) → WasPushed d history → IsUnhandled d history → Member d waiting
 
+-- what waits after one more entry
 waits_by : (e : Entry) (before : List Entry) (act : Act) → e.act ≡ act → Wire before → Comes before e act → Waits before → Waits (e ∷ before)
 unfolding total is_handle is_push
 waits_by e before (Push d) is w c was =
@@ -163,6 +163,7 @@ waits_by e before (Poll x) is w c was =
     let k = was.counted in
     record { waiting = was.waiting; counted = omega arith; all = λ q m u. elim m [ inl a ↦ (let e' : Poll x ≡ Push q = sym is ∙ a in cc) | inr a ↦ was.all q a u.0 ] }
 
+-- what waits after a history
 waits : (history : List Entry) → Wire history → Waits history
 unfolding total
 waits [] w = record { waiting = []; counted = refl; all = λ d m u. elim m [ ] }

@@ -1,5 +1,5 @@
 -- The pairs of all lives are no more than their sends, and neither are their bytes.
-use Rattle.std.proofs.Common.{◌≡◌, ℕ, zero, suc, ◌+◌, ◌≤◌, Bool, true, false, cond, List, [], ◌∷◌, ◌++◌, length, map, Some, refl, arith, ◌⊎◌, inl, inr, sym, ◌∙◌, ap, subst}
+use Rattle.std.proofs.Common.{◌≡◌, ℕ, ◌+◌, ◌≤◌, true, cond, List, [], ◌∷◌, ◌++◌, length, map, refl, arith, inl, inr, sym, ◌∙◌, ap, subst}
 use Rattle.rdm_num.specs.Lists.{Member}
 use Rattle.rdm_num.specs.Lives.{same_life}
 use Rattle.rdm_num.specs.declared.numbers.Connid.{Connid}
@@ -10,20 +10,20 @@ use Rattle.rdm_num.specs.declared.head.Head.{Head}
 use Rattle.rdm_model.specs.declared.job.Job.{Job}
 use Rattle.rdm_model.specs.declared.job.Instr.TheVariants.{OpenLife}
 use Rattle.rdm_model.specs.declared.entry.Entry.{Entry}
-use Rattle.rdm_model.specs.Deeds.{Deed, Did, open_life, of_life}
+use Rattle.rdm_model.specs.Deeds.{Deed, Did, of_life}
 use Rattle.rdm_model.specs.Owns.{own_of}
-use Rattle.rdm_model.specs.Sends.{Sent, sends}
+use Rattle.rdm_model.specs.Sends.{Sent}
 use Rattle.rdm_model.specs.Lawful.{port_deeds, life_deeds}
-use Rattle.rdm_model.proofs.Members.{member-append_left, member-append_right, member-map, same_life-true, same_life-refl}
+use Rattle.rdm_model.proofs.Members.{member-append_left, member-append_right, same_life-true, same_life-refl}
 use Rattle.rdm_model.proofs.Numbers.{made}
 use Rattle.rdm_law.proofs.Lives.{at_of_life}
 use Rattle.rdm_law.proofs.Distinct.{matching_distinct}
 use Rattle.rdm_law.proofs.Numbered.{LacksPair, PairsApart, matching_numbered}
 use Rattle.rdm_law.proofs.Opened.{IsOpened, open_opened}
 use Rattle.rdm_law.proofs.Wired.{Played}
-use Rattle.rdm_law.proofs.Known.{account, sends_of, Known}
+use Rattle.rdm_law.proofs.Known.{account, sends_of}
 use Rattle.rdm_law.proofs.Named.{pairs_of, pair_known}
-use Rattle.rdm_law.proofs.Totals.{total, total-append, total-map, total_le, total_same, total_swap, take_out}
+use Rattle.rdm_law.proofs.Totals.{total, total-append, total-map, total_le, total_swap, take_out}
 use Rattle.rdm_law.proofs.Pigeons.{AreDistinct, one_passes}
 use Rattle.rdm_law.proofs.LifeCounts.{lives_of, lives_distinct, lives_member}
 use Rattle.rdm_law.proofs.SendSums.{sent_bytes}
@@ -50,11 +50,13 @@ injected {A} {B} f g R (x ∷ xs) ys d h one =
     let l = a.3 in
     omega arith
 
+-- a pair that a list lacks is no member of it
 lacks_no : (p : Pair) (ps : List Pair) → LacksPair p.recv.id.0 ps → Member p ps → ⊥
 lacks_no p [] l m = elim m [ ]
 lacks_no p (q ∷ ps) l (inl is) = l.0 (ap (λ (x : Pair). x.recv.id.0) is)
 lacks_no p (q ∷ ps) l (inr m) = lacks_no p ps l.1 m
 
+-- pairs that are apart are distinct
 apart_distinct : (ps : List Pair) → PairsApart ps → AreDistinct ps
 apart_distinct [] a = tt
 apart_distinct (p ∷ ps) a = (lacks_no p ps a.0, apart_distinct ps a.1)
@@ -64,6 +66,7 @@ pub pairs_distinct : (job : Job) (history : List Entry) (i : Life) → AreDistin
 pairs_distinct job history i =
     apart_distinct (pairs_of job history i) (matching_numbered (own_of job i).limits.first (account job history i).head (life_deeds job history i)).pairs_apart
 
+-- what a life did follows its opening
 did_opened : (c : Connid) (log : List Deed) (d : Deed) → Member d (of_life c log) → Member (Did (OpenLife c)) log
 unfolding of_life
 did_opened c [] d m = elim m [ ]
@@ -77,6 +80,7 @@ pub did_open : (job : Job) (history : List Entry) (j : Life) (d : Deed) → Memb
 unfolding life_deeds
 did_open job history j d m = did_opened j.connid (port_deeds job j.port.0 history) d m
 
+-- a life that sent was opened
 sender_opened : (job : Job) (history : List Entry) (j : Life) (s : Sent) → Member s (sends_of job history j) → IsOpened job history j
 sender_opened job history j s m =
     let log = life_deeds job history j in
@@ -88,11 +92,13 @@ unfoldable all_sends : Job → List Entry → List Life → List (Life × Sent)
 all_sends job history [] = []
 all_sends job history (j ∷ ls) = map (λ (s : Sent). (j, s)) (sends_of job history j) ++ all_sends job history ls
 
+-- the image of a member
 map_member : {A B : Type 0} (f : A → B) (x : A) (xs : List A) → Member x xs → Member (f x) (map f xs)
 map_member f x [] m = elim m [ ]
 map_member f x (y ∷ xs) (inl is) = inl (ap f is)
 map_member f x (y ∷ xs) (inr m) = inr (map_member f x xs m)
 
+-- a send of one of the lives
 in_sends : (job : Job) (history : List Entry) (ls : List Life) (j : Life) (s : Sent) → Member j ls → Member s (sends_of job history j) → Member {A = Life × Sent} (j, s) (all_sends job history ls)
 unfolding all_sends
 in_sends job history [] j s m k = elim m [ ]
@@ -113,6 +119,7 @@ send_load s = 1 + sent_bytes s
 abbrev load_to : Life → Sent → ℕ
 load_to i s = cond (same_life s.to i) (send_load s) 0
 
+-- their weight, life by life
 sends_total : (job : Job) (history : List Entry) (i : Life) (ls : List Life) → total (λ (x : Life × Sent). load_to i x.1) (all_sends job history ls) ≡ total (λ j. total (load_to i) (sends_of job history j)) ls
 unfolding all_sends total
 sends_total job history i [] = refl
@@ -134,6 +141,7 @@ record IsPairOf (job : Job) (history : List Entry) (i : Life) (p : Pair) (x : Li
   life_is : p.message.life ≡ x.0
   number_is : x.1.message.no.0 ≡ p.message.no.0
 
+-- each pair has its send, which weighs as much
 pair_send : (job : Job) (history : List Entry) (i : Life) (p : Pair) → Played job history → Member p (pairs_of job history i)
     → (x : Life × Sent) × Member x (all_sends job history (lives_of job history)) × IsPairOf job history i p x × (pair_load job history i p ≤ load_to i x.1)
 unfolding message_head
@@ -151,6 +159,7 @@ pair_send job history i p played m =
       omega arith,
     )
 
+-- the pairs of a life weigh no more than what was sent to it
 life_pairs : (job : Job) (history : List Entry) (i : Life) → Played job history
     → total (pair_load job history i) (pairs_of job history i) ≤ total (λ j. total (load_to i) (sends_of job history j)) (lives_of job history)
 life_pairs job history i played =
@@ -162,9 +171,11 @@ life_pairs job history i played =
     let b = sends_total job history i (lives_of job history) in
     omega arith
 
+-- a send is to one life
 one_to : (s : Sent) (x y : Life) → same_life s.to x ≡ true → same_life s.to y ≡ true → x ≡ y
 one_to s x y h k = sym (same_life-true s.to x h) ∙ same_life-true s.to y k
 
+-- so what it weighs to each of the lives is what it weighs
 life_sends : (ls : List Life) (sents : List Sent) → AreDistinct ls → total (λ i. total (load_to i) sents) ls ≤ total send_load sents
 life_sends ls sents d =
     let a = total_swap (λ i s. load_to i s) ls sents in

@@ -1,6 +1,6 @@
 -- Grants go on until the whole message is granted.
-use Rattle.std.proofs.Common.{◌≡◌, ℕ, zero, suc, ◌+◌, ◌-◌, ◌*◌, ◌<◌, ◌≤◌, Bool, true, false, cond, List, [], ◌∷◌, ◌++◌, length, Option, Some, None, refl, arith, ◌⊎◌, inl, inr, sym, ◌∙◌, ap, subst}
-use Rattle.std.specs.Prelude.{slice_get, min, flat_map, map, nat_lt, not, ◌&&◌}
+use Rattle.std.proofs.Common.{◌≡◌, ℕ, ◌+◌, ◌-◌, ◌*◌, ◌<◌, ◌≤◌, Bool, true, cond, List, [], ◌∷◌, ◌++◌, length, refl, arith, inl, inr, sym, ◌∙◌, ap, subst}
+use Rattle.std.specs.Prelude.{min, flat_map, map, nat_lt, not, ◌&&◌}
 use Rattle.std.proofs.Math.Nat.{le-mul_of_pos_right}
 use Rattle.std.proofs.lemmas.Bool.{cases_lt, lt-ltb, and_parts}
 use Rattle.std.proofs.lemmas.Option.{slice_get_within}
@@ -11,7 +11,7 @@ use Rattle.rdm_num.specs.declared.head.Shape.{Shape}
 use Rattle.rdm_num.specs.declared.head.Shape.TheVariants as S
 use Rattle.rdm_pkt.specs.declared.Packet.TheVariants.{Cts}
 use Rattle.rdm_match.specs.Matcher.{Pair, is_pair}
-use Rattle.rdm_model.specs.Deeds.{Deed, Item, Spelled, Asks}
+use Rattle.rdm_model.specs.Deeds.{Deed, Spelled, Asks}
 use Rattle.rdm_model.specs.Owns.{Own, Messages, Heads}
 use Rattle.rdm_model.specs.Matches.{pairs, matching}
 use Rattle.rdm_model.specs.Receives.{is_filled}
@@ -27,7 +27,7 @@ use Rattle.rdm_law.proofs.WindowsAt.{NewWindow, WindowAt, windows_in_order}
 use Rattle.rdm_num.specs.Pieces.{covers, piece_bytes}
 use Rattle.rdm_num.specs.declared.limits.EpLimits.{EpLimits}
 use Rattle.rdm_num.specs.declared.head.Head.{Head}
-use Rattle.rdm_pkt.specs.Openings.{openings, message_head}
+use Rattle.rdm_pkt.specs.Openings.{openings}
 use Rattle.rdm_model.specs.declared.job.Job.{Job}
 use Rattle.rdm_model.specs.declared.entry.Entry.{Entry}
 use Rattle.rdm_model.specs.Owns.{own_of}
@@ -42,13 +42,12 @@ use Rattle.rdm_law.proofs.OpeningsFit.{limits_are}
 use Rattle.rdm_law.proofs.ClassData.{fair_room}
 use Rattle.rdm_law.proofs.Wired.{Played}
 use Rattle.rdm_law.proofs.Known.{account}
-use Rattle.rdm_law.proofs.Named.{pairs_of, head_shape, head_length}
-use Rattle.rdm_law.proofs.Answered.{Answered, IsQueue, is_queue, rising_member, head_member, answered_owed}
+use Rattle.rdm_law.proofs.Named.{head_shape, head_length}
+use Rattle.rdm_law.proofs.Answered.{Answered, is_queue, rising_member, head_member, answered_owed}
 use Rattle.rdm_law.proofs.Queue.{Placed, queue}
-use Rattle.rdm_law.proofs.WindowsAt.{window_in, window_from}
+use Rattle.rdm_law.proofs.WindowsAt.{window_from}
 use Rattle.rdm_law.proofs.Granted.{Granting, allowed_of, own_tells, covered_within}
 use Rattle.rdm_law.proofs.FirstPart.{first_part_opened, long_shape}
-use Rattle.rdm_law.proofs.Granting.{TakenWindow}
 use Rattle.rdm_law.proofs.Tiled.{tiled}
 
 -- an element of one of lists in a row is one of all

@@ -1,66 +1,48 @@
 -- A sender that took all grants may push all that was granted.
-use Rattle.std.proofs.Common.{◌≡◌, ℕ, zero, suc, ◌+◌, ◌-◌, ◌<◌, ◌≤◌, Bool, true, false, cond, List, [], ◌∷◌, ◌++◌, length, Option, Some, None, refl, arith, ◌⊎◌, inl, inr, sym, ◌∙◌, ap, subst}
-use Rattle.std.proofs.lemmas.Bool.{cases_lt}
-use Rattle.std.proofs.lemmas.List.Sums.{sum_by-append}
-use Rattle.rdm_num.specs.Lists.{Member}
-use Rattle.rdm_num.specs.Lives.{op_id}
+use Rattle.std.proofs.Common.{◌≡◌, ℕ, ◌+◌, ◌<◌, ◌≤◌, true, cond, List, [], ◌∷◌, length, Option, Some, arith, inl, inr, sym, ◌∙◌, ap, subst}
 use Rattle.rdm_num.specs.declared.numbers.Connid.{Connid}
 use Rattle.rdm_num.specs.declared.numbers.Life.{Life}
 use Rattle.rdm_num.specs.declared.numbers.OpId.{OpId}
 use Rattle.rdm_pkt.specs.declared.Packet.TheVariants.{Cts}
-use Rattle.rdm_pkt.specs.Openings.{openings}
 use Rattle.rdm_match.specs.Matcher.{Pair}
 use Rattle.rdm_wire.specs.declared.Datagram.{Datagram}
 use Rattle.rdm_model.specs.declared.job.Job.{Job}
 use Rattle.rdm_model.specs.declared.job.Instr.{Instr}
 use Rattle.rdm_model.specs.declared.entry.Entry.{Entry}
-use Rattle.rdm_model.specs.Deeds.{Deed, Took, Item, Spelled, deed_of, deeds, log_of, of_life}
+use Rattle.rdm_model.specs.Deeds.{Deed, Took, Item, Spelled, deed_of, log_of}
 use Rattle.rdm_model.specs.Owns.{Own, own_of, rank_of}
-use Rattle.rdm_model.specs.Matches.{matching}
 use Rattle.rdm_model.specs.Scenes.{deeds_at}
-use Rattle.rdm_model.specs.Wire.{IsUnhandled}
-use Rattle.rdm_model.specs.Grants.{Grant, grants, grants_by, grant_bytes}
+use Rattle.rdm_model.specs.Grants.{grants_by, grant_bytes}
 use Rattle.rdm_model.specs.Sends.{Sent}
 use Rattle.rdm_model.specs.Lawful.{life_deeds, port_deeds}
-use Rattle.rdm_law.proofs.Wired.{Played, played_before, taken_other}
-use Rattle.rdm_law.proofs.Pushed.{PlacedAt, placed_once}
+use Rattle.rdm_law.proofs.Wired.{Played, played_before}
+use Rattle.rdm_law.proofs.Pushed.{PlacedAt}
 use Rattle.rdm_law.proofs.Known.{account}
-use Rattle.rdm_law.proofs.Named.{pairs_of}
 use Rattle.rdm_law.proofs.Queue.{Placed}
-use Rattle.rdm_law.proofs.Answered.{Answered, answered_once}
-use Rattle.rdm_law.proofs.WindowsAt.{WindowAt, windows_in_order}
-use Rattle.rdm_law.proofs.Granted.{Granting, allowed_of, own_tells, start_within}
-use Rattle.rdm_law.proofs.Handled.{at_life, NewTake, new_take}
-use Rattle.rdm_model.specs.Turns.{pieces_in}
-use Rattle.rdm_num.specs.Pieces.{piece_bytes}
-use Rattle.rdm_model.proofs.Sending.{grant_taken}
-use Rattle.rdm_law.proofs.Wired.{taken_pushed}
-use Rattle.rdm_law.proofs.FirstPart.{first_part_opened}
-use Rattle.rdm_law.proofs.WindowsAt.{window_in, window_from}
-use Rattle.rdm_law.proofs.Granting.{TakenWindow, taken_window_longer, grant_or_none, cts_went, granting_earlier, window_longer, answered_longer, placed_longer}
+use Rattle.rdm_law.proofs.Answered.{Answered}
+use Rattle.rdm_law.proofs.WindowsAt.{WindowAt}
+use Rattle.rdm_law.proofs.Granted.{Granting, allowed_of}
+use Rattle.rdm_law.proofs.Handled.{at_life}
+use Rattle.rdm_law.proofs.Granting.{cts_went, granting_earlier, window_longer, answered_longer, placed_longer}
 use Rattle.rdm_num.specs.Lives.{life}
 use Rattle.rdm_num.specs.declared.numbers.PortNo.{PortNo}
 use Rattle.rdm_wire.specs.declared.Body.{Body}
-use Rattle.rdm_wire.specs.declared.Body.TheVariants.{Note, Between}
-use Rattle.rdm_wire.specs.declared.Load.{Load}
 use Rattle.rdm_model.specs.declared.entry.Act.{Act}
 use Rattle.rdm_model.specs.declared.entry.Act.TheVariants.{Push, Handle}
 use Rattle.rdm_model.specs.declared.answer.Entered.{Entered}
 use Rattle.rdm_model.specs.declared.answer.Handled.TheVariants.{Took as TookAnswer}
-use Rattle.rdm_model.specs.Deeds.{item_of, deed_by_handle, is_connid, open_life}
+use Rattle.rdm_model.specs.Deeds.{item_of, deed_by_handle, open_life}
 use Rattle.rdm_model.specs.Owns.{Messages}
-use Rattle.rdm_model.specs.Steps.{Does, is_push, count}
+use Rattle.rdm_model.specs.Steps.{Does}
 use Rattle.rdm_model.specs.Classes.{class_of}
 use Rattle.rdm_model.specs.Local.{own_scene}
 use Rattle.rdm_model.specs.Wire.{PushedIn, Comes}
-use Rattle.rdm_law.proofs.Logs.{log_of-same}
 use Rattle.rdm_law.proofs.Lives.{is_connid-true}
-use Rattle.rdm_law.proofs.Pushed.{of_life_newest, own_now}
+use Rattle.rdm_law.proofs.Pushed.{own_now}
 use Rattle.rdm_law.proofs.Wired.{HandledBy, TakenAs, took_to, comes_of, pushed_taken}
 use Rattle.rdm_law.proofs.Delivers.{IsNumbered, AreNumbered, pushed_below}
 use Rattle.rdm_law.proofs.Handled.{life_newest}
-use Rattle.rdm_law.proofs.Delivered.{numbered, local_at}
-use Rattle.rdm_law.proofs.Queue.{queue}
+use Rattle.rdm_law.proofs.Delivered.{local_at}
 use Rattle.rdm_law.proofs.Tiled.{starts_at, tiled, allowed_step, one_grant}
 use Rattle.std.proofs.lemmas.Bool.{and_from, eq-eqb}
 use Rattle.std.specs.Prelude.{nat_eq, ◌==◌, ◌&&◌}

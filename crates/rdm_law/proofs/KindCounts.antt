@@ -1,5 +1,5 @@
 -- Each entry of a history is an instruction, a push, a handle or a poll, and each push is of a note or of a life.
-use Rattle.std.proofs.Common.{◌≡◌, ℕ, ◌+◌, ◌≤◌, List, [], ◌∷◌, length, refl, arith, ap}
+use Rattle.std.proofs.Common.{◌≡◌, ◌+◌, ◌≤◌, List, [], ◌∷◌, length, refl, arith, ap}
 use Rattle.rdm_wire.specs.declared.Body.{Body}
 use Rattle.rdm_wire.specs.declared.Body.TheVariants.{Note, Between}
 use Rattle.rdm_model.specs.declared.job.Job.{Job}
@@ -7,7 +7,7 @@ use Rattle.rdm_model.specs.declared.job.Instr.{Instr}
 use Rattle.rdm_model.specs.declared.entry.Entry.{Entry}
 use Rattle.rdm_model.specs.declared.entry.Act.{Act}
 use Rattle.rdm_model.specs.declared.entry.Act.TheVariants.{Next, Push, Handle, Poll}
-use Rattle.rdm_model.specs.Deeds.{deed_by_push, deed_of, log_of}
+use Rattle.rdm_model.specs.Deeds.{deed_by_push, deed_of}
 use Rattle.rdm_model.specs.Owns.{rank_of}
 use Rattle.rdm_model.specs.Notes.{is_note_push}
 use Rattle.rdm_model.specs.Completions.{is_poll}

@@ -1,6 +1,6 @@
 -- What a life takes comes for the first time.
 use Rattle.std.proofs.Common.{◌≡◌, ℕ, ◌+◌, ◌-◌, ◌<◌, ◌≤◌, Bool, true, false, ◌&&◌, not, List, [], ◌∷◌, length, Option, Some, None, refl, arith, ◌⊎◌, inl, inr, sym, ◌∙◌, ap, subst}
-use Rattle.std.specs.Prelude.{◌==◌, ◌||◌, is_some, IsFalse, nat_le, nat_lt}
+use Rattle.std.specs.Prelude.{◌==◌, is_some, IsFalse, nat_le, nat_lt}
 use Rattle.std.proofs.lemmas.Bool.{and_parts, not-true, cases_lt, eqb-true}
 use Rattle.rdm_num.specs.Lists.{Member, or_else, each_below}
 use Rattle.rdm_num.specs.Lives.{same_life}

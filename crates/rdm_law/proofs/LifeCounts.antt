@@ -1,8 +1,8 @@
 -- Sums over the lives of a history: each entry is a deed of one life at most.
-use Rattle.std.proofs.Common.{◌≡◌, ℕ, zero, suc, ◌+◌, ◌*◌, ◌<◌, ◌≤◌, Bool, true, false, cond, List, [], ◌∷◌, ◌++◌, length, Option, Some, None, refl, arith, ◌⊎◌, inl, inr, sym, ◌∙◌, ap, subst}
+use Rattle.std.proofs.Common.{◌≡◌, ℕ, ◌+◌, ◌≤◌, Bool, true, false, cond, List, [], ◌∷◌, length, Option, Some, refl, arith, inl, inr, sym, ◌∙◌, ap, subst}
 use Rattle.std.specs.Prelude.{◌&&◌, ◌==◌, nat_eq, slice_get}
 use Rattle.std.specs.List.{list_any}
-use Rattle.std.proofs.lemmas.Bool.{cases_eq, cases_Bool, eq-eqb, eqb-true, ne_eqb, and_from, and_parts, and_left, and_right}
+use Rattle.std.proofs.lemmas.Bool.{cases_eq, eq-eqb, eqb-true, ne_eqb, and_from, and_parts, and_left, and_right}
 use Rattle.rdm_num.specs.Lists.{Member}
 use Rattle.rdm_num.specs.Lives.{same_life, life}
 use Rattle.rdm_num.specs.declared.numbers.PortNo.{PortNo}
@@ -20,7 +20,7 @@ use Rattle.rdm_wire.specs.declared.Body.TheVariants.{Note, Between}
 use Rattle.rdm_model.specs.declared.entry.Entry.{Entry}
 use Rattle.rdm_model.specs.declared.entry.Act.{Act}
 use Rattle.rdm_model.specs.declared.entry.Act.TheVariants.{Next, Push, Handle, Poll}
-use Rattle.rdm_model.specs.Deeds.{Deed, Did, Nothing, deed_by_next, deed_by_push, deed_by_handle, deed_of, deeds, log_of, open_life, is_connid, of_life}
+use Rattle.rdm_model.specs.Deeds.{Deed, Did, deed_by_next, deed_by_push, deed_by_handle, deed_of, deeds, log_of, open_life, is_connid, of_life}
 use Rattle.rdm_model.specs.Owns.{rank_of}
 use Rattle.rdm_model.specs.Jobs.{open_count}
 use Rattle.rdm_model.specs.Scenes.{deeds_at}
@@ -28,9 +28,9 @@ use Rattle.rdm_model.specs.Lawful.{port_deeds, life_deeds}
 use Rattle.rdm_model.proofs.Members.{list_any_member, member_list_any, same_life-true, same_life-refl}
 use Rattle.rdm_law.proofs.Logs.{log_of-same, log_of-other, at_log_of}
 use Rattle.rdm_law.proofs.Lives.{at_of_life, same_port, is_connid-from, is_connid-true}
-use Rattle.rdm_law.proofs.Opened.{IsOpened, open_opened}
+use Rattle.rdm_law.proofs.Opened.{IsOpened}
 use Rattle.rdm_law.proofs.Totals.{total, total_le, total_plus}
-use Rattle.rdm_law.proofs.Pigeons.{AreDistinct, one_passes, total_grows}
+use Rattle.rdm_law.proofs.Pigeons.{AreDistinct, one_passes}
 use Rattle.rdm_law.proofs.EntryCounts.{weight_of, op_weight, entry_weight}
 
 -- the weight of the instruction that a deed did
@@ -38,16 +38,19 @@ unfoldable pub deed_weight : (Instr → ℕ) → Deed → ℕ
 deed_weight w (Did i) = w i
 deed_weight w _ = 0
 
+-- an instruction that did weighs no more than it does in the program
 next_weight : (w : Instr → ℕ) (o : Option Instr) (answer : Answer) → deed_weight w (deed_by_next o answer) ≤ weight_of w o
 unfolding deed_weight deed_by_next weight_of
 next_weight w (Some i) (DidAnswer what) = omega arith
 next_weight w o answer = omega arith
 
+-- a push weighs nothing
 push_weight : (w : Instr → ℕ) (body : Body) → deed_weight w (deed_by_push body) ≡ 0
 unfolding deed_weight deed_by_push
 push_weight w (Note n) = refl
 push_weight w (Between f to load) = refl
 
+-- and neither does a handling
 handle_weight : (w : Instr → ℕ) (src : PortNo) (body : Body) (answer : Handled) → deed_weight w (deed_by_handle src body answer) ≡ 0
 unfolding deed_weight deed_by_handle
 handle_weight w src (Note n) (TookAnswer entered) = refl
@@ -76,6 +79,7 @@ unfoldable pub lives_of : Job → List Entry → List Life
 lives_of job [] = []
 lives_of job (e ∷ before) = with_life e.port (deed_at job e) (lives_of job before)
 
+-- a life that is added once leaves them distinct
 with_distinct : (port : PortNo) (d : Deed) (ls : List Life) → AreDistinct ls → AreDistinct (with_life port d ls)
 unfolding with_life
 with_distinct port (Did (OpenLife c)) ls a =
@@ -85,17 +89,20 @@ with_distinct port (Did (OpenLife c)) ls a =
     ]) refl
 with_distinct port _ ls a = a
 
+-- each life is there once
 pub lives_distinct : (job : Job) (history : List Entry) → AreDistinct (lives_of job history)
 unfolding lives_of
 lives_distinct job [] = tt
 lives_distinct job (e ∷ before) = with_distinct e.port (deed_at job e) (lives_of job before) (lives_distinct job before)
 
+-- the lives before stay
 pub with_keeps : (port : PortNo) (d : Deed) (ls : List Life) (l : Life) → Member l ls → Member l (with_life port d ls)
 unfolding with_life
 with_keeps port (Did (OpenLife c)) ls l m =
     elim (list_any (same_life (life port c)) ls) as (λ b. Member l (cond b ls (life port c ∷ ls))) [ true ↦ m | false ↦ inr m ]
 with_keeps port _ ls l m = m
 
+-- a life that is opened is one of them
 with_new : (port : PortNo) (c : Connid) (ls : List Life) → Member (life port c) (with_life port (Did (OpenLife c)) ls)
 unfolding with_life
 with_new port c ls =
@@ -120,6 +127,7 @@ lives_member job (e ∷ before) l m =
     ])
     (λ s k. with_keeps e.port (deed_at job e) (lives_of job before) l (lives_member job before l k)) m
 
+-- one deed adds one life at most
 with_count : (port : PortNo) (d : Deed) (ls : List Life) → length (with_life port d ls) ≤ length ls + deed_weight open_count d
 unfolding with_life deed_weight open_count
 with_count port (Did (OpenLife c)) ls =
@@ -159,9 +167,11 @@ life_cases P job l e before same other =
           (other (and_left (nat_eq e.port.0 port) _ (ne_eqb e.port.0 port s)))
     ]
 
+-- lives of one port and one identifier are one
 lives_same : (l m : Life) → l.port.0 ≡ m.port.0 → l.connid ≡ m.connid → l ≡ m
 lives_same l m p c = ap (λ (q : PortNo). life q l.connid) (same_port l.port m.port p) ∙ ap (λ (k : Connid). life m.port k) c
 
+-- an entry is a deed of one life at most
 mine_one : (job : Job) (e : Entry) (before : List Entry) (l m : Life) → is_mine job e before l ≡ true → is_mine job e before m ≡ true → l ≡ m
 mine_one job e before l m a b =
     let p = and_parts (nat_eq e.port.0 l.port.0) (is_connid (open_life (port_deeds job l.port.0 before)) l.connid) a in
@@ -172,6 +182,7 @@ mine_one job e before l m a b =
     let c : Some l.connid ≡ Some m.connid = sym x ∙ ap (λ n. open_life (port_deeds job n before)) port ∙ y in
     lives_same l m port (cc)
 
+-- one more entry adds to a life no more than it weighs
 life_weight : (job : Job) (g : Deed → ℕ) (f : Entry → ℕ) (e : Entry) (before : List Entry) (l : Life) → g (deed_at job e) ≤ f e
     → total g (life_deeds job (e ∷ before) l) ≤ total g (life_deeds job before l) + cond (is_mine job e before l) (f e) 0
 unfolding total
@@ -182,6 +193,7 @@ life_weight job g f e before l h =
     omega arith)
     (λ is. omega arith)
 
+-- no deeds weigh nothing
 all_zero : (ls : List Life) → total (λ l. 0) ls ≡ 0
 unfolding total
 all_zero [] = refl

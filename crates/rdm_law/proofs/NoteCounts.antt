@@ -1,11 +1,10 @@
 -- Notes that were pushed are no more than were owed, and polls no more than completions.
-use Rattle.std.proofs.Common.{◌≡◌, ℕ, zero, suc, ◌+◌, ◌*◌, ◌<◌, ◌≤◌, Bool, true, false, cond, not, List, [], ◌∷◌, ◌++◌, length, map, Option, Some, None, refl, arith, ◌⊎◌, inl, inr, sym, ◌∙◌, ap, subst, length-append}
+use Rattle.std.proofs.Common.{◌≡◌, ℕ, zero, suc, ◌+◌, ◌*◌, ◌<◌, ◌≤◌, Bool, true, false, cond, not, List, [], ◌∷◌, length, Option, Some, refl, arith, ap, subst, length-append}
 use Rattle.std.specs.Prelude.{◌==◌, slice_get, filter}
 use Rattle.std.proofs.lemmas.Option.{slice_get_within}
 use Rattle.std.proofs.lemmas.List.{length-map}
-use Rattle.rdm_num.specs.Lists.{Member, below}
+use Rattle.rdm_num.specs.Lists.{below}
 use Rattle.rdm_num.specs.declared.numbers.PortNo.{PortNo}
-use Rattle.rdm_num.specs.declared.numbers.Connid.{Connid}
 use Rattle.rdm_wire.specs.declared.Datagram.{Datagram}
 use Rattle.rdm_wire.specs.declared.Body.{Body}
 use Rattle.rdm_wire.specs.declared.Body.TheVariants.{Note, Between}
@@ -26,7 +25,7 @@ use Rattle.rdm_model.specs.Owns.{Own, rank_of, port_count}
 use Rattle.rdm_model.specs.Notes.{OwedNote, note_to, notes_by, notes, is_note_push, next_note}
 use Rattle.rdm_model.specs.Completions.{completions, completions_by, is_poll, poll_count}
 use Rattle.rdm_model.specs.Scenes.{Scene, scene, deeds_at}
-use Rattle.rdm_model.specs.Going.{Going, GoesNote, Goes, going, life_going, note_going, IsGoing, IsNext}
+use Rattle.rdm_model.specs.Going.{Going, GoesNote, Goes, going, life_going, IsGoing, IsNext}
 use Rattle.rdm_model.specs.Classes.{class_of}
 use Rattle.rdm_model.specs.Steps.{Does}
 use Rattle.rdm_model.specs.Local.{heard_by, own_scene, Local}
@@ -39,19 +38,21 @@ use Rattle.rdm_law.proofs.Opened.{first_note, no_life_note}
 use Rattle.rdm_law.proofs.Knows.{own_port}
 use Rattle.rdm_law.proofs.Totals.{total}
 use Rattle.rdm_law.proofs.Pigeons.{total_to, total_to_le}
-use Rattle.rdm_law.proofs.EntryCounts.{op_weight, entry_weight, by_ports, past_ports}
+use Rattle.rdm_law.proofs.EntryCounts.{entry_weight, by_ports, past_ports}
 use Rattle.rdm_law.proofs.LifeCounts.{deed_weight, deed_le, deed_at}
 
 -- 1 for each instruction
 abbrev pub one : Instr → ℕ
 one i = 1
 
+-- a filter leaves no more
 filter_le : {A : Type 0} (p : A → Bool) (xs : List A) → length (filter p xs) ≤ length xs
 filter_le p [] = omega arith
 filter_le p (x ∷ xs) =
     let r = filter_le p xs in
     elim (p x) as (λ b. length (cond b (x ∷ filter p xs) (filter p xs)) ≤ length (x ∷ xs)) [ true ↦ omega arith | false ↦ omega arith ]
 
+-- a deed makes 16 notes owed at most
 notes_few : (ports port : ℕ) (d : Deed) → ports ≤ 16 → length (notes_by ports port d) ≤ 16 * deed_weight one d
 unfolding notes_by deed_weight
 notes_few ports port (Did (OpenLife connid)) le =
@@ -63,6 +64,7 @@ notes_few ports port (Did (OpenLife connid)) le =
 notes_few ports port (Did (NoteOp to what)) le = omega arith
 notes_few ports port _ le = omega arith
 
+-- and so for a log
 notes_len : (ports port : ℕ) (ops : List Instr) (log : List Entry) → ports ≤ 16 → length (notes ports port (deeds ops log)) ≤ 16 * total (λ (e : Entry). deed_weight one (deed_of ops e.act)) log
 unfolding notes deeds total
 notes_len ports port ops [] le = omega arith
@@ -72,39 +74,46 @@ notes_len ports port ops (e ∷ before) le =
     let b = length-append (notes ports port (deeds ops before)) (notes_by ports port (deed_of ops e.act)) in
     omega arith
 
+-- an instruction is no push of a note
 next_note_none : (o : Option Instr) (answer : Answer) → is_note_push (deed_by_next o answer) ≡ 0
 unfolding is_note_push deed_by_next
 next_note_none (Some i) (DidAnswer what) = refl
 next_note_none o answer = refl
 
+-- nor is a handling
 handle_note_none : (src : PortNo) (body : Body) (answer : Handled) → is_note_push (deed_by_handle src body answer) ≡ 0
 unfolding is_note_push deed_by_handle
 handle_note_none src (Note n) (TookAnswer entered) = refl
 handle_note_none src (Between f to load) (TookAnswer entered) = refl
 handle_note_none src _ _ = refl
 
+-- a note that goes next is one that is owed and was not pushed
 going_left : (s : Scene) (n : OwedNote) → going s ≡ Some (GoesNote n) → deed_count is_note_push s.port_log < length (notes s.ports s.own.life.port.0 s.port_log)
 unfolding going next_note
 going_left s n h =
     let first = first_note (slice_get (notes s.ports s.own.life.port.0 s.port_log) (deed_count is_note_push s.port_log)) (life_going s.now s) n h (λ k. no_life_note s s.now n k) in
     slice_get_within (notes s.ports s.own.life.port.0 s.port_log) (deed_count is_note_push s.port_log) n first
 
+-- so one is left where a note is pushed
 push_left : (s : Scene) (d : Datagram) (note : NoteBody) (g : Going) → d.body ≡ Note note → going s ≡ Some g → IsGoing s g d
     → deed_count is_note_push s.port_log < length (notes s.ports s.own.life.port.0 s.port_log)
 push_left s d note (GoesNote n) b is h = going_left s n is
 push_left s d note (Goes to item) b is h = (let x = h.1.1 in cc)
 
+-- the same of the log
 plain_left : (job : Job) (port : ℕ) (log : List Deed) → deed_count is_note_push (own_scene job port log).port_log < length (notes (own_scene job port log).ports port (own_scene job port log).port_log)
     → deed_count is_note_push log < length (notes (port_count job) port log)
 unfolding own_scene scene
 plain_left job port log h = h
 
+-- the same of the scene of a port
 scene_left : (job : Job) (port : ℕ) (log : List Deed) → deed_count is_note_push (own_scene job port log).port_log < length (notes (own_scene job port log).ports (own_scene job port log).own.life.port.0 (own_scene job port log).port_log)
     → deed_count is_note_push log < length (notes (port_count job) port log)
 scene_left job port log h =
     let p = own_port job port log in
     plain_left job port log (subst (λ n. deed_count is_note_push (own_scene job port log).port_log < length (notes (own_scene job port log).ports n (own_scene job port log).port_log)) p h)
 
+-- a push leaves no more notes pushed than owed
 note_push : (job : Job) (port : ℕ) (log : List Deed) (d : Datagram) (body : Body) → d.body ≡ body → IsNext (own_scene job port log) d
     → deed_count is_note_push log ≤ length (notes (port_count job) port log)
     → deed_count is_note_push log + is_note_push (deed_by_push body) ≤ length (notes (port_count job) port log)
@@ -112,6 +121,7 @@ unfolding is_note_push deed_by_push
 note_push job port log d (Note note) b n le = let l = scene_left job port log (push_left (own_scene job port log) d note n.0 b n.1 n.2) in omega arith
 note_push job port log d (Between f to load) b n le = omega arith
 
+-- and so does each act
 note_act : (job : Job) (port : ℕ) (log : List Deed) (before : List Entry) (e : Entry) (act : Act) → Does job class_of (own_scene job port log) before e act
     → deed_count is_note_push log ≤ length (notes (port_count job) port log)
     → deed_count is_note_push log + is_note_push (deed_of (rank_of job port).ops act) ≤ length (notes (port_count job) port log)
@@ -131,6 +141,7 @@ notes_owed job port (e ∷ before) l =
     let b = length-append (notes (port_count job) port (deeds_at job port before)) (notes_by (port_count job) port (deed_of (rank_of job port).ops e.act)) in
     omega arith
 
+-- entries of a port and its deeds push as many notes
 count_deeds : (job : Job) (port : ℕ) (log : List Entry) → Local job port log → total (λ e. is_note_push (deed_at job e)) log ≡ deed_count is_note_push (deeds_at job port log)
 unfolding deeds_at deeds deed_count total
 count_deeds job port [] l = refl
@@ -140,6 +151,7 @@ count_deeds job port (e ∷ before) l =
     let t = ap (λ n. is_note_push (deed_of (rank_of job n).ops e.act)) p in
     omega arith
 
+-- deeds of a port weigh no more than its entries
 weigh_deeds : (job : Job) (port : ℕ) (log : List Entry) → Local job port log → total (λ (e : Entry). deed_weight one (deed_of (rank_of job port).ops e.act)) log ≤ total (entry_weight job one) log
 unfolding total
 weigh_deeds job port [] l = omega arith
@@ -150,6 +162,7 @@ weigh_deeds job port (e ∷ before) l =
     let t = ap (λ n. deed_weight one (deed_of (rank_of job n).ops e.act)) p in
     omega arith
 
+-- a sum of multiples
 times_to : (f : ℕ → ℕ) (n : ℕ) → total_to (λ p. 16 * f p) n ≡ 16 * total_to f n
 unfolding total_to
 times_to f zero = omega arith
@@ -174,6 +187,7 @@ notes_counted job history le played =
     let d = times_to f n in
     omega arith
 
+-- a step leaves no more polled than completed
 poll_step : (own : Own) (before : List Deed) (d : Deed) → LifeStep own before d → deed_count is_poll before ≤ length (completions own (heard_by own.limits.first before) before)
     → deed_count is_poll before + is_poll d ≤ length (completions own (heard_by own.limits.first before) before)
 unfolding poll_count is_poll

@@ -1,15 +1,16 @@
 -- Sums over distinct elements, and over ports.
-use Rattle.std.proofs.Common.{◌≡◌, ℕ, zero, suc, ◌+◌, ◌<◌, ◌≤◌, Bool, true, false, cond, List, [], ◌∷◌, ◌++◌, length, take, get_or, Option, Some, None, refl, arith, ◌⊎◌, inl, inr, sym, ◌∙◌, ap, subst}
+use Rattle.std.proofs.Common.{◌≡◌, ℕ, zero, suc, ◌+◌, ◌<◌, ◌≤◌, Bool, true, false, cond, List, [], ◌∷◌, length, take, get_or, Some, refl, arith, inl, inr, sym, ap, subst}
 use Rattle.std.specs.Prelude.{slice_get}
-use Rattle.std.proofs.lemmas.Bool.{cases_eq, cases_Bool}
+use Rattle.std.proofs.lemmas.Bool.{cases_eq}
 use Rattle.rdm_num.specs.Lists.{Member}
-use Rattle.rdm_law.proofs.Totals.{total, Without, take_out}
+use Rattle.rdm_law.proofs.Totals.{total, take_out}
 
 -- no element stands twice
 abbrev pub AreDistinct : {A : Type 0} → List A → Type 0
 AreDistinct [] = Unit {0}
 AreDistinct (x ∷ xs) = (Member x xs → ⊥) × AreDistinct xs
 
+-- where none passes, the sum is nothing
 none_passes : {A : Type 0} (t : A → Bool) (a : ℕ) (xs : List A) → ((x : A) → Member x xs → t x ≡ true → ⊥) → total (λ x. cond (t x) a 0) xs ≡ 0
 unfolding total
 none_passes t a [] h = refl
@@ -38,6 +39,7 @@ distinct_fit {A} (x ∷ xs) ys d h =
     let l = w.len in
     omega arith
 
+-- a lesser count has a lesser sum
 all_le : {A : Type 0} (f g : A → ℕ) (xs : List A) → ((y : A) → f y ≤ g y) → total f xs ≤ total g xs
 unfolding total
 all_le f g [] h = omega arith
@@ -58,16 +60,19 @@ unfoldable pub total_to : (ℕ → ℕ) → ℕ → ℕ
 total_to f zero = 0
 total_to f (suc n) = total_to f n + f n
 
+-- and so below a bound
 pub total_to_le : (f g : ℕ → ℕ) (n : ℕ) → ((k : ℕ) → f k ≤ g k) → total_to f n ≤ total_to g n
 unfolding total_to
 total_to_le f g zero h = omega arith
 total_to_le f g (suc n) h = let a = total_to_le f g n h in let b = h n in omega arith
 
+-- a count that is nothing sums to nothing
 pub total_to_zero : (f : ℕ → ℕ) (n : ℕ) → ((k : ℕ) → f k ≡ 0) → total_to f n ≡ 0
 unfolding total_to
 total_to_zero f zero h = refl
 total_to_zero f (suc n) h = let a = total_to_zero f n h in let b = h n in omega arith
 
+-- counts that differ only past the bound have one sum
 same_to : (f g : ℕ → ℕ) (k n : ℕ) → n ≤ k → ((j : ℕ) → (j ≡ k → ⊥) → f j ≡ g j) → total_to f n ≡ total_to g n
 unfolding total_to
 same_to f g k zero le h = refl
@@ -96,12 +101,14 @@ total_take f [] k x h = cc
 total_take f (y ∷ xs) zero x h = let e : y ≡ x = cc in let e' = ap f e in omega arith
 total_take f (y ∷ xs) (suc k) x h = let r = total_take f xs k x h in omega arith
 
+-- the first elements weigh no more than all
 pub total_front : {A : Type 0} (f : A → ℕ) (xs : List A) (k : ℕ) → total f (take k xs) ≤ total f xs
 unfolding total
 total_front f xs zero = omega arith
 total_front f [] (suc k) = omega arith
 total_front f (x ∷ xs) (suc k) = let r = total_front f xs k in omega arith
 
+-- one more place
 place_step : {A : Type 0} (g : A → ℕ) (xs : List A) (d : A) (n : ℕ) → g d ≡ 0 → total g (take n xs) + g (get_or xs n d) ≤ total g (take (suc n) xs)
 unfolding total
 place_step g [] d zero h = omega arith

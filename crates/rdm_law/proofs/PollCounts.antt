@@ -1,16 +1,14 @@
 -- A history has no more than two polls to an instruction that did.
-use Rattle.std.proofs.Common.{◌≡◌, ℕ, ◌+◌, ◌*◌, ◌≤◌, List, [], ◌∷◌, ◌++◌, length, refl, arith, inl, inr, ap, length-append}
-use Rattle.rdm_num.specs.Lists.{Member}
+use Rattle.std.proofs.Common.{◌≡◌, ℕ, ◌+◌, ◌*◌, ◌≤◌, List, [], ◌∷◌, length, refl, arith, inl, inr, ap, length-append}
 use Rattle.rdm_num.specs.declared.numbers.Life.{Life}
 use Rattle.rdm_model.specs.declared.job.Job.{Job}
-use Rattle.rdm_model.specs.declared.job.Instr.{Instr}
 use Rattle.rdm_model.specs.declared.job.Instr.TheVariants.{Send, Recv}
 use Rattle.rdm_model.specs.declared.entry.Entry.{Entry}
 use Rattle.rdm_model.specs.Deeds.{Deed, Did, deed_count}
 use Rattle.rdm_model.specs.Owns.{Own, Messages, rank_of, own_of}
 use Rattle.rdm_model.specs.Local.{heard_by}
 use Rattle.rdm_model.specs.Lawful.{life_deeds}
-use Rattle.rdm_model.specs.Matches.{Receive, receive, receives, received_by, with_received}
+use Rattle.rdm_model.specs.Matches.{receive, receives, received_by, with_received}
 use Rattle.rdm_model.specs.Sends.{Sent, sent_by, with_sent, sends}
 use Rattle.rdm_model.specs.Completions.{is_poll, poll_count}
 use Rattle.rdm_model.proofs.Numbers.{sends_step}

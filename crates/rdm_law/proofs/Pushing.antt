@@ -10,10 +10,9 @@ use Rattle.rdm_model.specs.Deeds.{Deed}
 use Rattle.rdm_model.specs.Owns.{Own, Messages}
 use Rattle.rdm_model.specs.Currents.{is_forgotten}
 use Rattle.rdm_model.specs.Sends.{Sent, sends}
-use Rattle.rdm_model.specs.Turns.{Sends, progress, packet_piece, pieces_in, is_read, is_pushed, is_over}
-use Rattle.rdm_model.proofs.Members.{member-append_cases, each_below_at, some_of}
-use Rattle.rdm_model.proofs.Pushes.{pushed_of, pushed_step}
-use Rattle.rdm_model.proofs.Served.{PushedAt}
+use Rattle.rdm_model.specs.Turns.{packet_piece, pieces_in, is_read, is_pushed, is_over}
+use Rattle.rdm_model.proofs.Members.{each_below_at, some_of}
+use Rattle.rdm_model.proofs.Pushes.{pushed_of}
 use Rattle.rdm_model.proofs.Sending.{push_is}
 use Rattle.rdm_model.proofs.Numbers.{sends_one}
 use Rattle.rdm_model.proofs.Served.{push_member}

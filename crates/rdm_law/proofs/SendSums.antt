@@ -1,8 +1,7 @@
 -- A life sends and receives no more often than it did instructions, and no more bytes than these ask for.
-use Rattle.std.proofs.Common.{◌≡◌, ℕ, ◌+◌, ◌≤◌, List, [], ◌∷◌, ◌++◌, length, drop, get_or, Option, Some, None, refl, arith, ap, length-append, length-take}
+use Rattle.std.proofs.Common.{ℕ, ◌+◌, ◌≤◌, List, [], ◌∷◌, length, drop, get_or, Option, Some, None, arith, length-append, length-take}
 use Rattle.rdm_num.specs.declared.numbers.Life.{Life}
 use Rattle.rdm_num.specs.declared.request.SendReq.{SendReq}
-use Rattle.rdm_model.specs.declared.job.Instr.{Instr}
 use Rattle.rdm_model.specs.declared.job.Instr.TheVariants.{Send, Recv}
 use Rattle.rdm_model.specs.Jobs.{sent_length}
 use Rattle.rdm_model.specs.Deeds.{Deed, Did}
@@ -15,6 +14,7 @@ use Rattle.rdm_law.proofs.Totals.{total, total-append}
 use Rattle.rdm_law.proofs.LifeCounts.{deed_weight}
 use Rattle.rdm_law.proofs.NoteCounts.{one}
 
+-- a range has no more bytes than were asked for
 range_few : (rs : List (List ℕ)) (region at len : ℕ) → length (range_of rs region at len) ≤ len
 unfolding range_of
 range_few rs region at len = let a = length-take len (drop at (get_or rs region [])) in omega arith
@@ -23,17 +23,20 @@ range_few rs region at len = let a = length-take len (drop at (get_or rs region 
 abbrev pub sent_bytes : Sent → ℕ
 sent_bytes s = length s.message.bytes
 
+-- one send at most
 one_sent : (own : Own) (before : List Deed) (sents : List Sent) (req : SendReq) (o : Option Life) (bytes : List ℕ) → length (sent_to_current own before sents req o bytes) ≤ 1
 unfolding sent_to_current
 one_sent own before sents req None bytes = omega arith
 one_sent own before sents req (Some to) bytes = omega arith
 
+-- of no more bytes than its range
 sent_few : (own : Own) (before : List Deed) (sents : List Sent) (req : SendReq) (o : Option Life) (bytes : List ℕ) → length bytes ≤ req.len
     → total sent_bytes (sent_to_current own before sents req o bytes) ≤ req.len
 unfolding total sent_to_current new_sent
 sent_few own before sents req None bytes le = omega arith
 sent_few own before sents req (Some to) bytes le = omega arith
 
+-- a deed sends or receives once at most
 newest_few : (own : Own) (ms : Messages) (before : List Deed) (sents : List Sent) (rs : List Receive) (d : Deed)
     → length (sent_by own ms before sents d) + length (received_by rs before d) ≤ deed_weight one d
 unfolding deed_weight sent_by received_by
@@ -42,6 +45,7 @@ newest_few own ms before sents rs (Did (Send req)) =
 newest_few own ms before sents rs (Did (Recv req)) = omega arith
 newest_few own ms before sents rs _ = omega arith
 
+-- and sends no more bytes than its instruction asks for
 newest_bytes : (own : Own) (ms : Messages) (before : List Deed) (sents : List Sent) (d : Deed) → total sent_bytes (sent_by own ms before sents d) ≤ deed_weight sent_length d
 unfolding deed_weight sent_length total sent_by
 newest_bytes own ms before sents (Did (Send req)) =

@@ -1,8 +1,7 @@
 -- Sums, squares and a fair job's ranks, for the bound of a history.
-use Rattle.std.proofs.Common.{◌≡◌, ℕ, ◌+◌, ◌*◌, ◌≤◌, leb-true, List, [], ◌∷◌, length, IsTrue, refl, arith, sym, ◌∙◌, ap, mul-le-mul}
+use Rattle.std.proofs.Common.{◌≡◌, ℕ, ◌*◌, ◌≤◌, leb-true, List, [], ◌∷◌, length, IsTrue, arith, sym, ◌∙◌, mul-le-mul}
 use Rattle.std.specs.Prelude.{sum_by}
 use Rattle.std.proofs.lemmas.Bool.{and_parts}
-use Rattle.rdm_num.specs.Lists.{Member}
 use Rattle.rdm_model.specs.declared.job.Job.{Job}
 use Rattle.rdm_model.specs.declared.job.Rank.{Rank}
 use Rattle.rdm_model.specs.Owns.{port_count}

@@ -1,0 +1,144 @@
+-- The class of a datagram by the endpoint is the one that the definitions give it.
+use Rattle.std.proofs.Common.{◌≡◌, ℕ, Bool, true, false, not, List, [], ◌∷◌, Option, Some, None, refl, arith, ap, ◌∙◌, sym}
+use Rattle.std.specs.Prelude.{◌&&◌, ◌==◌, nat_lt, is_none, is_some}
+use Rattle.std.proofs.lemmas.Bool.{and_parts, false_from_ne_true, eqb-true, eq-eqb, le-ltb}
+use Rattle.rdm_num.specs.Lists.{first_case}
+use Rattle.rdm_num.specs.Lives.{same_life}
+use Rattle.rdm_num.specs.declared.numbers.Life.{Life}
+use Rattle.rdm_num.specs.declared.numbers.Connid.{Connid}
+use Rattle.rdm_num.specs.declared.head.Head.{Head}
+use Rattle.rdm_pkt.specs.declared.Packet.TheVariants.{Rtm, Handshake}
+use Rattle.rdm_pkt.specs.declared.Form.TheVariants.{Eager}
+use Rattle.rdm_pkt.specs.Heads.{head_of}
+use Rattle.rdm_model.specs.declared.answer.Class.{Class}
+use Rattle.rdm_model.specs.declared.answer.Class.TheVariants.{ToOther, FromOther, Malformed, Unknown, BadKey, NoOp, Mismatch, Overlap}
+use Rattle.rdm_model.specs.Deeds.{Deed, Item, Spelled, is_connid}
+use Rattle.rdm_model.specs.Currents.{current}
+use Rattle.rdm_model.specs.Heads.{same_head}
+use Rattle.rdm_model.specs.Heard.{heard_head, is_heard}
+use Rattle.rdm_model.specs.Sources.{is_other, is_malformed, has_raw}
+use Rattle.rdm_model.specs.Named.{is_bad_key, is_no_op}
+use Rattle.rdm_model.specs.Classes.{is_received, is_other_head, is_mismatch, is_overlap, item_class}
+use Rattle.rdm_model.specs.Scenes.{Scene}
+use Rattle.rdm_model.proofs.Members.{same_life-true}
+use Rattle.rdm_ep.specs.declared.state.Inbound.{Inbound}
+use Rattle.rdm_ep.specs.View.{EndpointView, current_in}
+use Rattle.rdm_ep.specs.Handling.{is_heard_in, inbound_head, has_other_head, is_eager, rtm_class, load_class, item_class_in}
+use Rattle.rdm_ep.specs.Answers.{life_scene}
+use Rattle.rdm_ep.specs.Plain.{IsPlainItem}
+use Rattle.rdm_ep.specs.Keeps.{Keeps}
+use Rattle.rdm_ep.proofs.Apart.{list_any_none}
+use Rattle.rdm_ep.proofs.Groups.{kept_of}
+use Rattle.rdm_ep.proofs.Still.{waiting_heard}
+use Rattle.rdm_ep.proofs.Told.{unheard}
+
+-- the class by lives and by what the packet says of its source, or else that one
+unfoldable pub by_source : (a b c d : Bool) → Option Class → Option Class
+by_source a b c d rest = first_case ((a, Some ToOther) ∷ (b, Some FromOther) ∷ (c, Some Malformed) ∷ (d, Some Unknown) ∷ []) rest
+
+-- the class by what the life expects
+unfoldable expected_class : Scene → Life → Item → Option Class
+expected_class s from item =
+    first_case
+    ((is_bad_key s from item, Some BadKey) ∷ (is_no_op s from item, Some NoOp) ∷ (is_mismatch s from item, Some Mismatch) ∷ (is_overlap s from item, Some Overlap) ∷ [])
+    None
+
+-- the class in a scene is by the source, and then by what the life expects
+class_is : (s : Scene) (from : Life) (to : Connid) (item : Item)
+    → item_class s from to item
+    ≡ by_source (not (is_connid s.now to)) (is_other (current s.log from.port.0) from) (is_malformed from item)
+    (is_none (current s.log from.port.0) && not (has_raw item)) (expected_class s from item)
+unfolding item_class by_source expected_class first_case
+class_is s from to item = refl
+
+-- the class by the endpoint is by the source, and then by what it expects
+pub class_in_is : (v : EndpointView) (from : Life) (to : Connid) (item : Item)
+    → item_class_in v from to item
+    ≡ by_source (not (v.own.life.connid.0 == to.0)) (is_other (current_in v from.port.0) from) (is_malformed from item)
+    (is_none (current_in v from.port.0) && not (has_raw item)) (load_class v from item)
+unfolding item_class_in by_source first_case
+class_in_is v from to item = refl
+
+-- no message that waits has the name of one that was not heard of
+other_head_none : (log : List Deed) (v : EndpointView) (from : Life) (number : ℕ) (head : Head) → Keeps log v → is_heard log from number ≡ false
+    → has_other_head v from number head ≡ false
+unfolding has_other_head is_heard
+other_head_none log v from number head keeps h =
+    let k = kept_of log v keeps in
+    list_any_none (λ (i : Inbound). same_life i.life from && (i.no.0 == number) && not (same_head (inbound_head i) head)) v.arrived
+    (λ i m. false_from_ne_true (same_life i.life from && (i.no.0 == number) && not (same_head (inbound_head i) head))
+    (λ e.
+    let a = and_parts (same_life i.life from && (i.no.0 == number)) (not (same_head (inbound_head i) head)) e in
+    let b = and_parts (same_life i.life from) (i.no.0 == number) a.0 in
+    let x = waiting_heard v.own log v.arrived i k.messages.arrived_are m in
+    let y : heard_head log from number ≡ Some x.0 =
+    ap (λ (l : Life). heard_head log l number) (sym (same_life-true i.life from b.0)) ∙ ap (heard_head log i.life) (sym (eqb-true i.no.0 number b.1)) ∙ x.1 in
+    let z = ap (λ (o : Option Head). is_some o) y in
+    cc))
+
+-- the first message of a life, in one packet, has no class until it was heard of
+first_message_class : (log : List Deed) (v : EndpointView) (from : Life) (number : ℕ) (head : Head) (bytes : List ℕ) → Keeps log v → number ≡ v.own.limits.first
+    → is_heard log from number ≡ false → rtm_class v from number head (Eager bytes) ≡ None
+unfolding rtm_class first_case is_eager
+first_message_class log v from number head bytes keeps e h =
+    let a = other_head_none log v from number head keeps h in
+    let b : nat_lt number v.own.limits.first ≡ false = le-ltb number v.own.limits.first (omega arith) in
+    let c : is_heard_in v from number ≡ false = keeps.heard_are from number ∙ h in
+    let d : (number == v.own.limits.first) ≡ true = eq-eqb number v.own.limits.first e in
+    rw (a, b, c, d) refl
+
+-- a message that was not heard of has no other head
+unheard_no_other : (o : Option Head) (head : Head) (b : Bool) → o ≡ None → (is_other_head o head && b) ≡ false
+unfolding is_other_head
+unheard_no_other o head b e = rw e refl
+
+-- what the life expects of a plain item is what the endpoint does
+expected_agrees : (ports : ℕ) (port_log log : List Deed) (v : EndpointView) (from : Life) (item : Item) → IsPlainItem v.own log from item → Keeps log v
+    → expected_class (life_scene ports v.own port_log log) from item ≡ load_class v from item
+unfolding expected_class first_case load_class is_bad_key is_no_op is_mismatch is_overlap
+expected_agrees ports port_log log v from (Spelled (Rtm number tag opt (Eager bytes))) h keeps =
+    let no : heard_head log from number.0 ≡ None = unheard log from from number.0 number.0 refl refl h.1 in
+    let a = unheard_no_other (heard_head log from number.0) (head_of tag opt (Eager bytes)) (not (is_received (life_scene ports v.own port_log log) from number.0)) no in
+    let b : nat_lt number.0 v.own.limits.first ≡ false = le-ltb number.0 v.own.limits.first (let e = h.0 in omega arith) in
+    let c = h.1 in
+    (rw (a, b, c) refl) ∙ sym (first_message_class log v from number.0 (head_of tag opt (Eager bytes)) bytes keeps h.0 h.1)
+expected_agrees ports port_log log v from (Spelled (Handshake words connid)) h keeps = let e = keeps.known_are from in rw e refl
+expected_agrees ports port_log log v from item h keeps = elim h [ ]
+
+-- a plain datagram has the same class
+pub class_agrees : (ports : ℕ) (port_log log : List Deed) (v : EndpointView) (from : Life) (to : Connid) (item : Item) → IsPlainItem v.own log from item → Keeps log v
+    → item_class (life_scene ports v.own port_log log) from to item ≡ item_class_in v from to item
+unfolding is_connid
+class_agrees ports port_log log v from to item h keeps =
+    let cur : current log from.port.0 ≡ current_in v from.port.0 = sym (keeps.currents_are from.port.0) in
+    let rest = expected_agrees ports port_log log v from item h keeps in
+    class_is (life_scene ports v.own port_log log) from to item ∙ (rw (cur, rest) refl) ∙ sym (class_in_is v from to item)
+
+-- a class by lives alone is the class by the source
+by_lives : (a b c d : Bool) (rest : Option Class) (class' : Class) → first_case ((a, Some ToOther) ∷ (b, Some FromOther) ∷ []) None ≡ Some class'
+    → by_source a b c d rest ≡ Some class'
+unfolding by_source first_case
+by_lives true b c d rest class' h = h
+by_lives false true c d rest class' h = h
+by_lives false false c d rest class' h = cc
+
+-- the class by lives alone, of what comes from one life to another
+abbrev pub class_by_lives : Scene → Life → Connid → Option Class
+class_by_lives s from to = first_case ((not (is_connid s.now to), Some ToOther) ∷ (is_other (current s.log from.port.0) from, Some FromOther) ∷ []) None
+
+-- whatever comes to another life or from another one has the same class
+pub lives_class_agrees : (ports : ℕ) (port_log log : List Deed) (v : EndpointView) (from : Life) (to : Connid) (item : Item) (class' : Class) → Keeps log v
+    → class_by_lives (life_scene ports v.own port_log log) from to ≡ Some class'
+    → (item_class (life_scene ports v.own port_log log) from to item ≡ Some class') × (item_class_in v from to item ≡ Some class')
+unfolding is_connid
+lives_class_agrees ports port_log log v from to item class' keeps h =
+    let s = life_scene ports v.own port_log log in
+    let cur : current log from.port.0 ≡ current_in v from.port.0 = sym (keeps.currents_are from.port.0) in (
+      class_is s from to item
+          ∙ by_lives (not (v.own.life.connid.0 == to.0)) (is_other (current log from.port.0) from) (is_malformed from item)
+          (is_none (current log from.port.0) && not (has_raw item)) (expected_class s from item) class' h,
+      class_in_is v from to item
+          ∙ by_lives (not (v.own.life.connid.0 == to.0)) (is_other (current_in v from.port.0) from) (is_malformed from item)
+          (is_none (current_in v from.port.0) && not (has_raw item)) (load_class v from item) class'
+          (ap (λ (o : Option Life). first_case ((not (v.own.life.connid.0 == to.0), Some ToOther) ∷ (is_other o from, Some FromOther) ∷ []) None) (sym cur) ∙ h),
+    )

@@ -1,0 +1,80 @@
+-- Of plain deeds: nothing is owed but handshakes.
+use Rattle.std.proofs.Common.{◌≡◌, ℕ, Bool, true, false, cond, not, List, [], ◌∷◌, ◌++◌, map, refl, inl, inr, ap, ◌∙◌}
+use Rattle.std.specs.Prelude.{◌&&◌, filter, flat_map}
+use Rattle.std.specs.List.{list_any}
+use Rattle.std.proofs.lemmas.List.{append-nil}
+use Rattle.rdm_num.specs.Lists.{Member}
+use Rattle.rdm_num.specs.Lives.{same_life}
+use Rattle.rdm_num.specs.declared.numbers.Life.{Life}
+use Rattle.rdm_num.specs.declared.numbers.OpId.{OpId}
+use Rattle.rdm_num.specs.declared.head.Head.{Head}
+use Rattle.rdm_num.specs.declared.head.Shape.{Shape}
+use Rattle.rdm_num.specs.declared.head.Shape.TheVariants as S
+use Rattle.rdm_match.specs.Matcher.{Pair, is_pair}
+use Rattle.rdm_model.specs.Deeds.{Deed, Took, Asks}
+use Rattle.rdm_model.specs.Owns.{Own}
+use Rattle.rdm_model.specs.Matches.{pairs}
+use Rattle.rdm_model.specs.Receives.{is_filled}
+use Rattle.rdm_model.specs.Sends.{Sent}
+use Rattle.rdm_model.specs.Grants.{window, granted_bytes}
+use Rattle.rdm_model.specs.Replies.{Reply, reply, handshake_by, asks_for, grant_for, end_for, pair_items, pair_replies, given_by, replies_by, without_lives, without_forgotten}
+use Rattle.rdm_model.specs.Local.{heads_by}
+use Rattle.rdm_model.proofs.Matches.{pair_heard}
+use Rattle.rdm_model.proofs.Grows.{heads_by_heard}
+use Rattle.rdm_ep.specs.Plain.{IsPlainDeed, IsPlain}
+use Rattle.rdm_ep.proofs.Apart.{filter_all}
+use Rattle.rdm_ep.proofs.Currents.{forgotten_none}
+use Rattle.rdm_ep.proofs.Told.{heard_came}
+
+-- nothing is asked for, granted or ended for a message in one packet
+nothing_owed : (own : Own) (b c : Bool) (shape : Shape) (recv : OpId) (size : ℕ) → shape ≡ S.Eager
+    → cond b (map Asks (asks_for shape recv)) [] ++ grant_for own shape recv size ++ cond c (end_for own shape recv) [] ≡ []
+unfolding asks_for grant_for end_for
+nothing_owed own true true shape recv size e = rw e refl
+nothing_owed own true false shape recv size e = rw e refl
+nothing_owed own false true shape recv size e = rw e refl
+nothing_owed own false false shape recv size e = rw e refl
+
+-- a pair of plain deeds owes nothing
+pub pair_owes_nothing : (own : Own) (d : Deed) (before : List Deed) (p : Pair) → IsPlain own (d ∷ before)
+    → Member p (pairs own.limits.first (heads_by (d ∷ before)) (d ∷ before)) → pair_replies own (heads_by (d ∷ before)) d before p ≡ []
+unfolding pair_replies pair_items
+pair_owes_nothing own d before p h m =
+    let first = own.limits.first in
+    let heads = heads_by (d ∷ before) in
+    let x = pair_heard first heads (d ∷ before) p m in
+    let e : (heads p.message.life p.message.no.0).shape ≡ S.Eager =
+    ap (λ (y : Head). y.shape) (heads_by_heard (d ∷ before) p.message.life p.message.no.0 x.0 x.1)
+    ∙ (heard_came own heads (d ∷ before) p.message.life p.message.no.0 x.0 h x.1).is_eager in
+    ap (map (reply p.message.life))
+    (nothing_owed own (not (is_pair (pairs first heads before) p.recv.id.0 p.message.life p.message.no.0))
+    (is_filled first heads (d ∷ before) p && not (is_filled first heads before p))
+    (heads p.message.life p.message.no.0).shape (record { 0 = p.recv.id.0 }) (window own.limits heads (d ∷ before) p (granted_bytes own.limits heads before p)) e)
+
+-- a flat map that gives nothing
+flat_map_none : {A B : Type 0} (f : A → List B) (xs : List A) → ((x : A) → Member x xs → f x ≡ []) → flat_map f xs ≡ []
+flat_map_none f [] h = refl
+flat_map_none f (x ∷ xs) h = let a = h x (inl refl) in let b = flat_map_none f xs (λ y m. h y (inr m)) in rw (a, b) refl
+
+-- a plain deed asks for no bytes of a send
+given_none : (own : Own) (before : List Deed) (sents : List Sent) (d : Deed) → IsPlainDeed own before d → given_by sents d ≡ []
+unfolding given_by
+given_none own before sents (Took from (Asks ask)) h = elim h [ ]
+given_none own before sents _ h = refl
+
+-- a plain deed makes a handshake owed, and nothing else
+pub replies_are : (own : Own) (sents : List Sent) (d : Deed) (before : List Deed) → IsPlain own (d ∷ before)
+    → replies_by own (heads_by (d ∷ before)) sents d before ≡ handshake_by own before d
+unfolding replies_by
+replies_are own sents d before h =
+    let heads = heads_by (d ∷ before) in
+    let f = flat_map_none (pair_replies own heads d before) (pairs own.limits.first heads (d ∷ before)) (λ p m. pair_owes_nothing own d before p h m) in
+    let g = given_none own before sents d h.1 in
+    rw (f, g) (append-nil (handshake_by own before d ++ []) ∙ append-nil (handshake_by own before d))
+
+-- a plain deed takes back nothing that is owed
+pub none_taken_back : (own : Own) (before : List Deed) (d : Deed) (rs : List Reply) → IsPlainDeed own before d → without_forgotten before d rs ≡ rs
+unfolding without_forgotten without_lives
+none_taken_back own before d rs h =
+    ap (λ (lives : List Life). filter (λ (r : Reply). not (list_any (same_life r.to) lives)) rs) (forgotten_none own before d h)
+    ∙ filter_all (λ (r : Reply). not (list_any (same_life r.to) [])) rs (λ r m. refl)

@@ -1,0 +1,88 @@
+-- What an endpoint answers to a datagram is what the definitions say, and what it keeps then.
+use Rattle.std.proofs.Common.{◌≡◌, ℕ, Bool, true, false, cond, not, List, [], ◌∷◌, Option, Some, None, refl, ◌∙◌, sym}
+use Rattle.std.specs.Prelude.{◌||◌, ◌==◌, nat_lt, is_some}
+use Rattle.std.proofs.lemmas.Bool.{true≢false, or_parts, eqb-true, not-false}
+use Rattle.rdm_num.specs.Lists.{first_case}
+use Rattle.rdm_num.specs.declared.numbers.Life.{Life}
+use Rattle.rdm_num.specs.declared.numbers.Connid.{Connid}
+use Rattle.rdm_num.specs.declared.numbers.MsgNo.{MsgNo}
+use Rattle.rdm_hdr.specs.declared.Opt.{Opt}
+use Rattle.rdm_pkt.specs.declared.Packet.TheVariants.{Rtm, Handshake}
+use Rattle.rdm_pkt.specs.declared.Form.{Form}
+use Rattle.rdm_pkt.specs.declared.Form.TheVariants.{Eager}
+use Rattle.rdm_pkt.specs.Heads.{head_of}
+use Rattle.rdm_model.specs.declared.answer.Class.{Class}
+use Rattle.rdm_model.specs.declared.answer.Class.TheVariants.{Malformed, Mismatch, Overlap}
+use Rattle.rdm_model.specs.Deeds.{Deed, Took, Item, Spelled, Garbled}
+use Rattle.rdm_model.specs.Sources.{is_malformed}
+use Rattle.rdm_ep.specs.View.{EndpointView}
+use Rattle.rdm_ep.specs.Peers.{peer_in}
+use Rattle.rdm_ep.specs.Handling.{is_heard_in, is_eager, rtm_class, load_class, item_class_in, after_take}
+use Rattle.rdm_ep.specs.Plain.{IsPlainItem, IsPlain}
+use Rattle.rdm_ep.specs.Keeps.{Keeps}
+use Rattle.rdm_ep.proofs.Classed.{by_source, class_in_is}
+use Rattle.rdm_ep.proofs.KeepsTook.{keeps_message, keeps_handshake}
+
+-- what has no class is well formed, and the life expects it
+none_by_source : (a b c d : Bool) (rest : Option Class) → by_source a b c d rest ≡ None → (c ≡ false) × (rest ≡ None)
+unfolding by_source first_case
+none_by_source true b c d rest h = cc
+none_by_source false true c d rest h = cc
+none_by_source false false true d rest h = cc
+none_by_source false false false true rest h = cc
+none_by_source false false false false rest h = (refl, h)
+
+-- where no case holds, the last two do not
+none_of_three : (a b c : Bool) → first_case ((a, Some Mismatch) ∷ (b, Some Overlap) ∷ (c, Some Malformed) ∷ []) None ≡ None → (b ≡ false) × (c ≡ false)
+unfolding first_case
+none_of_three true b c h = cc
+none_of_three false true c h = cc
+none_of_three false false true h = cc
+none_of_three false false false h = (refl, refl)
+
+-- a packet that the endpoint takes is the first message of its life, in one packet
+plain_rtm : (log : List Deed) (v : EndpointView) (from : Life) (number : MsgNo) (tag : Option ℕ) (opt : Opt) (form : Form) → Keeps log v
+    → rtm_class v from number.0 (head_of tag opt form) form ≡ None → IsPlainItem v.own log from (Spelled (Rtm number tag opt form))
+unfolding rtm_class is_eager
+plain_rtm log v from number tag opt (Eager bytes) k h =
+    let t = none_of_three _ (nat_lt number.0 v.own.limits.first || is_heard_in v from number.0) (not (number.0 == v.own.limits.first)) h in (
+      eqb-true number.0 v.own.limits.first (not-false (number.0 == v.own.limits.first) t.1),
+      sym (k.heard_are from number.0) ∙ (or_parts (nat_lt number.0 v.own.limits.first) (is_heard_in v from number.0) t.0).1,
+    )
+plain_rtm log v from number tag opt form k h = let t = none_of_three _ (nat_lt number.0 v.own.limits.first || is_heard_in v from number.0) true h in absurd (true≢false t.1)
+
+-- what the endpoint expects is plain
+plain_load : (log : List Deed) (v : EndpointView) (from : Life) (item : Item) → Keeps log v → is_malformed from item ≡ false → load_class v from item ≡ None
+    → IsPlainItem v.own log from item
+unfolding load_class is_malformed
+plain_load log v from (Spelled (Rtm number tag opt form)) k m h = plain_rtm log v from number tag opt form k h
+plain_load log v from (Spelled (Handshake words connid)) k m h = tt
+plain_load log v from Garbled k m h = absurd (true≢false m)
+plain_load log v from item k m h = cc
+
+-- what has no class is plain
+pub taken_is_plain : (log : List Deed) (v : EndpointView) (from : Life) (to : Connid) (item : Item) → Keeps log v → item_class_in v from to item ≡ None
+    → IsPlainItem v.own log from item
+taken_is_plain log v from to item k h =
+    let n = none_by_source _ _ (is_malformed from item) _ (load_class v from item) (sym (class_in_is v from to item) ∙ h) in
+    plain_load log v from item k n.0 n.1
+
+-- a handshake has no class where nothing is known
+known_none : (o : Option ℕ) → cond (is_some o) (Some Mismatch) None ≡ None → o ≡ None
+known_none None h = refl
+known_none (Some x) h = cc
+
+-- the same, of a plain item
+took_kept : (log : List Deed) (v : EndpointView) (from : Life) (item : Item) → IsPlain v.own log → IsPlainItem v.own log from item → load_class v from item ≡ None → Keeps log v
+    → Keeps (Took from item ∷ log) (after_take from item v)
+unfolding load_class
+took_kept log v from (Spelled (Rtm number tag opt (Eager bytes))) h p c k = keeps_message from number tag opt bytes log v (h, p) k
+took_kept log v from (Spelled (Handshake words connid)) h p c k = keeps_handshake from words connid log v h (known_none (peer_in v.peers from).known c) k
+took_kept log v from item h p c k = elim p [ ]
+
+-- after a datagram that has no class was taken
+pub keeps_took : (log : List Deed) (v : EndpointView) (from : Life) (to : Connid) (item : Item) → IsPlain v.own log → item_class_in v from to item ≡ None → Keeps log v
+    → Keeps (Took from item ∷ log) (after_take from item v)
+keeps_took log v from to item h c k =
+    let n = none_by_source _ _ (is_malformed from item) _ (load_class v from item) (sym (class_in_is v from to item) ∙ c) in
+    took_kept log v from item h (plain_load log v from item k n.0 n.1) n.1 k

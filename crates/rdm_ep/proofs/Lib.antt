@@ -1,0 +1,50 @@
+-- What the code looks up and writes.
+pub mod Places
+pub mod PeersLemmas
+pub mod SendingLemmas
+pub mod SoundLemmas
+pub mod RegionLemmas
+pub mod Landing
+pub mod Decided
+pub mod Welcomed
+-- What an endpoint keeps is what the definitions say.
+pub mod Options
+pub mod Apart
+-- Of plain deeds, by what they themselves tell. Lives, and the messages that were heard of:
+pub mod Currents
+pub mod Told
+pub mod Accounts
+pub mod Entering
+-- What is sent, and what is left to push:
+pub mod EagerSends
+pub mod Progress
+pub mod Greetings
+pub mod Pushes
+-- What meets, what waits, and what ends by it:
+pub mod Accepted
+pub mod Pairs
+pub mod Ends
+pub mod Live
+pub mod Early
+pub mod Completed
+-- What an endpoint keeps, deed by deed:
+pub mod Groups
+pub mod Still
+pub mod PeersOf
+pub mod Fills
+pub mod KeepsQuiet
+pub mod KeepsPushed
+pub mod KeepsSend
+pub mod KeepsRecv
+pub mod Greeted
+pub mod KeepsTook
+-- What it answers:
+pub mod Counts
+pub mod Answered
+pub mod Instructed
+pub mod Classed
+pub mod Handled
+pub mod Handles
+pub mod Bodies
+-- In the scene of a port:
+pub mod OpenLife

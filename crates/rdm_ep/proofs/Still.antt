@@ -1,0 +1,206 @@
+-- What a plain deed leaves as it is.
+use Rattle.std.proofs.Common.{◌≡◌, ℕ, ◌+◌, false, List, [], ◌∷◌, ◌++◌, map, length, Option, Some, None, refl, arith, ap, ◌∙◌, sym, subst}
+use Rattle.std.specs.Prelude.{is_some}
+use Rattle.std.proofs.lemmas.List.{append-nil}
+use Rattle.rdm_num.specs.Lists.{Member, or_else}
+use Rattle.rdm_num.specs.declared.numbers.Life.{Life}
+use Rattle.rdm_num.specs.declared.head.Head.{Head}
+use Rattle.rdm_num.specs.declared.completion.Completion.{Completion}
+use Rattle.rdm_match.specs.Matcher.{Matching, run}
+use Rattle.rdm_pkt.specs.declared.Packet.TheVariants.{Rtm}
+use Rattle.rdm_model.specs.declared.job.Instr.TheVariants.{Insert, Send, Recv}
+use Rattle.rdm_model.specs.Deeds.{Deed, Did, Took, Pushed, Spelled, deed_count}
+use Rattle.rdm_model.specs.Owns.{Own}
+use Rattle.rdm_model.specs.Heard.{head_by, heard_head, is_heard}
+use Rattle.rdm_model.specs.Matches.{Receive, receives, received_by, with_received}
+use Rattle.rdm_model.specs.Regions.{after_ends, region_by}
+use Rattle.rdm_model.specs.Sends.{Sent, sends_to, known_by, known_word, sent_by}
+use Rattle.rdm_model.specs.Replies.{Reply, is_from, handshake_by}
+use Rattle.rdm_model.specs.Completions.{is_poll, poll_count, recv_completions}
+use Rattle.rdm_model.specs.Local.{heads_by, bytes_by}
+use Rattle.rdm_model.proofs.Members.{map-member}
+use Rattle.rdm_model.proofs.Matches.{arrived_heard}
+use Rattle.rdm_ep.specs.declared.state.Peer.{Peer}
+use Rattle.rdm_ep.specs.declared.state.Posted.{Posted}
+use Rattle.rdm_ep.specs.declared.state.Heard.{Heard}
+use Rattle.rdm_ep.specs.declared.state.Inbound.{Inbound}
+use Rattle.rdm_ep.specs.declared.state.Outbound.{Outbound}
+use Rattle.rdm_ep.specs.Receiving.{arrived_message}
+use Rattle.rdm_ep.specs.Plain.{IsPlainDeed, IsPlain}
+use Rattle.rdm_ep.specs.Keeps.{posted_of, outbound_of}
+use Rattle.rdm_ep.proofs.Options.{or_else-none}
+use Rattle.rdm_ep.proofs.Currents.{shown_by, current_step}
+use Rattle.rdm_ep.proofs.Accounts.{head_stays, bytes_stay}
+use Rattle.rdm_ep.proofs.Pairs.{own_matching, event_of, matching_step, met_by, new_pairs}
+use Rattle.rdm_ep.proofs.Live.{own_live, live_after, live_step}
+use Rattle.rdm_ep.proofs.Pushes.{own_sends, own_progress, own_live_sends, new_sends, own_sends_step, replies_left, replies_step, live_left, live_sends_step, ended_left}
+use Rattle.rdm_ep.proofs.Completed.{own_completions, own_regions, completions_step, regions_step}
+use Rattle.rdm_ep.proofs.Groups.{LivesKept, SendsKept, ReceivesKept, MessagesKept, OwedKept, RegionsKept, CompletionsKept}
+
+-- the deed shows no life
+abbrev pub ShowsNoLife : Deed → Type 0
+ShowsNoLife (Did (Insert life)) = ⊥
+ShowsNoLife (Took from item) = ⊥
+ShowsNoLife _ = Unit {0}
+
+-- the deed neither makes a send nor pushes
+abbrev pub SendsNothing : Deed → Type 0
+SendsNothing (Did (Send req)) = ⊥
+SendsNothing Pushed = ⊥
+SendsNothing _ = Unit {0}
+
+-- the deed brings neither a receive nor a message
+abbrev pub MeetsNothing : Deed → Type 0
+MeetsNothing (Did (Recv req)) = ⊥
+MeetsNothing (Took from (Spelled (Rtm number tag opt form))) = ⊥
+MeetsNothing _ = Unit {0}
+
+-- the deed neither takes a datagram nor pushes
+abbrev pub GreetsNobody : Deed → Type 0
+GreetsNobody (Took from item) = ⊥
+GreetsNobody Pushed = ⊥
+GreetsNobody _ = Unit {0}
+
+-- a deed that shows no life shows none of a port, is from no life, and tells no features
+unshown : (d : Deed) → ShowsNoLife d → ((port : ℕ) → shown_by port d ≡ None) × ((life : Life) → is_from life d ≡ false) × ((life : Life) → known_by life d ≡ None)
+unfolding shown_by is_from known_by
+unshown (Did (Insert life)) n = elim n [ ]
+unshown (Took from item) n = elim n [ ]
+unshown _ n = (λ port. refl, λ life. refl, λ life. refl)
+
+-- what is known of lives stays where none is shown
+pub lives_still : (own : Own) (d : Deed) (before : List Deed) (currents : List Life) (peers : List Peer) → IsPlainDeed own before d → ShowsNoLife d
+    → LivesKept before currents peers → LivesKept (d ∷ before) currents peers
+unfolding known_word or_else
+lives_still own d before currents peers h n k =
+    let u = unshown d n in
+    record {
+      currents_are = λ port. k.currents_are port ∙ sym (current_step own d before port h ∙ (let e = u.0 port in rw e (or_else-none _)));
+      greeted_are = λ life. k.greeted_are life ∙ (let e = u.1 life in rw e refl);
+      known_are = λ life. k.known_are life ∙ (let e = u.2 life in rw e (sym (or_else-none (known_word before life))));
+    }
+
+-- a deed that sends nothing leaves the sends
+unsent_by : (own : Own) (d : Deed) (before : List Deed) → SendsNothing d
+    → (new_sends own before d ≡ []) × ((rs : List Reply) (live : List Sent) → live_left d rs live ≡ live) × ((rs : List Reply) (live : List Sent) → ended_left d rs live ≡ [])
+unfolding sent_by live_left ended_left
+unsent_by own (Did (Send req)) before n = elim n [ ]
+unsent_by own Pushed before n = elim n [ ]
+unsent_by own _ before n = (refl, λ rs live. refl, λ rs live. refl)
+
+-- the sends stay where none is made or pushed
+pub sends_still : (own : Own) (d : Deed) (before : List Deed) (count : ℕ) (peers : List Peer) (outgoing : List Outbound) → IsPlain own (d ∷ before) → SendsNothing d
+    → SendsKept own before count peers outgoing → SendsKept own (d ∷ before) count peers outgoing
+sends_still own d before count peers outgoing h n k =
+    let u = unsent_by own d before n in
+    let s : own_sends own (d ∷ before) ≡ own_sends own before = own_sends_step own d before ∙ ap (λ (xs : List Sent). own_sends own before ++ xs) u.0 ∙ append-nil (own_sends own before) in
+    let l : own_live_sends own (d ∷ before) ≡ own_live_sends own before =
+    live_sends_step own d before h ∙ ap (λ (xs : List Sent). live_left d (own_progress own before).replies (own_live_sends own before) ++ xs) u.0
+    ∙ append-nil (live_left d (own_progress own before).replies (own_live_sends own before)) ∙ u.1 (own_progress own before).replies (own_live_sends own before) in
+    record {
+      sent_are = λ life. k.sent_are life ∙ ap (λ (xs : List Sent). length (sends_to xs life)) (sym s);
+      sends_are = k.sends_are ∙ ap length (sym s);
+      outgoing_are = k.outgoing_are ∙ ap (map outbound_of) (sym l);
+    }
+
+-- a deed that brings nothing meets nothing
+pub unmet : (own : Own) (d : Deed) (before : List Deed) → MeetsNothing d
+    → (event_of before d ≡ []) × (receives (d ∷ before) ≡ receives before) × ((live : List Receive) (m : Matching) → live_after live m before d ≡ live)
+    × ((life : Life) (n : ℕ) → head_by life n d ≡ None)
+unfolding event_of receives with_received received_by live_after head_by
+unmet own (Did (Recv req)) before n = elim n [ ]
+unmet own (Took from (Spelled (Rtm number tag opt form))) before n = elim n [ ]
+unmet own _ before n = (refl, append-nil (receives before), λ live m. refl, λ life k. refl)
+
+-- the receives stay where nothing is met
+pub receives_still : (own : Own) (d : Deed) (before : List Deed) (count : ℕ) (posted : List Posted) → IsPlain own (d ∷ before) → MeetsNothing d
+    → ReceivesKept own before count posted → ReceivesKept own (d ∷ before) count posted
+receives_still own d before count posted h n k =
+    let u = unmet own d before n in
+    record {
+      receives_are = k.receives_are ∙ ap length (sym u.1);
+      posted_are = k.posted_are ∙ ap (map posted_of) (sym (live_step own d before h ∙ u.2 (own_live own before) (own_matching own before)));
+    }
+
+-- a message that waits was heard of
+pub waiting_heard : (own : Own) (log : List Deed) (arrived : List Inbound) (i : Inbound) → map arrived_message arrived ≡ (own_matching own log).arrived → Member i arrived
+    → (h : Head) × (heard_head log i.life i.no.0 ≡ Some h)
+waiting_heard own log arrived i e m =
+    ((arrived_heard own.limits.first (heads_by log) log).waiting (arrived_message i)
+    (subst (λ (xs : List _). Member (arrived_message i) xs) e (map-member arrived_message i arrived m))).0
+
+-- what was told of the messages that wait stays
+pub told_stays : (own : Own) (d : Deed) (before : List Deed) (arrived : List Inbound) (heard : List Heard) (i : Inbound) → IsPlain own (d ∷ before)
+    → MessagesKept own before arrived heard → Member i arrived
+    → (heads_by (d ∷ before) i.life i.no.0 ≡ heads_by before i.life i.no.0) × (bytes_by own.limits.first (d ∷ before) i.life i.no.0 ≡ bytes_by own.limits.first before i.life i.no.0)
+told_stays own d before arrived heard i h k m =
+    let x = waiting_heard own before arrived i k.arrived_are m in
+    (head_stays d before i.life i.no.0 x.0 x.1, bytes_stay own d before i.life i.no.0 x.0 h x.1)
+
+-- a deed that tells nothing of a message leaves whether it was heard of
+pub heard_more : (d : Deed) (before : List Deed) (life : Life) (n : ℕ) → head_by life n d ≡ None → is_heard (d ∷ before) life n ≡ is_heard before life n
+unfolding is_heard heard_head
+heard_more d before life n e = rw e (ap (λ (o : Option Head). is_some o) (or_else-none (heard_head before life n)))
+
+-- the messages stay where nothing is met
+pub messages_still : (own : Own) (d : Deed) (before : List Deed) (arrived : List Inbound) (heard : List Heard) → IsPlain own (d ∷ before) → MeetsNothing d
+    → MessagesKept own before arrived heard → MessagesKept own (d ∷ before) arrived heard
+unfolding run
+messages_still own d before arrived heard h n k =
+    let u = unmet own d before n in
+    let s : own_matching own (d ∷ before) ≡ own_matching own before = matching_step own d before h ∙ ap (run (own_matching own before)) u.0 in
+    record {
+      arrived_are = k.arrived_are ∙ ap (λ (m : Matching). m.arrived) (sym s);
+      heads_are = λ i m. (told_stays own d before arrived heard i h k m).0 ∙ k.heads_are i m;
+      bytes_are = λ i m. (told_stays own d before arrived heard i h k m).1 ∙ k.bytes_are i m;
+      heard_are = λ life number. k.heard_are life number ∙ sym (heard_more d before life number (u.3 life number));
+    }
+
+-- a deed that takes and pushes nothing leaves what is owed
+greets_nobody : (own : Own) (d : Deed) (before : List Deed) → GreetsNobody d → ((rs : List Reply) → replies_left d rs ≡ rs) × (handshake_by own before d ≡ [])
+unfolding replies_left handshake_by
+greets_nobody own (Took from item) before n = elim n [ ]
+greets_nobody own Pushed before n = elim n [ ]
+greets_nobody own _ before n = (λ rs. refl, refl)
+
+-- what is owed stays where nothing is taken or pushed
+pub owed_still : (own : Own) (d : Deed) (before : List Deed) (owed : List Life) → IsPlain own (d ∷ before) → GreetsNobody d → OwedKept own before owed → OwedKept own (d ∷ before) owed
+owed_still own d before owed h n k =
+    let u = greets_nobody own d before n in
+    k ∙ sym (replies_step own d before h ∙ ap (λ (rs : List Reply). replies_left d (own_progress own before).replies ++ rs) u.1
+    ∙ append-nil (replies_left d (own_progress own before).replies) ∙ u.0 (own_progress own before).replies)
+
+-- a deed that meets nothing makes no pair
+pub no_pairs : (own : Own) (d : Deed) (before : List Deed) → MeetsNothing d → new_pairs own before d ≡ []
+unfolding met_by
+no_pairs own d before n = ap (met_by (own_matching own before)) (unmet own d before n).0
+
+-- the regions stay where nothing is met or registered
+pub regions_still : (own : Own) (d : Deed) (before : List Deed) (regions : List (List ℕ)) → IsPlain own (d ∷ before) → MeetsNothing d → region_by d ≡ []
+    → RegionsKept own before regions → RegionsKept own (d ∷ before) regions
+unfolding after_ends
+regions_still own d before regions h n e k =
+    k ∙ sym (regions_step own d before h
+    ∙ (let p = no_pairs own d before n in rw (p, e) (append-nil (own_regions own before))))
+
+-- a deed that meets and sends nothing completes nothing
+pub none_completed : (own : Own) (d : Deed) (before : List Deed) → IsPlain own (d ∷ before) → MeetsNothing d → SendsNothing d
+    → own_completions own (d ∷ before) ≡ own_completions own before
+unfolding recv_completions
+none_completed own d before h n s =
+    completions_step own d before h
+    ∙ (let p = no_pairs own d before n in let q = (unsent_by own d before s).2 (own_progress own before).replies (own_live_sends own before) in
+    rw (p, q) (append-nil (own_completions own before)))
+
+-- the completions stay where nothing is met, pushed or polled
+pub completions_still : (own : Own) (d : Deed) (before : List Deed) (polled : ℕ) (completions : List Completion) → IsPlain own (d ∷ before) → MeetsNothing d → SendsNothing d
+    → is_poll d ≡ 0 → CompletionsKept own before polled completions → CompletionsKept own (d ∷ before) polled completions
+unfolding poll_count deed_count
+completions_still own d before polled completions h n s e k =
+    let c = none_completed own d before h n s in
+    let same : deed_count is_poll before + is_poll d ≡ deed_count is_poll before = omega arith in
+    record {
+      polled_are = k.polled_are ∙ sym same;
+      polled_within = rw (same, c) k.polled_within;
+      completions_are = rw (same, c) k.completions_are;
+    }
