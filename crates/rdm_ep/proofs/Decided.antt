@@ -1,20 +1,18 @@
 -- What an endpoint decides is what the handling of a datagram says.
-use Rattle.std.proofs.Common.{◌≡◌, ℕ, zero, suc, ◌<◌, arith, Bool, true, false, not, ◌&&◌, cond, List, [], ◌∷◌, Option, Some, None, refl, sym, ◌∙◌, ap, subst}
+use Rattle.std.proofs.Common.{◌≡◌, ℕ, zero, suc, ◌<◌, arith, Bool, true, false, not, ◌&&◌, List, [], ◌∷◌, Option, Some, None, refl, ◌∙◌, ap}
 use Rattle.std.specs.Prelude.{is_none, length, ◌==◌, is_some, find, slice_get, if◌then◌else◌}
 use Rattle.rdm_num.specs.Lists.{first_case}
 use Rattle.rdm_num.specs.Lives.{life}
 use Rattle.rdm_num.specs.declared.numbers.Life.{Life}
 use Rattle.rdm_num.specs.declared.numbers.Connid.{Connid}
-use Rattle.rdm_pkt.specs.Heads.{head_of}
 use Rattle.rdm_pkt.specs.declared.Packet.TheVariants.{Rtm, Cts, CtsData, Eor, Handshake}
 use Rattle.rdm_pkt.specs.declared.Form.TheVariants.{Eager, Medium, LongCts, LongRead, Runt}
 use Rattle.rdm_wire.specs.declared.Load.{Load}
-use Rattle.rdm_wire.specs.declared.Body.{Body}
-use Rattle.rdm_wire.specs.declared.Body.TheVariants.{Note, Between}
+use Rattle.rdm_wire.specs.declared.Body.TheVariants.{Between}
 use Rattle.rdm_wire.specs.declared.Datagram.{Datagram}
 use Rattle.rdm_model.specs.declared.answer.Entered.{Entered}
 use Rattle.rdm_model.specs.declared.answer.Class.{Class}
-use Rattle.rdm_model.specs.declared.answer.Class.TheVariants.{ToOther, FromOther, Malformed, Unknown, BadKey, NoOp, Mismatch, Overlap}
+use Rattle.rdm_model.specs.declared.answer.Class.TheVariants.{ToOther, FromOther, Malformed, Unknown, Mismatch, Overlap}
 use Rattle.rdm_model.specs.Deeds.{Item, Spelled, Asks, Gives, Garbled, item_of}
 use Rattle.rdm_model.specs.Sources.{is_other, is_malformed, has_raw}
 use Rattle.rdm_ep.specs.declared.answer.HandleAnswer.{HandleAnswer}
@@ -22,11 +20,11 @@ use Rattle.rdm_ep.specs.declared.answer.HandleAnswer.TheVariants.{Took, Dropped,
 use Rattle.rdm_ep.specs.declared.state.Posted.{Posted}
 use Rattle.rdm_ep.specs.declared.state.Inbound.{Inbound}
 use Rattle.rdm_ep.specs.declared.state.Verdict.{Verdict}
-use Rattle.rdm_ep.specs.declared.state.Verdict.TheVariants.{Refuse, Message, Features}
+use Rattle.rdm_ep.specs.declared.state.Verdict.TheVariants.{Message}
 use Rattle.rdm_ep.specs.Places.{IsPlaced}
 use Rattle.rdm_ep.specs.Receiving.{takes}
 use Rattle.rdm_ep.specs.View.{EndpointView, current_in}
-use Rattle.rdm_ep.specs.Handling.{item_class_in, load_class, rtm_class, has_other_head, is_heard_in, is_eager, is_met_in, class_answer_in, item_answer, needs_place_in, taken_in, after_take, with_item, after_answer, body_answer, after_body, HandlesAs}
+use Rattle.rdm_ep.specs.Handling.{item_class_in, load_class, rtm_class, is_eager, is_met_in, class_answer_in, item_answer, needs_place_in, taken_in, after_take, with_item, after_answer, body_answer, after_body, HandlesAs}
 use Rattle.rdm_ep.specs.Verdicts.{accepted_of, verdict_of, verdict_in, verdict_answer, verdict_effect, with_features, waits_in, early_is_full, VerdictAs, IsFrom}
 use Rattle.rdm_ep.specs.Answers.{is_early}
 
@@ -58,7 +56,7 @@ pub no_load_class : (v : EndpointView) (from : Life) (to : Connid) (item : Item)
 unfolding item_class_in
 no_load_class v from to item h =
     unclassed_load (not (v.own.life.connid.0 == to.0)) (is_other (current_in v from.port.0) from) (is_malformed from item)
-        (is_none (current_in v from.port.0) && not (has_raw item)) ToOther FromOther Malformed Unknown (load_class v from item) h
+    (is_none (current_in v from.port.0) && not (has_raw item)) ToOther FromOther Malformed Unknown (load_class v from item) h
 
 -- what is neither a message in one packet nor a handshake has a class
 pub record IsTaken (v : EndpointView) (from : Life) (item : Item) : Type 0 where

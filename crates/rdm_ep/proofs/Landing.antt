@@ -1,6 +1,6 @@
 -- Messages and receives that meet.
-use Rattle.std.proofs.Common.{◌≡◌, ℕ, ◌+◌, List, [], ◌∷◌, ◌++◌, take, Option, Some, None, refl}
-use Rattle.std.specs.Prelude.{slice_get, remove}
+use Rattle.std.proofs.Common.{◌≡◌, ℕ, ◌+◌, List, [], ◌∷◌, ◌++◌, take, Some, refl}
+use Rattle.std.specs.Prelude.{slice_get}
 use Rattle.rdm_num.specs.Lists.{without_first}
 use Rattle.rdm_num.specs.declared.completion.Completion.{Completion}
 use Rattle.rdm_model.specs.Regions.{change_at, put}
@@ -14,6 +14,6 @@ pub receive_met : (v : EndpointView) (p : Posted) (i : Inbound) (at : ℕ) (regi
     → slice_get v.arrived at ≡ Some i → without_first (takes p) v.arrived ≡ arrived → regions ≡ change_at (put p.req.at (take p.req.len i.bytes)) p.req.region.0 v.regions
     → completions ≡ v.completions ++ completion_of p i ∷ []
     → ◌≡◌ {A = EndpointView} (record v { receives = v.receives + 1; regions = regions; arrived = arrived; completions = completions })
-      (after_post (one_more_receive v) p (slice_get v.arrived at))
+    (after_post (one_more_receive v) p (slice_get v.arrived at))
 unfolding after_post landed
 receive_met v p i at regions arrived completions found without r k = rw (found, without, r, k) refl

@@ -1,6 +1,5 @@
 -- What is known of lives stands at the first place of each life.
-use Rattle.std.proofs.Common.{◌≡◌, ℕ, zero, suc, ◌+◌, ◌<◌, Bool, true, false, cond, List, [], ◌∷◌, ◌++◌, length, get_or, Option, Some, None, refl, arith, sym, ◌∙◌, ap, subst}
-use Rattle.std.specs.Prelude.{slice_get, slice_set}
+use Rattle.std.proofs.Common.{◌≡◌, ℕ, suc, ◌+◌, Bool, true, false, List, [], ◌∷◌, Option, Some, None, refl, arith, sym, ◌∙◌, ap, subst}
 use Rattle.std.specs.List.{position_from}
 use Rattle.rdm_num.specs.Lives.{same_life}
 use Rattle.rdm_num.specs.declared.numbers.Life.{Life}
@@ -18,15 +17,15 @@ peer_from life start [] at h = absurd (cc)
 peer_from life start (p ∷ ps) at h =
     elim (same_life p.life life) as (λ b. same_life p.life life ≡ b → (k : ℕ) × (at ≡ start + k) × IsPeerAt life (p ∷ ps) k) [
       | true ↦ λ is.
-        let m : Some start ≡ Some at = rw is at h in
-        let f : start ≡ at = cc in
-        (0, omega arith, record { within = omega arith; known = rw is refl; written = λ q. rw is refl })
+          let m : Some start ≡ Some at = rw is at h in
+          let f : start ≡ at = cc in
+          (0, omega arith, record { within = omega arith; known = rw is refl; written = λ q. rw is refl })
       | false ↦ λ is.
-        let m : position_from (is_peer life) (start + 1) ps ≡ Some at = rw is at h in
-        let r = peer_from life (start + 1) ps at m in
-        let f = r.1 in
-        let w = r.2.within in
-        (suc r.0, omega arith, record { within = omega arith; known = rw is r.2.known; written = λ q. rw is (ap (λ qs. p ∷ qs) (r.2.written q)) })
+          let m : position_from (is_peer life) (start + 1) ps ≡ Some at = rw is at h in
+          let r = peer_from life (start + 1) ps at m in
+          let f = r.1 in
+          let w = r.2.within in
+          (suc r.0, omega arith, record { within = omega arith; known = rw is r.2.known; written = λ q. rw is (ap (λ qs. p ∷ qs) (r.2.written q)) })
     ] refl
 
 -- of a life that is not found nothing is known
@@ -37,9 +36,9 @@ no_peer life start (p ∷ ps) h =
     elim (same_life p.life life) as (λ b. same_life p.life life ≡ b → IsNoPeer life (p ∷ ps)) [
       | true ↦ λ is. let m : Some start ≡ None = rw is at h in absurd (cc)
       | false ↦ λ is.
-        let m : position_from (is_peer life) (start + 1) ps ≡ None = rw is at h in
-        let r = no_peer life (start + 1) ps m in
-        record { known = rw is r.known; written = λ q. rw is (ap (λ qs. p ∷ qs) (r.written q)) }
+          let m : position_from (is_peer life) (start + 1) ps ≡ None = rw is at h in
+          let r = no_peer life (start + 1) ps m in
+          record { known = rw is r.known; written = λ q. rw is (ap (λ qs. p ∷ qs) (r.written q)) }
     ] refl
 
 -- the place that a search finds
@@ -73,9 +72,9 @@ with_peer_put f life [] = ap (λ (q : Peer). f q ∷ []) (sym (peer_none life))
 with_peer_put f life (p ∷ ps) =
     elim (same_life p.life life) as (λ b. same_life p.life life ≡ b → with_peer f life (p ∷ ps) ≡ put_peer life (f (peer_in (p ∷ ps) life)) (p ∷ ps)) [
       | true ↦ λ is.
-        let e : with_peer f life (p ∷ ps) ≡ put_peer life (f p) (p ∷ ps) = rw is refl in
-        e ∙ ap (λ (q : Peer). put_peer life (f q) (p ∷ ps)) (sym (peer_here p life ps is))
+          let e : with_peer f life (p ∷ ps) ≡ put_peer life (f p) (p ∷ ps) = rw is refl in
+          e ∙ ap (λ (q : Peer). put_peer life (f q) (p ∷ ps)) (sym (peer_here p life ps is))
       | false ↦ λ is.
-        let e : with_peer f life (p ∷ ps) ≡ put_peer life (f (peer_in ps life)) (p ∷ ps) = rw is (ap (λ qs. p ∷ qs) (with_peer_put f life ps)) in
-        e ∙ ap (λ (q : Peer). put_peer life (f q) (p ∷ ps)) (sym (peer_behind p life ps is))
+          let e : with_peer f life (p ∷ ps) ≡ put_peer life (f (peer_in ps life)) (p ∷ ps) = rw is (ap (λ qs. p ∷ qs) (with_peer_put f life ps)) in
+          e ∙ ap (λ (q : Peer). put_peer life (f q) (p ∷ ps)) (sym (peer_behind p life ps is))
     ] refl

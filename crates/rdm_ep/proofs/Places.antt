@@ -1,7 +1,7 @@
 -- The first place of a list that passes a test.
-use Rattle.std.proofs.Common.{◌≡◌, ℕ, zero, suc, ◌+◌, ◌<◌, Bool, true, false, cond, List, [], ◌∷◌, ◌++◌, length, Option, Some, None, refl, arith, sym, ◌∙◌, ap, subst}
-use Rattle.std.specs.Prelude.{find, slice_get, remove, slice_set}
-use Rattle.std.specs.List.{position_from, list_any}
+use Rattle.std.proofs.Common.{◌≡◌, ℕ, suc, ◌+◌, Bool, true, false, List, [], ◌∷◌, Option, Some, None, refl, arith, sym, ap, subst}
+use Rattle.std.specs.Prelude.{find}
+use Rattle.std.specs.List.{position_from}
 use Rattle.rdm_num.specs.Lists.{without_first}
 use Rattle.rdm_ep.specs.Places.{IsPlaced, IsPlace}
 
@@ -24,10 +24,10 @@ placed_from p start (x ∷ xs) at h =
     elim (p x) as (λ b. p x ≡ b → (k : ℕ) × (at ≡ start + k) × IsPlaced p (x ∷ xs) k) [
       | true ↦ λ is. let e : Some start ≡ Some at = rw is at h in let f : start ≡ at = cc in (0, omega arith, placed_here p x xs is)
       | false ↦ λ is.
-        let e : position_from p (start + 1) xs ≡ Some at = rw is at h in
-        let m = placed_from p (start + 1) xs at e in
-        let f = m.1 in
-        (suc m.0, omega arith, placed_behind p x xs m.0 is m.2)
+          let e : position_from p (start + 1) xs ≡ Some at = rw is at h in
+          let m = placed_from p (start + 1) xs at e in
+          let f = m.1 in
+          (suc m.0, omega arith, placed_behind p x xs m.0 is m.2)
     ] refl
 
 -- where the search finds none, no element passes

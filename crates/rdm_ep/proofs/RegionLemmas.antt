@@ -1,9 +1,8 @@
 -- Regions that are written.
-use Rattle.std.proofs.Common.{◌≡◌, ℕ, zero, suc, ◌+◌, ◌-◌, ◌<◌, ◌≤◌, List, [], ◌∷◌, ◌++◌, map, length, take, drop, get_or, Option, Some, refl, arith, sym, ◌∙◌, ap, subst}
-use Rattle.std.specs.Prelude.{slice_set, min}
+use Rattle.std.proofs.Common.{◌≡◌, ℕ, zero, suc, ◌+◌, ◌<◌, ◌≤◌, List, [], ◌∷◌, ◌++◌, map, length, take, drop, get_or, refl, arith, ◌∙◌, ap}
+use Rattle.std.specs.Prelude.{slice_set}
 use Rattle.std.proofs.Math.ListN.{length-append, length-drop}
 use Rattle.std.proofs.lemmas.List.{length-take}
-use Rattle.rdm_num.specs.Lists.{Member}
 use Rattle.rdm_model.specs.Regions.{change_at, put}
 use Rattle.rdm_ep.specs.declared.state.Posted.{Posted}
 use Rattle.rdm_ep.specs.Counts.{RangesFit}

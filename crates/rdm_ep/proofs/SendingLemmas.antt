@@ -1,8 +1,6 @@
 -- An accepted send as the endpoint keeps it.
-use Rattle.std.proofs.Common.{◌≡◌, ℕ, ◌+◌, List, [], ◌∷◌, ◌++◌, get_or, take, drop, Option, Some, None, refl, sym, ◌∙◌, ap}
-use Rattle.rdm_num.specs.declared.numbers.Life.{Life}
+use Rattle.std.proofs.Common.{◌≡◌, ℕ, ◌+◌, List, [], ◌∷◌, ◌++◌, get_or, take, drop, Some, refl}
 use Rattle.rdm_num.specs.declared.request.SendReq.{SendReq}
-use Rattle.rdm_hdr.specs.declared.Opt.{Opt}
 use Rattle.rdm_pkt.specs.declared.Packet.TheVariants.{Rtm}
 use Rattle.rdm_pkt.specs.declared.Form.TheVariants.{Eager}
 use Rattle.rdm_model.specs.Sends.{wants_raw, opt_for, range_of}
@@ -18,8 +16,8 @@ use Rattle.rdm_ep.proofs.PeersLemmas.{with_peer_put}
 pub outbound_made : (v : EndpointView) (req : SendReq) (a : AcceptedSend) (bytes : List ℕ) → v.own.limits.first + (peer_in v.peers a.to).sent ≡ a.msg.0
     → bytes ≡ take req.len (drop req.at (get_or v.regions req.region.0 []))
     → ◌≡◌ {A = Outbound}
-      (record { number = record { 0 = v.sends }; to = a.to; req = req; packet = Rtm a.msg req.tag (opt_for v.own.life (wants_raw (peer_in v.peers a.to).known) req.cq_data) (Eager bytes) })
-      (outbound v req a.to)
+    (record { number = record { 0 = v.sends }; to = a.to; req = req; packet = Rtm a.msg req.tag (opt_for v.own.life (wants_raw (peer_in v.peers a.to).known) req.cq_data) (Eager bytes) })
+    (outbound v req a.to)
 unfolding outbound number_to range_of
 outbound_made v req a bytes n b = rw (n, b) refl
 

@@ -1,5 +1,5 @@
 -- What the handling of a datagram makes of an endpoint.
-use Rattle.std.specs.Prelude.{◌≡◌, ℕ, ◌+◌, Bool, true, false, not, ◌&&◌, ◌||◌, ◌==◌, nat_lt, nat_le, if◌then◌else◌, List, [], ◌∷◌, ◌++◌, length, Option, Some, None, is_none, is_some, find, slice_get}
+use Rattle.std.specs.Prelude.{◌≡◌, ℕ, Bool, true, false, not, ◌&&◌, ◌||◌, ◌==◌, nat_lt, nat_le, if◌then◌else◌, List, [], ◌∷◌, ◌++◌, length, Option, Some, None, is_none, is_some, find, slice_get}
 use Rattle.std.specs.List.{list_any}
 use Rattle.rdm_num.specs.Lists.{first_case}
 use Rattle.rdm_num.specs.Lives.{same_life, life}
@@ -8,8 +8,7 @@ use Rattle.rdm_num.specs.declared.numbers.Connid.{Connid}
 use Rattle.rdm_num.specs.declared.head.Head.{Head}
 use Rattle.rdm_num.specs.declared.head.Shape.TheVariants as S
 use Rattle.rdm_hdr.specs.declared.Opt.{Opt}
-use Rattle.rdm_pkt.specs.declared.Packet.{Packet}
-use Rattle.rdm_pkt.specs.declared.Packet.TheVariants.{Rtm, Cts, CtsData, Eor, Handshake}
+use Rattle.rdm_pkt.specs.declared.Packet.TheVariants.{Rtm, Handshake}
 use Rattle.rdm_pkt.specs.declared.Form.{Form}
 use Rattle.rdm_pkt.specs.declared.Form.TheVariants.{Eager}
 use Rattle.rdm_pkt.specs.Heads.{head_of}
@@ -18,7 +17,7 @@ use Rattle.rdm_wire.specs.declared.Body.TheVariants.{Note, Between}
 use Rattle.rdm_wire.specs.declared.Datagram.{Datagram}
 use Rattle.rdm_model.specs.declared.answer.Class.{Class}
 use Rattle.rdm_model.specs.declared.answer.Class.TheVariants.{ToOther, FromOther, Malformed, Unknown, BadKey, NoOp, Mismatch, Overlap}
-use Rattle.rdm_model.specs.Deeds.{Item, Spelled, Asks, Gives, Garbled, item_of}
+use Rattle.rdm_model.specs.Deeds.{Item, Spelled, Asks, item_of}
 use Rattle.rdm_model.specs.Heads.{same_head}
 use Rattle.rdm_model.specs.Sources.{is_other, is_malformed, has_raw}
 use Rattle.rdm_ep.specs.declared.state.Heard.{Heard}

@@ -1,12 +1,10 @@
 -- What an endpoint keeps of the deeds of its life.
-use Rattle.std.specs.Prelude.{◌≡◌, ◌≤◌, ℕ, ◌+◌, List, [], ◌∷◌, map, length, drop, Option, None}
-use Rattle.std.specs.List.{list_any, list_all}
+use Rattle.std.specs.Prelude.{◌≡◌, ◌≤◌, ℕ, List, [], ◌∷◌, map, length, drop}
+use Rattle.std.specs.List.{list_any}
 use Rattle.rdm_num.specs.Lists.{Member}
 use Rattle.rdm_num.specs.declared.numbers.Life.{Life}
 use Rattle.rdm_pkt.specs.declared.Form.TheVariants.{Eager}
 use Rattle.rdm_pkt.specs.Openings.{rtm}
-use Rattle.rdm_match.specs.declared.Arrived.{Arrived}
-use Rattle.rdm_match.specs.declared.PostedRecv.{PostedRecv}
 use Rattle.rdm_model.specs.Deeds.{Deed}
 use Rattle.rdm_model.specs.Owns.{Own, Messages}
 use Rattle.rdm_model.specs.Local.{heard_by}

@@ -1,14 +1,13 @@
 -- The deeds that the built calls of an endpoint reach: messages in one packet each, the first one of a life to
 -- another, no life forgotten, none closed, no receive cancelled.
-use Rattle.std.specs.Prelude.{◌≡◌, ℕ, Bool, true, false, nat_le, List, [], ◌∷◌, is_some}
+use Rattle.std.specs.Prelude.{◌≡◌, Bool, true, false, nat_le, List, [], ◌∷◌, is_some}
 use Rattle.rdm_num.specs.declared.numbers.Life.{Life}
-use Rattle.rdm_pkt.specs.declared.Packet.{Packet}
 use Rattle.rdm_pkt.specs.declared.Packet.TheVariants.{Rtm, Handshake}
 use Rattle.rdm_pkt.specs.declared.Form.TheVariants.{Eager}
 use Rattle.rdm_pkt.specs.Choice.{eager_room}
 use Rattle.rdm_num.specs.declared.request.SendReq.{SendReq}
 use Rattle.rdm_model.specs.declared.job.Instr.{Instr}
-use Rattle.rdm_model.specs.declared.job.Instr.TheVariants.{OpenLife, Insert, Reg, Send, Recv, Cancel, Note, Await, Wait, CloseLife}
+use Rattle.rdm_model.specs.declared.job.Instr.TheVariants.{OpenLife, Insert, Send, Cancel, CloseLife}
 use Rattle.rdm_model.specs.Owns.{Own}
 use Rattle.rdm_model.specs.Deeds.{Deed, Did, Took, Item, Spelled}
 use Rattle.rdm_model.specs.Currents.{forgotten_by}

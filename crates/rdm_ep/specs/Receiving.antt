@@ -1,5 +1,5 @@
 -- What the calls that receive make of an endpoint.
-use Rattle.std.specs.Prelude.{◌≡◌, ◌<◌, ◌≤◌, ⊤, ℕ, ◌+◌, ◌-◌, Bool, true, false, get_or, ◌||◌, nat_le, List, [], ◌∷◌, ◌++◌, length, take, Option, Some, None, is_none, find}
+use Rattle.std.specs.Prelude.{◌≡◌, ◌<◌, ◌≤◌, ⊤, ◌+◌, ◌-◌, Bool, true, false, get_or, ◌||◌, nat_le, [], ◌∷◌, ◌++◌, length, take, Option, Some, None, is_none, find}
 use Rattle.rdm_num.specs.Lists.{first_case, without_first}
 use Rattle.rdm_num.specs.declared.numbers.PortNo.{PortNo}
 use Rattle.rdm_num.specs.declared.numbers.Life.{Life}

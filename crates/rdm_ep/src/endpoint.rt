@@ -36,19 +36,20 @@ impl Model for Endpoint {
     ghost Value = { EndpointView };
 
     ghost view = { λ e. record {
-        own = record { life = e.life; features = e.features; limits = e.limits };
-        regions = map (λ r. r.items) e.regions.items;
-        currents = e.currents.items;
-        peers = e.peers.items;
-        sends = e.sends;
-        receives = e.receives;
-        polled = e.polled;
-        posted = e.posted.items;
-        arrived = e.arrived.items;
-        heard = e.heard.items;
-        owed = e.owed.items;
-        outgoing = e.outgoing.items;
-        completions = e.completions.items } };
+      own = record { life = e.life; features = e.features; limits = e.limits };
+      regions = map (λ r. r.items) e.regions.items;
+      currents = e.currents.items;
+      peers = e.peers.items;
+      sends = e.sends;
+      receives = e.receives;
+      polled = e.polled;
+      posted = e.posted.items;
+      arrived = e.arrived.items;
+      heard = e.heard.items;
+      owed = e.owed.items;
+      outgoing = e.outgoing.items;
+      completions = e.completions.items;
+    } };
 
     ghost invariant = { λ e. IsSound e.limits.cq (deque_capacity e.completions) e.sends e.receives e.polled (map (λ r. r.items) e.regions.items) e.posted.items e.outgoing.items e.completions.items };
 }

@@ -13,8 +13,10 @@ mod ranges;
 mod receiving;
 mod sending;
 mod state;
-mod telling;
 mod taking;
+mod telling;
+#[cfg(test)]
+mod tests;
 mod verdict;
 
 pub use answer::{

@@ -15,9 +15,8 @@ use rdm_num::Life;
 fn search(peers: &[Peer], life: Life) -> Option<usize>
     ensures { result ≡ position_from (λ p. same_life p.life life) 0 peers.now }
 {
-    peers
-        .iter()
-        .position(|peer| peer.life.port.0 == life.port.0 && peer.life.connid.0 == life.connid.0)
+    peers.iter().position(|peer| peer.life.port.0 == life.port.0
+        && peer.life.connid.0 == life.connid.0)
 }
 
 /// Where what is known of a life stands.

@@ -145,14 +145,7 @@ impl Endpoint {
         };
         let bytes = Bytes::from_slice(alloc, range(region, s.at, s.len))?;
         let peer = peer_of(&self.peers, accepted.to);
-        let packet = eager(
-            self.life,
-            peer.known,
-            accepted.msg,
-            s.tag,
-            s.cq_data,
-            bytes,
-        );
+        let packet = eager(self.life, peer.known, accepted.msg, s.tag, s.cq_data, bytes);
         let number = SendNo(self.sends);
         let sent = peer.sent + 1;
         write_peer(&mut self.peers, accepted.to, Peer { sent, ..peer });
@@ -172,8 +165,7 @@ impl Endpoint {
         ensures { result ≡ Sending.meets_posted self.now region.0 at len }
     {
         self.posted.iter().any(|posted| {
-            posted.req.region.0 == region.0
-                && overlaps(at, len, posted.req.at, posted.req.len)
+            posted.req.region.0 == region.0 && overlaps(at, len, posted.req.at, posted.req.len)
         })
     }
 

@@ -1,6 +1,6 @@
 //! What an endpoint keeps.
-use rdm_num::{Bytes, Life, MsgNo, RecvNo, RecvReq, SendNo, SendReq};
 use rdm_model::Class;
+use rdm_num::{Bytes, Life, MsgNo, RecvNo, RecvReq, SendNo, SendReq};
 use rdm_pkt::Packet;
 
 /// What is known of a life.

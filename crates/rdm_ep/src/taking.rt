@@ -119,7 +119,14 @@ impl Endpoint {
         self.owed.reserve(1)?;
         welcome(&mut self.currents, &mut self.peers, &mut self.owed, from);
         let peer = peer_of(&self.peers, from);
-        write_peer(&mut self.peers, from, Peer { known: word, ..peer });
+        write_peer(
+            &mut self.peers,
+            from,
+            Peer {
+                known: word,
+                ..peer
+            },
+        );
         Ok(())
     }
 }
@@ -127,12 +134,7 @@ impl Endpoint {
 /// Holds a life as current where none of its port was, and owes it a handshake where nothing of it
 /// was taken before.
 #[tactic(auto, using(crate::proofs::PeersLemmas::with_peer_put), unfolding(crate::specs::Verdicts::currents_with, crate::specs::Verdicts::peers_with, crate::specs::Verdicts::owed_with))]
-fn welcome(
-    currents: &mut Vec<Life>,
-    peers: &mut Vec<Peer>,
-    owed: &mut Vec<Life>,
-    from: Life,
-)
+fn welcome(currents: &mut Vec<Life>, peers: &mut Vec<Peer>, owed: &mut Vec<Life>, from: Life)
     requires currents { vec_len currents.old < vec_capacity currents.old }
     requires peers { vec_len peers.old < vec_capacity peers.old }
     requires owed { vec_len owed.old < vec_capacity owed.old }

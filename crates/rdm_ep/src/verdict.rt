@@ -44,12 +44,7 @@ impl Endpoint {
 
     /// Decides on a load for this life, from a life whose port has no other current one.
     #[tactic(auto, unfolding(crate::specs::Verdicts::verdict_of, crate::specs::Verdicts::known_verdict, crate::specs::Verdicts::known_class, crate::specs::Handling::load_class, crate::specs::View::current_in, rdm_num::specs::Lists::first_case, rdm_model::specs::Deeds::item_of, rdm_model::specs::Deeds::packet_item, rdm_model::specs::Sources::is_malformed, rdm_model::specs::Sources::has_raw))]
-    fn known_verdict(
-        &self,
-        alloc: Global,
-        from: Life,
-        load: &Load,
-    ) -> Result<Verdict, NoMemory>
+    fn known_verdict(&self, alloc: Global, from: Life, load: &Load) -> Result<Verdict, NoMemory>
         ensures { IfOk result (λ r. r ≡ known_verdict self.now from (item_of load.now)) }
     {
         let is_known = current_of(&self.currents, from.port).is_some();
@@ -134,9 +129,7 @@ impl Endpoint {
     fn is_heard(&self, from: Life, no: MsgNo) -> bool
         ensures { result ≡ Handling.is_heard_in self.now from no.0 }
     {
-        self.heard
-            .iter()
-            .any(|heard| is_same_life(heard.life, from) && heard.no.0 == no.0)
+        self.heard.iter().any(|heard| is_same_life(heard.life, from) && heard.no.0 == no.0)
     }
 
     /// The message waits, and its packet said something else of it.
@@ -170,10 +163,8 @@ fn has_head(inbound: &Inbound, tag: Option<u64>, opt: &Opt, form: &Form) -> bool
                 && same_option(inbound.cq_data, opt.cq_data)
                 && inbound.bytes.len() == bytes.len()
         }
-        Form::Medium { .. }
-        | Form::LongCts { .. }
-        | Form::LongRead { .. }
-        | Form::Runt { .. } => false,
+        Form::Medium { .. } | Form::LongCts { .. } | Form::LongRead { .. } | Form::Runt { .. } =>
+            false,
     }
 }
 

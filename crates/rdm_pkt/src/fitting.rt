@@ -1,5 +1,5 @@
 //! Which packets have a spelling.
-ghost use Rattle.std.specs.Prelude.{◌≡◌};
+ghost use Rattle.std.specs.Prelude.{◌≡◌, IsTrue, OnTrue};
 ghost use Rattle.rdm_pkt.specs.Grammar as Grammar;
 
 use crate::read_forms::ends_by;
@@ -11,7 +11,8 @@ impl Packet {
     /// Whether the packet is within the ranges of the grammar, so that it has a spelling.
     #[tactic(auto, unfolding(crate::specs::Grammar::fits))]
     pub fn fits(&self) -> bool
-        ensures { result ≡ Grammar.fits self.now }
+        ensures fits { result ≡ Grammar.fits self.now }
+        ensures conditions { OnTrue result (IsTrue (Grammar.packet_fits self.now)) }
     {
         if !self.meets_conditions() {
             return false;

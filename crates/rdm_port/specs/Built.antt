@@ -3,11 +3,15 @@ use Rattle.std.specs.Prelude.{◌≡◌, ℕ, List, [], ◌∷◌, Option, Some,
 use Rattle.rdm_num.specs.declared.numbers.Connid.{Connid}
 use Rattle.rdm_model.specs.declared.job.Job.{Job}
 use Rattle.rdm_model.specs.declared.job.Instr.TheVariants.{OpenLife}
-use Rattle.rdm_model.specs.Deeds.{Deed, Did, open_life, of_life}
+use Rattle.rdm_model.specs.Deeds.{Deed, Did, open_life, of_life, item_of}
 use Rattle.rdm_model.specs.Owns.{Own, own_of, life_at}
 use Rattle.rdm_model.specs.Scenes.{deeds_at}
-use Rattle.rdm_ep.specs.Plain.{IsPlainDeed}
-use Rattle.rdm_port.specs.Views.{PortView}
+use Rattle.rdm_num.specs.Lives.{life}
+use Rattle.rdm_wire.specs.declared.Datagram.{Datagram}
+use Rattle.rdm_wire.specs.declared.Body.{Body}
+use Rattle.rdm_wire.specs.declared.Body.TheVariants.{Note, Between}
+use Rattle.rdm_ep.specs.Plain.{IsPlainDeed, IsPlainItem}
+use Rattle.rdm_port.specs.Views.{PortView, scene_at}
 
 -- a deed is built after those before it, where that life is open
 abbrev pub IsBuiltDeed : (Connid → Own) → Option Connid → List Deed → Deed → Type 0
@@ -27,3 +31,12 @@ owns_at job port connid = own_of job (life_at port (Some connid))
 -- the port's log is built
 abbrev pub IsBuiltPort : Job → PortView → Type 0
 IsBuiltPort job v = AreBuilt (owns_at job v.number) (deeds_at job v.number v.log)
+
+-- a note, or what comes to a life and is built after its deeds
+abbrev pub IsBuiltBody : Own → List Deed → Datagram → Body → Type 0
+IsBuiltBody own log d (Note note) = Unit {0}
+IsBuiltBody own log d (Between from to load) = IsPlainItem own log (life d.src from) (item_of load)
+
+-- the datagram is built for the open life of the port
+abbrev pub IsBuiltDatagram : Job → PortView → Datagram → Type 0
+IsBuiltDatagram job v d = IsBuiltBody (scene_at job v).own (scene_at job v).log d d.body

@@ -1,8 +1,11 @@
 -- What a push of a port does.
-use Rattle.std.specs.Prelude.{◌≡◌, ℕ, IsTrue, IsFalse, Option, Some, None, option_map}
+use Rattle.std.specs.Prelude.{◌≡◌, ℕ, Bool, IsTrue, IsFalse, List, [], ◌∷◌, Option, Some, None, option_map}
 use Rattle.rdm_num.specs.declared.numbers.PortNo.{PortNo}
 use Rattle.rdm_num.specs.declared.numbers.DatagramNo.{DatagramNo}
 use Rattle.rdm_wire.specs.declared.Datagram.{Datagram}
+use Rattle.rdm_wire.specs.Counts.{Rose}
+use Rattle.rdm_wire.specs.Flights.{InFlight, Pushes, Moves, IsFullAt, HasRoomAt}
+use Rattle.rdm_model.specs.declared.entry.Entry.{Entry}
 use Rattle.rdm_model.specs.declared.job.Job.{Job}
 use Rattle.rdm_model.specs.declared.entry.Act.TheVariants as Act
 use Rattle.rdm_model.specs.declared.answer.Push.{Push}
@@ -33,3 +36,23 @@ PushedAs job old new _ _ = ⊥
 -- what a push answers and does
 abbrev pub DoesPush : PortView → PortView → Push → Type 0
 DoesPush old new answer = (job : Job) → IsPortOf job old → IsBuiltPort job old → PushedAs job old new (out_of job old) answer
+
+-- the newest entry is a push of that datagram
+abbrev pub IsPushOf : List Entry → Datagram → Type 0
+IsPushOf [] d = ⊥
+IsPushOf (e ∷ before) d = e.act ≡ Act.Push d
+
+-- what the wire did at an answer to a push
+abbrev pub PushesOn : (in_order : Bool) → (old new : PortView) → Push → (before after : Option InFlight) → Type 0
+PushesOn in_order old new (Pushed number) before after = (d : Datagram) × IsPushOf new.log d × HasRoomAt d.dst.0 before × Moves (Pushes in_order d) before after
+PushesOn in_order old new (Full port) before after = IsFullAt port.0 before × (after ≡ before)
+PushesOn in_order old new answer before after = after ≡ before
+
+-- a refusal comes only where the wire's count of refusals rose
+abbrev pub FullRose : (before after : ℕ) → Push → Type 0
+FullRose before after (Full port) = Rose before after
+FullRose before after _ = Unit {0}
+
+-- a wire has the ports that it had, and serves those that it served
+abbrev pub IsKeptWire : {W : Type 0} → (W → ℕ) → (W → ℕ → Bool) → W → W → Type 0
+IsKeptWire ports serves old new = (ports new ≡ ports old) × (serves new ≡ serves old)

@@ -1,5 +1,5 @@
 -- A port as contracts see it.
-use Rattle.std.specs.Prelude.{◌≡◌, ◌<◌, ℕ, IsTrue, List, [], ◌∷◌}
+use Rattle.std.specs.Prelude.{◌≡◌, ◌<◌, ℕ, IsTrue, List, [], ◌∷◌, ◌++◌}
 use Rattle.rdm_num.specs.declared.limits.EpLimits.{EpLimits}
 use Rattle.rdm_wire.specs.declared.Datagram.{Datagram}
 use Rattle.rdm_model.specs.declared.job.Job.{Job}
@@ -39,3 +39,16 @@ scene_at job v = own_scene job v.number (deeds_at job v.number v.log)
 unfoldable pub logged : Job → PortView → Act → PortView
 logged job v act =
     record v { log = record { stamp = record { 0 = stamp_after (clock job v.log) act }; port = record { 0 = v.number }; act = act } ∷ v.log }
+
+-- a port of a job before any step
+abbrev pub new_port : Job → ℕ → PortView
+new_port job n =
+    record { number = n; ports = port_count job; inbox = job.inbox; start = job.clock; limits = job.limits; rank = rank_of job n; log = []; stash = [] }
+
+-- the same port of the same number of ports
+abbrev pub IsSamePort : PortView → PortView → Type 0
+IsSamePort old new = (new.number ≡ old.number) × (new.ports ≡ old.ports) × (new.inbox ≡ old.inbox)
+
+-- the port with these datagrams in its stash too
+abbrev pub stashed : PortView → List Datagram → PortView
+stashed v got = record v { stash = v.stash ++ got }

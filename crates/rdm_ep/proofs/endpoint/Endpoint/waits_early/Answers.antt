@@ -1,4 +1,4 @@
-use Rattle.std.proofs.Common.{◌≡◌, sym, ◌∙◌}
+use Rattle.std.proofs.Common.{sym, ◌∙◌}
 use Rattle.rdm_ep.specs.declared.state.Verdict.TheVariants.{Refuse, Message, Features}
 use Rattle.rdm_ep.specs.Answers.{is_early}
 use Rattle.rdm_ep.specs.Verdicts.{verdict_answer}

@@ -1,0 +1,2 @@
+-- Lemmas on what a port keeps.
+pub mod Queued

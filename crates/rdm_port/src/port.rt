@@ -1,0 +1,191 @@
+//! The port.
+ghost use Rattle.std.specs.Prelude.{◌≡◌, ◌<◌, ◌≤◌, ◌↔◌, IfOk, IsTrue, true, length};
+ghost use Rattle.rdm_model.specs.Owns.{port_count};
+ghost use Rattle.rdm_port.specs.Views.{new_port, IsSamePort};
+ghost use Rattle.rdm_port.specs.Pushes.{IsKeptWire};
+
+use crate::effects::Owner;
+use crate::kept::State;
+use crate::steps::{do_handle, do_next, do_poll, do_push, fetch_into, next_answer};
+use rdm_model::{End, Entries, Handled, Job, Next, Polled, Push, Rank};
+use rdm_num::{EpLimits, NoMemory, PortNo, Room};
+use rdm_wire::{Datagram, Wire};
+use std::alloc::Global;
+use std::marker::Model;
+
+/// A rank's place on the device. It must be spent.
+pub struct Port {
+    pub(crate) number: u32,
+    pub(crate) ports: u32,
+    pub(crate) inbox: u32,
+    pub(crate) start: u64,
+    pub(crate) limits: EpLimits,
+    pub(crate) rank: Rank,
+    pub(crate) log: Entries,
+    pub(crate) stash: Room<Datagram>,
+    pub(crate) state: State,
+}
+
+impl Model for Port {
+    ghost use Rattle.rdm_port.specs.Views.{PortView};
+
+    ghost Value = { PortView };
+
+    ghost view = { λ p. record { number = p.number; ports = p.ports; inbox = p.inbox; start = p.start; limits = p.limits; rank = p.rank; log = p.log.list; stash = p.stash.list } };
+}
+
+impl Port {
+    /// A new port of a job: the rank of that number.
+    #[tactic(auto, unfolding(rdm_model::specs::Owns::rank_of))]
+    pub fn new(alloc: Global, no: PortNo, job: &Job) -> Result<Port, NoMemory>
+        requires rank { no.0 < port_count job.now }
+        requires few { port_count job.now ≤ 16 }
+        ensures { IfOk result (λ p. p ≡ new_port job.now no.0) }
+    {
+        let ranks = job.ranks.as_slice();
+        let own = &ranks[no.0 as usize];
+        let rank = Rank {
+            features: own.features,
+            ops: own.ops.clone()?,
+        };
+        Ok(Port {
+            number: no.0,
+            ports: ranks.len() as u32,
+            inbox: job.inbox,
+            start: job.clock,
+            limits: job.limits,
+            rank,
+            log: Entries::new(alloc),
+            stash: Room::new(alloc),
+            state: State::new(alloc, job.clock),
+        })
+    }
+
+    /// Ends the port.
+    pub fn end(self) {
+        let Port {
+            number: _,
+            ports: _,
+            inbox: _,
+            start: _,
+            limits: _,
+            rank: _,
+            log: _,
+            stash: _,
+            state,
+        } = self;
+        state.end();
+    }
+
+    /// The entries that the port made.
+    pub fn log(&self) -> &Entries
+        ensures { result.now.list ≡ self.now.log }
+    {
+        &self.log
+    }
+
+    /// How many datagrams wait in the stash.
+    pub fn waiting(&self) -> u64
+        ensures { result ≡ length self.now.stash }
+    {
+        self.stash.len() as u64
+    }
+
+    /// Whether the port has its place among so many ports.
+    pub fn is_among(&self, ports: u32) -> bool
+        ensures { IsTrue result ↔ ((self.now.number < ports) × (self.now.ports ≡ ports)) }
+    {
+        self.number < ports && self.ports == ports
+    }
+
+    /// Whether no instruction is left.
+    pub fn is_over(&self) -> bool {
+        self.rank.ops.as_slice().len() as u64 <= self.state.done
+    }
+
+    /// How the port ended, if it makes no further step.
+    pub fn ending(&self) -> End {
+        let left = match next_answer(
+            PortNo(self.number),
+            &self.limits,
+            &self.rank.ops,
+            &self.state,
+        ) {
+            Next::Ended => None,
+            answer => Some(answer),
+        };
+        let state = &self.state;
+        End {
+            done: state.done,
+            all: self.rank.ops.as_slice().len() as u64,
+            left,
+            to_other: state.to_other,
+            from_other: state.from_other,
+            waiting: self.stash.len() as u64,
+        }
+    }
+
+    /// Does the next instruction.
+    pub fn next(&mut self, alloc: Global) -> Next
+        ensures same { IsSamePort self.old self.new }
+    {
+        let owner = Owner {
+            number: PortNo(self.number),
+            ports: self.ports,
+            features: self.rank.features,
+            limits: self.limits,
+        };
+        do_next(
+            alloc,
+            &owner,
+            &self.rank.ops,
+            &mut self.state,
+            &mut self.log,
+        )
+    }
+
+    /// Pushes the next datagram.
+    pub fn push<W: Wire>(&mut self, alloc: Global, wire: &mut W) -> Push
+        requires serves { W.serves wire.old self.old.number ≡ true }
+        requires ports { W.ports wire.old ≡ self.old.ports }
+        ensures same { IsSamePort self.old self.new }
+        ensures kept { IsKeptWire W.ports W.serves wire.old wire.new }
+    {
+        do_push(
+            alloc,
+            PortNo(self.number),
+            self.ports,
+            &mut self.state,
+            &mut self.log,
+            wire,
+        )
+    }
+
+    /// Fetches, and handles the datagram that is picked.
+    pub fn handle<W: Wire>(&mut self, alloc: Global, wire: &mut W, pick: u64) -> Handled
+        requires serves { W.serves wire.old self.old.number ≡ true }
+        requires ports { W.ports wire.old ≡ self.old.ports }
+        ensures same { IsSamePort self.old self.new }
+        ensures kept { IsKeptWire W.ports W.serves wire.old wire.new }
+    {
+        let Ok(()) = self.stash.reserve(self.inbox as usize) else {
+            return Handled::Memory;
+        };
+        fetch_into(&mut self.stash, wire, PortNo(self.number), self.inbox);
+        do_handle(
+            alloc,
+            PortNo(self.number),
+            pick,
+            &mut self.stash,
+            &mut self.state,
+            &mut self.log,
+        )
+    }
+
+    /// The first completion that was not polled.
+    pub fn poll(&mut self) -> Polled
+        ensures same { IsSamePort self.old self.new }
+    {
+        do_poll(PortNo(self.number), &mut self.state, &mut self.log)
+    }
+}
