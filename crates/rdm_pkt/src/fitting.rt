@@ -1,5 +1,6 @@
 //! Which packets have a spelling.
-ghost use Rattle.std.specs.Prelude.{◌≡◌, IsTrue, OnTrue};
+ghost use Rattle.std.specs.Bool.{OnTrue};
+ghost use Rattle.std.specs.Prelude.{◌≡◌, IsTrue};
 ghost use Rattle.rdm_pkt.specs.Grammar as Grammar;
 
 use crate::read_forms::ends_by;
