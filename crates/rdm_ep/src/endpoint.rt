@@ -3,7 +3,8 @@ ghost use Rattle.std.specs.Prelude.{◌≡◌, ◌≤◌, IfOk};
 ghost use Rattle.rdm_ep.specs.View.{new_endpoint};
 
 use crate::state::{Heard, Inbound, Outbound, Peer, Posted};
-use rdm_num::{Completion, EpLimits, Life, NoMemory};
+use crate::twin::Twin;
+use rdm_num::{EpLimits, Life, NoMemory};
 use std::alloc::Global;
 use std::collections::VecDeque;
 use std::marker::Model;
@@ -24,7 +25,7 @@ pub struct Endpoint {
     pub(crate) heard: Vec<Heard>,
     pub(crate) owed: Vec<Life>,
     pub(crate) outgoing: Vec<Outbound>,
-    pub(crate) completions: VecDeque<Completion>,
+    pub(crate) completions: VecDeque<Twin>,
 }
 
 impl Model for Endpoint {

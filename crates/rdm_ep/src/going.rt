@@ -1,12 +1,14 @@
 //! What goes out, and what is polled.
-ghost use Rattle.std.specs.Prelude.{◌≡◌, ◌<◌, ◌++◌, ◌∷◌, [], IfOk, MatchOption, length, option_map, slice_get, nat_lt};
+ghost use Rattle.std.specs.Prelude.{◌≡◌, ◌<◌, ◌≤◌, ◌++◌, ◌∷◌, [], IfOk, MatchOption, length, option_map, slice_get, nat_lt};
 ghost use Rattle.std.specs.VecDeque.{deque_len, deque_capacity};
+ghost use Rattle.rdm_ep.specs.View.{cq_in};
 ghost use Rattle.rdm_ep.specs.Going.{out_of, outgoing_of, after_sent, after_poll, IsFirst};
 
 use crate::answer::Outgoing;
 use crate::endpoint::Endpoint;
 use crate::packets::{handshake, leaving};
 use crate::state::Outbound;
+use crate::twin::Twin;
 use rdm_num::{Completion, NoMemory, SendNo};
 use std::alloc::Global;
 use std::collections::VecDeque;
@@ -39,28 +41,36 @@ impl Endpoint {
         let Some(send) = take_first(&mut self.outgoing) else {
             return;
         };
-        complete(
-            &mut self.completions,
-            Completion::Send { send, gone: false },
-        );
+        complete(&mut self.completions, Twin::of_send(send, false));
     }
 
     /// Whether `poll` would give a completion.
+    #[tactic(auto, unfolding(crate::specs::View::cq_in))]
     pub fn has_completion(&self) -> bool
-        ensures { result ≡ nat_lt 0 (length self.now.completions) }
+        ensures waits { result ≡ nat_lt 0 (length self.now.completions) }
+        ensures place { length self.now.completions ≤ cq_in self.now }
     {
         0 < self.completions.len()
     }
 
     /// The first completion that was not polled.
-    #[tactic(auto, unfolding(crate::specs::Going::after_poll, crate::specs::Going::polled_by))]
     pub fn poll(&mut self) -> Option<Completion>
         ensures completion { result ≡ slice_get self.old.completions 0 }
         ensures after { self.new ≡ after_poll self.old }
     {
-        let completion = self.completions.pop_front()?;
+        let twin = self.poll_twin()?;
+        Some(twin.into_completion())
+    }
+
+    /// The same with its copy.
+    #[tactic(auto, unfolding(crate::specs::Going::after_poll, crate::specs::Going::polled_by))]
+    pub fn poll_twin(&mut self) -> Option<Twin>
+        ensures completion { result ≡ slice_get self.old.completions 0 }
+        ensures after { self.new ≡ after_poll self.old }
+    {
+        let twin = self.completions.pop_front()?;
         self.polled += 1;
-        Some(completion)
+        Some(twin)
     }
 }
 
@@ -74,7 +84,7 @@ fn take_first(outgoing: &mut Vec<Outbound>) -> Option<SendNo>
 }
 
 /// Writes a completion, for which there is room.
-pub(crate) fn complete(completions: &mut VecDeque<Completion>, completion: Completion)
+pub(crate) fn complete(completions: &mut VecDeque<Twin>, completion: Twin)
     requires { deque_len completions.old < deque_capacity completions.old }
     ensures items { completions.new.items ≡ completions.old.items ++ completion ∷ [] }
     ensures room { deque_capacity completions.new ≡ deque_capacity completions.old }

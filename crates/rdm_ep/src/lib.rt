@@ -17,6 +17,7 @@ mod taking;
 mod telling;
 #[cfg(test)]
 mod tests;
+mod twin;
 mod verdict;
 
 pub use answer::{
@@ -24,3 +25,4 @@ pub use answer::{
 };
 pub use endpoint::Endpoint;
 pub use state::{Heard, Inbound, Outbound, Peer, Posted};
+pub use twin::Twin;

@@ -14,6 +14,7 @@ use crate::endpoint::Endpoint;
 use crate::going::complete;
 use crate::ranges::{overlaps, passes_end, region_of};
 use crate::state::{Inbound, Posted};
+use crate::twin::Twin;
 use rdm_match::{Arrived, PostedRecv, accepts};
 use rdm_model::{PoolName, RecvWhy};
 use rdm_num::{Bytes, Completion, Life, NoMemory, Outcome, PortNo, RecvNo, RecvReq, RegionNo};
@@ -73,19 +74,19 @@ pub(crate) fn kept_bytes(bytes: &[u8], capacity: u64) -> &[u8]
     &bytes[..count]
 }
 
-/// The completion of a receive with a message. It has a copy of the bytes.
+/// The completion of a receive with a message.
 #[tactic(auto, unfolding(crate::specs::Receiving::completion_of))]
 pub(crate) fn completion_of(
     alloc: Global,
     posted: &Posted,
     inbound: &Inbound,
-) -> Result<Completion, NoMemory>
+) -> Result<Twin, NoMemory>
     ensures { IfOk result (λ c. c ≡ Receiving.completion_of posted.now inbound.now) }
 {
     let all = inbound.bytes.as_slice();
     let bytes = Bytes::from_slice(alloc, kept_bytes(all, posted.req.len))?;
     let excess = (all.len() as u64).saturating_sub(posted.req.len);
-    Ok(Completion::Recv {
+    Twin::copied(Completion::Recv {
         recv: posted.number,
         outcome: Outcome::Took {
             from: inbound.life,
