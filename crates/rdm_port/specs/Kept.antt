@@ -3,7 +3,6 @@ use Rattle.std.specs.Prelude.{◌≡◌, ◌<◌, ◌≤◌, ℕ, Bool, not, ◌
 use Rattle.std.specs.List.{list_any}
 use Rattle.rdm_num.specs.Lists.{Member}
 use Rattle.rdm_num.specs.Lives.{same_life}
-use Rattle.rdm_num.specs.declared.numbers.PortNo.{PortNo}
 use Rattle.rdm_num.specs.declared.numbers.Connid.{Connid}
 use Rattle.rdm_num.specs.declared.numbers.Life.{Life}
 use Rattle.rdm_wire.specs.declared.Datagram.{Datagram}
@@ -36,6 +35,10 @@ pub record Kept : Type 0 where
   -- the datagrams that were dropped, by class
   pub to_other : ℕ
   pub from_other : ℕ
+
+-- before any step
+abbrev pub new_kept : (clock : ℕ) → Kept
+new_kept clock = record { done = 0; clock = clock; pushed = 0; notes = []; opened = []; told = []; endpoint = None; to_other = 0; from_other = 0 }
 
 -- what the clock shows after these entries
 unfoldable pub clock_in : (start : ℕ) → List Entry → ℕ
@@ -99,11 +102,33 @@ pub record IsKept (v : PortView) (k : Kept) : Type 0 where
   pub open_is : IsOpen v (open_life (deeds_of v)) k.endpoint
   pub keeps : KeepsLife (deeds_of v) (open_life (deeds_of v)) k.endpoint
   -- no count passes the clock
+  pub few_done : k.done ≤ k.clock
   pub few_pushed : k.pushed ≤ k.clock
   pub few_to_other : k.to_other ≤ k.clock
   pub few_from_other : k.from_other ≤ k.clock
-  pub clock_fits : k.clock ≤ 9223372036854775807
 
--- the port after an entry of that act, by its own clock
-unfoldable pub entered : PortView → (stamp : ℕ) → Act → PortView
-entered v stamp act = record v { log = record { stamp = record { 0 = stamp }; port = record { 0 = v.number }; act = act } ∷ v.log }
+-- an entry of the port
+abbrev pub entry_of : PortView → (stamp : ℕ) → Act → Entry
+entry_of v stamp act = record { stamp = record { 0 = stamp }; port = record { 0 = v.number }; act = act }
+
+-- the port with that log
+abbrev pub with_log : PortView → List Entry → PortView
+with_log v log = record v { log = log }
+
+-- the same with that stash too
+abbrev pub with_stash : PortView → List Entry → List Datagram → PortView
+with_stash v log stash = record v { log = log; stash = stash }
+
+-- how many places for completions are taken
+unfoldable pub places_of : Option EndpointView → ℕ
+places_of None = 0
+places_of (Some e) = cq_in e
+
+-- the log has room for all completions that may still be polled
+abbrev pub HasRoom : (room : ℕ) → Kept → Type 0
+HasRoom room k = places_of k.endpoint ≤ room
+
+-- what is true of each port: it keeps what its log says, and a poll wants no memory
+pub record IsSoundPort (v : PortView) (k : Kept) (room : ℕ) : Type 0 where
+  pub kept : IsKept v k
+  pub roomy : HasRoom room k

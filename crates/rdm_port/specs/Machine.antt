@@ -1,6 +1,5 @@
 -- What the code of a port answers and changes, by what it keeps.
-use Rattle.std.specs.Prelude.{◌≡◌, ℕ, ◌+◌, ◌-◌, Bool, true, false, not, ◌&&◌, ◌||◌, ◌==◌, nat_lt, nat_le, if◌then◌else◌, List, [], ◌∷◌, ◌++◌, map, filter, length, drop, Option, Some, None, is_none, is_some, option_map}
-use Rattle.rdm_num.specs.Lists.{below}
+use Rattle.std.specs.Prelude.{◌≡◌, ◌+◌, Bool, false, not, ◌&&◌, ◌||◌, nat_lt, nat_le, if◌then◌else◌, List, [], ◌∷◌, ◌++◌, map, length, drop, Option, Some, None, is_some, option_map, slice_get, max}
 use Rattle.rdm_num.specs.Lives.{life}
 use Rattle.rdm_num.specs.declared.numbers.PortNo.{PortNo}
 use Rattle.rdm_num.specs.declared.numbers.Life.{Life}
@@ -13,14 +12,14 @@ use Rattle.rdm_wire.specs.declared.Datagram.{Datagram}
 use Rattle.rdm_model.specs.declared.job.Instr.{Instr}
 use Rattle.rdm_model.specs.declared.job.Instr.TheVariants.{OpenLife, Insert, Reg, Send, Recv, Cancel, Note, Await, Wait, CloseLife}
 use Rattle.rdm_model.specs.declared.answer.Next.{Next}
-use Rattle.rdm_model.specs.declared.answer.Next.TheVariants.{Did, NotYet, Memory}
+use Rattle.rdm_model.specs.declared.answer.Next.TheVariants.{Did, NotYet, Ended, Worn, Memory}
 use Rattle.rdm_model.specs.declared.answer.DidWhat.TheVariants.{Plain, Region}
 use Rattle.rdm_model.specs.declared.answer.Yet.TheVariants as Yet
 use Rattle.rdm_model.specs.declared.answer.Handled.{Handled}
 use Rattle.rdm_model.specs.declared.answer.Handled.TheVariants as H
-use Rattle.rdm_model.specs.declared.answer.Class.TheVariants.{ToOther}
+use Rattle.rdm_model.specs.declared.answer.Class.TheVariants.{ToOther, FromOther}
 use Rattle.rdm_model.specs.Notes.{notes_by}
-use Rattle.rdm_model.specs.Deeds.{Did as DidDeed, item_of}
+use Rattle.rdm_model.specs.Deeds.{Did as DidDeed}
 use Rattle.rdm_ep.specs.View.{EndpointView, new_endpoint, current_in}
 use Rattle.rdm_ep.specs.Sending as Ep
 use Rattle.rdm_ep.specs.Sending.{after_reg, after_insert, after_send}
@@ -31,7 +30,24 @@ use Rattle.rdm_ep.specs.Going.{Leaving, after_sent, after_poll}
 use Rattle.rdm_ep.specs.Going as Going
 use Rattle.rdm_ep.specs.Answers.{next_of_send, next_of_recv, handled_of}
 use Rattle.rdm_port.specs.Views.{PortView}
-use Rattle.rdm_port.specs.Kept.{Kept, own_at, queued_of, is_opened, is_told, is_new_life}
+use Rattle.rdm_port.specs.Kept.{Kept, own_at, queued_of, is_opened, is_told, is_new_life, entry_of}
+use Rattle.rdm_port.specs.declared.kept.QueuedNote.{QueuedNote}
+use Rattle.rdm_port.specs.declared.effects.Owner.{Owner}
+use Rattle.rdm_port.specs.declared.going.Departure.{Departure}
+use Rattle.rdm_wire.specs.declared.Load.TheVariants as Load
+use Rattle.rdm_pkt.specs.Grammar.{spelling}
+use Rattle.rdm_num.specs.declared.completion.Completion.{Completion}
+use Rattle.rdm_model.specs.declared.entry.Entry.{Entry}
+use Rattle.rdm_model.specs.declared.entry.Act.TheVariants as Act
+use Rattle.rdm_model.specs.Answers.{op_of, is_entry}
+use Rattle.rdm_ep.specs.Answers.{is_early}
+
+-- the port is the owner's
+pub record IsOwnedBy (v : PortView) (owner : Owner) : Type 0 where
+  pub number : v.number ≡ owner.number.0
+  pub ports : v.ports ≡ owner.ports
+  pub features : v.rank.features ≡ owner.features
+  pub limits : v.limits ≡ owner.limits
 
 -- an instruction that needs an endpoint, where none is open, is not built
 abbrev pub with_endpoint : Option EndpointView → (EndpointView → Next) → Next
@@ -85,18 +101,69 @@ next_counted k = record k { done = k.done + 1; clock = k.clock + 1 }
 abbrev pub push_counted : Kept → Kept
 push_counted k = record k { pushed = k.pushed + 1; clock = k.clock + 1 }
 
--- what a push of a note leaves
-abbrev pub after_note_push : Kept → Kept
-after_note_push k = push_counted (record k { notes = drop 1 k.notes })
+-- an answer that would be an entry yields to the end of the clock
+unfoldable pub unless_worn : Kept → Next → Next
+unless_worn k answer = if is_entry answer && nat_le 9223372036854775807 k.clock then Worn else answer
 
--- what a push of the open life's datagram leaves
-abbrev pub after_life_push : Kept → Kept
-after_life_push k = push_counted (record k { endpoint = option_map after_sent k.endpoint })
+-- what the next instruction answers, where one is left
+unfoldable pub left_answer_in : PortView → Kept → Option Instr → Next
+left_answer_in v k None = Ended
+left_answer_in v k (Some instr) = unless_worn k (machine_answer v k instr)
+
+-- the same, by the place in the program
+abbrev pub machine_next : PortView → Kept → Next
+machine_next v k = left_answer_in v k (slice_get v.rank.ops k.done)
+
+-- an instruction that did has its effect, and one that was refused has none
+unfoldable pub after_entry : PortView → Instr → Next → Kept → Kept
+after_entry v instr (Did what) k = after_did v instr k
+after_entry v instr _ k = k
+
+-- the entry of an instruction
+abbrev pub next_entry : PortView → Kept → Instr → Next → Entry
+next_entry v k instr answer = entry_of v (k.clock + 1) (Act.Next k.done (op_of instr) answer)
+
+-- what the open life sends
+abbrev pub departure_of : EndpointView → Leaving → Departure
+departure_of e l =
+    record { dst = l.to.port; body = Between e.own.life.connid l.to.connid (Load.Packet (spelling l.packet)) }
 
 -- what goes out next from the open life
-unfoldable pub leaving : Option EndpointView → Option Leaving
-leaving None = None
-leaving (Some e) = Going.out_of e
+unfoldable pub life_departing : Option EndpointView → Option Departure
+life_departing None = None
+life_departing (Some e) = option_map (departure_of e) (Going.out_of e)
+
+-- a note goes before all else
+unfoldable pub departing_by : List QueuedNote → Option EndpointView → Option Departure
+departing_by [] endpoint = life_departing endpoint
+departing_by (n ∷ ns) endpoint = Some (record { dst = n.to; body = NoteBody n.body })
+
+-- what goes out next
+abbrev pub departing : Kept → Option Departure
+departing k = departing_by k.notes k.endpoint
+
+-- the datagram that departs
+abbrev pub datagram_by : PortView → Kept → Departure → Datagram
+datagram_by v k o =
+    record { src = record { 0 = v.number }; number = record { 0 = k.pushed }; stamp = record { 0 = k.clock + 1 }; dst = o.dst; body = o.body }
+
+-- what went out is not kept
+unfoldable pub after_went : Body → Kept → Kept
+after_went (NoteBody note) k = record k { notes = drop 1 k.notes }
+after_went (Between from to load) k = record k { endpoint = option_map after_sent k.endpoint }
+
+-- the first completion that was not polled
+unfoldable pub completion_in : Option EndpointView → Option Completion
+completion_in None = None
+completion_in (Some e) = slice_get e.completions 0
+
+-- the first completion was polled
+abbrev pub after_polled : Kept → Kept
+after_polled k = record k { endpoint = option_map after_poll k.endpoint }
+
+-- the clock after a poll
+abbrev pub poll_counted : Kept → Kept
+poll_counted k = record k { clock = k.clock + 1 }
 
 -- what a note makes of what the port keeps
 unfoldable pub after_note : (src : PortNo) → NoteType → Kept → Kept
@@ -112,3 +179,43 @@ life_answer (Some e) d = handled_of (body_answer e d d.body)
 unfoldable pub after_life : Option EndpointView → Datagram → Option EndpointView
 after_life None d = None
 after_life (Some e) d = Some (after_body (body_answer e d d.body) d d.body e)
+
+-- a drop is counted
+unfoldable pub drop_counted : Handled → Kept → Kept
+drop_counted (H.Dropped ToOther) k = record k { to_other = k.to_other + 1 }
+drop_counted (H.Dropped FromOther) k = record k { from_other = k.from_other + 1 }
+drop_counted _ k = k
+
+-- what the port answers to a datagram; a note is always taken
+unfoldable pub machine_handled : Kept → Datagram → Body → Handled
+machine_handled k d (NoteBody note) = H.Took None
+machine_handled k d (Between from to load) = life_answer k.endpoint d
+
+-- what the answer to a datagram makes of what the port keeps
+unfoldable pub after_handled : Kept → Datagram → Body → Kept
+after_handled k d (NoteBody note) = after_note d.src note k
+after_handled k d (Between from to load) = drop_counted (life_answer k.endpoint d) (record k { endpoint = after_life k.endpoint d })
+
+-- the state is as the answer to a note says
+abbrev pub NoteTakenAs : Kept → Kept → PortNo → NoteType → Handled → Type 0
+NoteTakenAs old new src note H.Memory = new ≡ old
+NoteTakenAs old new src note answer = (answer ≡ H.Took None) × (new ≡ after_note src note old)
+
+-- the same of what comes to a life, but for the count of drops
+abbrev pub TakesIn : Kept → Kept → Datagram → Handled → Type 0
+TakesIn old new d H.Memory = new ≡ old
+TakesIn old new d answer = (answer ≡ life_answer old.endpoint d) × (new ≡ record old { endpoint = after_life old.endpoint d })
+
+-- the state is as the answer to a datagram says
+abbrev pub HandlesAs : Kept → Kept → Datagram → Handled → Type 0
+HandlesAs old new d H.Memory = new ≡ old
+HandlesAs old new d answer = (answer ≡ machine_handled old d d.body) × (new ≡ after_handled old d d.body)
+
+-- the datagram would wait for an early place
+unfoldable pub waits_in : Option EndpointView → Datagram → Bool
+waits_in None d = false
+waits_in (Some e) d = is_early (body_answer e d d.body)
+
+-- the clock after the datagram was handled
+abbrev pub handle_counted : Kept → Datagram → Kept
+handle_counted k d = record k { clock = max k.clock d.stamp.0 + 1 }

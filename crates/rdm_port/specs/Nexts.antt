@@ -1,5 +1,5 @@
 -- What the next instruction of a port answers.
-use Rattle.std.specs.Prelude.{◌≡◌, ◌⊎◌, ℕ, if◌then◌else◌, Option, Some, None, unwrap_or}
+use Rattle.std.specs.Prelude.{◌≡◌, ◌⊎◌, if◌then◌else◌, Option, Some, None, unwrap_or, length}
 use Rattle.rdm_model.specs.declared.job.Job.{Job}
 use Rattle.rdm_model.specs.declared.job.Instr.{Instr}
 use Rattle.rdm_model.specs.declared.answer.Next.{Next}
@@ -7,8 +7,9 @@ use Rattle.rdm_model.specs.declared.answer.Next.TheVariants.{Ended, Memory}
 use Rattle.rdm_model.specs.Answers.{is_entry}
 use Rattle.rdm_model.specs.Settled.{instruction_left, left_at}
 use Rattle.rdm_model.specs.Worlds.{next_act}
+use Rattle.rdm_model.specs.Reports.{end_of}
+use Rattle.rdm_model.specs.declared.report.End.{End}
 use Rattle.rdm_port.specs.Views.{PortView, IsPortOf, scene_at, logged}
-use Rattle.rdm_port.specs.Built.{IsBuiltPort}
 
 -- the answer of the next instruction, or Ended where none is left
 unfoldable pub next_answer : Job → PortView → Next
@@ -25,5 +26,9 @@ after_next job v answer = after_instruction job v (instruction_left job v.number
 
 -- the answer is the next instruction's, or memory was wanted; the port is as the answer says
 pub record DoesNext (old new : PortView) (answer : Next) : Type 0 where
-  pub exact : (job : Job) → IsPortOf job old → IsBuiltPort job old → (answer ≡ Memory) ⊎ (answer ≡ next_answer job old)
+  pub exact : (job : Job) → IsPortOf job old → (answer ≡ Memory) ⊎ (answer ≡ next_answer job old)
   pub after : (job : Job) → IsPortOf job old → new ≡ after_next job old answer
+
+-- the end is that of the port as it stands
+abbrev pub EndsAs : PortView → End → Type 0
+EndsAs v ending = (job : Job) → IsPortOf job v → ending ≡ end_of job v.number v.log (left_at job v.number (scene_at job v) v.log) (length v.stash)

@@ -8,7 +8,6 @@ use Rattle.rdm_model.specs.declared.answer.Polled.TheVariants as P
 use Rattle.rdm_model.specs.Settled.{is_worn}
 use Rattle.rdm_model.specs.Worlds.{next_completion}
 use Rattle.rdm_port.specs.Views.{PortView, IsPortOf, scene_at, logged}
-use Rattle.rdm_port.specs.Built.{IsBuiltPort}
 
 -- the port is as the answer to a poll of the next completion says
 abbrev pub PolledAs : Job → PortView → PortView → Option Completion → Polled → Type 0
@@ -19,4 +18,4 @@ PolledAs job old new _ _ = ⊥
 
 -- what a poll answers and does
 abbrev pub DoesPoll : PortView → PortView → Polled → Type 0
-DoesPoll old new answer = (job : Job) → IsPortOf job old → IsBuiltPort job old → PolledAs job old new (next_completion (scene_at job old)) answer
+DoesPoll old new answer = (job : Job) → IsPortOf job old → PolledAs job old new (next_completion (scene_at job old)) answer

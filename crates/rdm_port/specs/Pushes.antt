@@ -1,7 +1,5 @@
 -- What a push of a port does.
 use Rattle.std.specs.Prelude.{◌≡◌, ℕ, Bool, IsTrue, IsFalse, List, [], ◌∷◌, Option, Some, None, option_map}
-use Rattle.rdm_num.specs.declared.numbers.PortNo.{PortNo}
-use Rattle.rdm_num.specs.declared.numbers.DatagramNo.{DatagramNo}
 use Rattle.rdm_wire.specs.declared.Datagram.{Datagram}
 use Rattle.rdm_wire.specs.Counts.{Rose}
 use Rattle.rdm_wire.specs.Flights.{InFlight, Pushes, Moves, IsFullAt, HasRoomAt}
@@ -14,7 +12,6 @@ use Rattle.rdm_model.specs.Going.{going}
 use Rattle.rdm_model.specs.Settled.{is_worn}
 use Rattle.rdm_model.specs.Worlds.{World, new_world, datagram_of}
 use Rattle.rdm_port.specs.Views.{PortView, IsPortOf, scene_at, logged}
-use Rattle.rdm_port.specs.Built.{IsBuiltPort}
 
 -- a world in which each port has that log
 abbrev pub lone_world : PortView → World
@@ -35,18 +32,18 @@ PushedAs job old new _ _ = ⊥
 
 -- what a push answers and does
 abbrev pub DoesPush : PortView → PortView → Push → Type 0
-DoesPush old new answer = (job : Job) → IsPortOf job old → IsBuiltPort job old → PushedAs job old new (out_of job old) answer
+DoesPush old new answer = (job : Job) → IsPortOf job old → PushedAs job old new (out_of job old) answer
 
 -- the newest entry is a push of that datagram
 abbrev pub IsPushOf : List Entry → Datagram → Type 0
 IsPushOf [] d = ⊥
 IsPushOf (e ∷ before) d = e.act ≡ Act.Push d
 
--- what the wire did at an answer to a push
-abbrev pub PushesOn : (in_order : Bool) → (old new : PortView) → Push → (before after : Option InFlight) → Type 0
-PushesOn in_order old new (Pushed number) before after = (d : Datagram) × IsPushOf new.log d × HasRoomAt d.dst.0 before × Moves (Pushes in_order d) before after
-PushesOn in_order old new (Full port) before after = IsFullAt port.0 before × (after ≡ before)
-PushesOn in_order old new answer before after = after ≡ before
+-- what the wire did at an answer to a push, where the log then is this
+abbrev pub PushesOn : (in_order : Bool) → (log : List Entry) → Push → (before after : Option InFlight) → Type 0
+PushesOn in_order log (Pushed number) before after = (d : Datagram) × IsPushOf log d × HasRoomAt d.dst.0 before × Moves (Pushes in_order d) before after
+PushesOn in_order log (Full port) before after = IsFullAt port.0 before × (after ≡ before)
+PushesOn in_order log answer before after = after ≡ before
 
 -- a refusal comes only where the wire's count of refusals rose
 abbrev pub FullRose : (before after : ℕ) → Push → Type 0

@@ -1,5 +1,5 @@
 -- A port as contracts see it.
-use Rattle.std.specs.Prelude.{◌≡◌, ◌<◌, ℕ, IsTrue, List, [], ◌∷◌, ◌++◌}
+use Rattle.std.specs.Prelude.{◌≡◌, ◌<◌, ℕ, List, [], ◌∷◌, ◌++◌}
 use Rattle.rdm_num.specs.declared.limits.EpLimits.{EpLimits}
 use Rattle.rdm_wire.specs.declared.Datagram.{Datagram}
 use Rattle.rdm_model.specs.declared.job.Job.{Job}

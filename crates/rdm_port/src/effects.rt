@@ -5,12 +5,12 @@ ghost use Rattle.rdm_model.specs.declared.job.Instr.TheVariants as InstrKind;
 ghost use Rattle.rdm_ep.specs.Sending.{after_reg, after_insert, after_send};
 ghost use Rattle.rdm_ep.specs.Receiving.{after_recv};
 ghost use Rattle.rdm_port.specs.Views.{PortView};
-ghost use Rattle.rdm_port.specs.Machine.{after_did};
+ghost use Rattle.rdm_port.specs.Machine.{IsOwnedBy, after_did, after_entry};
 
 use crate::kept::{QueuedNote, State};
 use crate::notes::queue_opened;
 use rdm_ep::{Endpoint, RecvAnswer, SendAnswer};
-use rdm_model::Instr;
+use rdm_model::{Instr, Next};
 use rdm_num::{Connid, EpLimits, Life, NoMemory, PortNo, RecvReq, SendReq};
 use rdm_wire::NoteBody;
 use std::alloc::{AllocError, Global};
@@ -26,6 +26,24 @@ pub struct Owner {
 }
 
 impl State {
+    /// Does an instruction by its answer: one that was refused has no effect.
+    #[tactic(auto, unfolding(crate::specs::Machine::after_entry))]
+    pub fn follow(
+        &mut self,
+        alloc: Global,
+        owner: &Owner,
+        instr: &Instr,
+        answer: Next,
+    ) -> Result<(), NoMemory>
+        ensures ok { (v : PortView) → IsOwnedBy v owner.now → OnOk result (self.new ≡ after_entry v instr.now answer self.old) }
+        ensures err { OnErr result (self.new ≡ self.old) }
+    {
+        match answer {
+            Next::Did(_) => self.apply(alloc, owner, instr),
+            _ => Ok(()),
+        }
+    }
+
     /// Does an instruction, or leaves all as it was.
     #[tactic(auto, unfolding(crate::specs::Machine::after_did))]
     pub fn apply(&mut self, alloc: Global, owner: &Owner, instr: &Instr) -> Result<(), NoMemory>

@@ -1,16 +1,21 @@
 //! The port.
-ghost use Rattle.std.specs.Prelude.{◌≡◌, ◌<◌, ◌≤◌, ◌↔◌, IfOk, IsTrue, true, length};
+ghost use Rattle.std.specs.Prelude.{◌≡◌, ◌<◌, ◌≤◌, ◌↔◌, IfOk, IsTrue, true, length, is_none, slice_get};
 ghost use Rattle.rdm_model.specs.Owns.{port_count};
 ghost use Rattle.rdm_port.specs.Views.{new_port, IsSamePort};
-ghost use Rattle.rdm_port.specs.Pushes.{IsKeptWire};
+ghost use Rattle.rdm_model.specs.Steps.{count, is_next};
+ghost use Rattle.rdm_port.specs.Nexts.{DoesNext, EndsAs};
+ghost use Rattle.rdm_port.specs.Pushes.{DoesPush, PushesOn, FullRose, IsKeptWire};
+ghost use Rattle.rdm_port.specs.Handles.{DoesHandle};
+ghost use Rattle.rdm_port.specs.Polls.{DoesPoll};
 
 use crate::effects::Owner;
+use crate::fetch::fetch_into;
 use crate::kept::State;
-use crate::steps::{do_handle, do_next, do_poll, do_push, fetch_into, next_answer};
+use crate::steps::{do_handle, do_next, do_poll, do_push, next_answer};
 use rdm_model::{End, Entries, Handled, Job, Next, Polled, Push, Rank};
 use rdm_num::{EpLimits, NoMemory, PortNo, Room};
 use rdm_wire::{Datagram, Wire};
-use std::alloc::Global;
+use std::alloc::{AllocError, Global};
 use std::marker::Model;
 
 /// A rank's place on the device. It must be spent.
@@ -28,10 +33,13 @@ pub struct Port {
 
 impl Model for Port {
     ghost use Rattle.rdm_port.specs.Views.{PortView};
+    ghost use Rattle.rdm_port.specs.Kept.{IsSoundPort};
 
     ghost Value = { PortView };
 
     ghost view = { λ p. record { number = p.number; ports = p.ports; inbox = p.inbox; start = p.start; limits = p.limits; rank = p.rank; log = p.log.list; stash = p.stash.list } };
+
+    ghost invariant = { λ p. IsSoundPort (record { number = p.number; ports = p.ports; inbox = p.inbox; start = p.start; limits = p.limits; rank = p.rank; log = p.log.list; stash = p.stash.list }) p.state p.log.room };
 }
 
 impl Port {
@@ -99,34 +107,40 @@ impl Port {
     }
 
     /// Whether no instruction is left.
-    pub fn is_over(&self) -> bool {
+    pub fn is_over(&self) -> bool
+        ensures { result ≡ is_none (slice_get self.now.rank.ops (count is_next self.now.log)) }
+    {
         self.rank.ops.as_slice().len() as u64 <= self.state.done
     }
 
     /// How the port ended, if it makes no further step.
-    pub fn ending(&self) -> End {
+    pub fn ending(&self) -> Result<End, NoMemory>
+        ensures { IfOk result (EndsAs self.now) }
+    {
         let left = match next_answer(
             PortNo(self.number),
             &self.limits,
             &self.rank.ops,
             &self.state,
         ) {
+            Next::Memory => return Err(AllocError),
             Next::Ended => None,
             answer => Some(answer),
         };
         let state = &self.state;
-        End {
+        Ok(End {
             done: state.done,
             all: self.rank.ops.as_slice().len() as u64,
             left,
             to_other: state.to_other,
             from_other: state.from_other,
             waiting: self.stash.len() as u64,
-        }
+        })
     }
 
     /// Does the next instruction.
     pub fn next(&mut self, alloc: Global) -> Next
+        ensures does { DoesNext self.old self.new result }
         ensures same { IsSamePort self.old self.new }
     {
         let owner = Owner {
@@ -148,6 +162,9 @@ impl Port {
     pub fn push<W: Wire>(&mut self, alloc: Global, wire: &mut W) -> Push
         requires serves { W.serves wire.old self.old.number ≡ true }
         requires ports { W.ports wire.old ≡ self.old.ports }
+        ensures does { DoesPush self.old self.new result }
+        ensures wire { PushesOn (W.in_order wire.old) self.new.log result (W.held wire.old) (W.held wire.new) }
+        ensures full { FullRose (W.fulls wire.old) (W.fulls wire.new) result }
         ensures same { IsSamePort self.old self.new }
         ensures kept { IsKeptWire W.ports W.serves wire.old wire.new }
     {
@@ -165,6 +182,7 @@ impl Port {
     pub fn handle<W: Wire>(&mut self, alloc: Global, wire: &mut W, pick: u64) -> Handled
         requires serves { W.serves wire.old self.old.number ≡ true }
         requires ports { W.ports wire.old ≡ self.old.ports }
+        ensures does { DoesHandle (W.in_order wire.old) self.old self.new pick result (W.held wire.old) (W.held wire.new) }
         ensures same { IsSamePort self.old self.new }
         ensures kept { IsKeptWire W.ports W.serves wire.old wire.new }
     {
@@ -184,6 +202,7 @@ impl Port {
 
     /// The first completion that was not polled.
     pub fn poll(&mut self) -> Polled
+        ensures does { DoesPoll self.old self.new result }
         ensures same { IsSamePort self.old self.new }
     {
         do_poll(PortNo(self.number), &mut self.state, &mut self.log)

@@ -1,25 +1,43 @@
 //! The steps of a port.
-ghost use Rattle.std.specs.Prelude.{◌≡◌, ◌≤◌, true};
+ghost use Rattle.std.specs.Prelude.{◌≡◌, ◌⊎◌, ◌≤◌, true};
 ghost use Rattle.rdm_model.specs.Answers as Answers;
-ghost use Rattle.rdm_port.specs.Pushes.{IsKeptWire};
+ghost use Rattle.rdm_model.specs.declared.answer.Next.TheVariants as NextKind;
+ghost use Rattle.rdm_port.specs.Views.{PortView};
+ghost use Rattle.rdm_port.specs.Kept.{IsKept, HasRoom, with_log, with_stash};
+ghost use Rattle.rdm_port.specs.Machine.{IsOwnedBy, unless_worn, machine_answer, machine_next};
+ghost use Rattle.rdm_port.specs.Nexts.{DoesNext};
+ghost use Rattle.rdm_port.specs.Pushes.{DoesPush, PushesOn, FullRose, IsKeptWire};
+ghost use Rattle.rdm_port.specs.Handles as Handles;
+ghost use Rattle.rdm_port.specs.Polls.{DoesPoll};
 
 use crate::effects::Owner;
 use crate::kept::State;
 use rdm_model::{Act, Entries, Entry, Handled, Instr, Next, OpName, Ops, Polled, Push};
-use rdm_num::{DatagramNo, EpLimits, NoMemory, PortNo, Room, STAMP_MAX, Stamp};
-use rdm_wire::{Body, Datagram, Wire};
+use rdm_num::{DatagramNo, EpLimits, PortNo, Room, STAMP_MAX, Stamp};
+use rdm_wire::{Datagram, Wire};
 use std::alloc::Global;
 
-/// What the next instruction answers, want of memory aside.
-pub fn next_answer(number: PortNo, limits: &EpLimits, ops: &Ops, state: &State) -> Next {
-    let Some(instr) = ops.as_slice().get(state.done as usize) else {
-        return Next::Ended;
-    };
+/// What an instruction answers now, where an end of the clock comes before an entry.
+#[tactic(auto, unfolding(crate::specs::Machine::unless_worn))]
+fn answer_now(number: PortNo, limits: &EpLimits, state: &State, instr: &Instr) -> Next
+    ensures { (v : PortView) → v.number ≡ number.0 → v.limits ≡ limits.now → (result ≡ NextKind.Memory) ⊎ (result ≡ unless_worn state.now (machine_answer v state.now instr.now)) }
+{
     let answer = state.answer(number, limits, instr);
     if is_entry(answer) && STAMP_MAX <= state.clock {
         return Next::Worn;
     }
     answer
+}
+
+/// What the next instruction answers, want of memory aside.
+#[tactic(auto, unfolding(crate::specs::Machine::left_answer_in))]
+pub fn next_answer(number: PortNo, limits: &EpLimits, ops: &Ops, state: &State) -> Next
+    ensures { (v : PortView) → v.number ≡ number.0 → v.limits ≡ limits.now → v.rank.ops ≡ ops.now → (result ≡ NextKind.Memory) ⊎ (result ≡ machine_next v state.now) }
+{
+    match ops.as_slice().get(state.done as usize) {
+        None => Next::Ended,
+        Some(instr) => answer_now(number, limits, state, instr),
+    }
 }
 
 /// Does the next instruction.
@@ -29,25 +47,28 @@ pub fn do_next(
     ops: &Ops,
     state: &mut State,
     log: &mut Entries,
-) -> Next {
-    let answer = next_answer(owner.number, &owner.limits, ops, state);
+) -> Next
+    ensures does { (v : PortView) → IsOwnedBy v owner.now → v.rank.ops ≡ ops.now → v.log ≡ log.old.list → IsKept v state.old → IsKept (with_log v log.new.list) state.new × DoesNext v (with_log v log.new.list) result }
+    ensures room { HasRoom log.old.room state.old → HasRoom log.new.room state.new }
+{
+    let Some(instr) = ops.as_slice().get(state.done as usize) else {
+        return Next::Ended;
+    };
+    let answer = answer_now(owner.number, &owner.limits, state, instr);
     if !is_entry(answer) {
         return answer;
     }
-    let index = state.done;
-    let clock = state.clock;
-    let Some(instr) = ops.as_slice().get(index as usize) else {
-        return Next::Ended;
-    };
-    let Ok(()) = log.reserve(state.outstanding().saturating_add(2)) else {
+    let Some(room) = state.outstanding().checked_add(2) else {
         return Next::Memory;
     };
-    if let Next::Did(_) = answer {
-        let Ok(()) = state.apply(alloc, owner, instr) else {
-            return Next::Memory;
-        };
-    }
-    let now = clock.saturating_add(1);
+    let Ok(()) = log.reserve(room) else {
+        return Next::Memory;
+    };
+    let Ok(()) = state.follow(alloc, owner, instr, answer) else {
+        return Next::Memory;
+    };
+    let index = state.done;
+    let now = state.clock.saturating_add(1);
     state.done = index.saturating_add(1);
     state.clock = now;
     log.push(Entry {
@@ -62,25 +83,6 @@ pub fn do_next(
     answer
 }
 
-/// What goes out next: the first note, or else what the endpoint gives.
-fn out(alloc: Global, state: &State) -> Result<Option<(PortNo, Body)>, NoMemory> {
-    if let Some(note) = state.notes.first() {
-        return Ok(Some((note.to, Body::Note(note.body))));
-    }
-    let Some(endpoint) = &state.endpoint else {
-        return Ok(None);
-    };
-    let Some(outgoing) = endpoint.out(alloc)? else {
-        return Ok(None);
-    };
-    let body = Body::Between {
-        from: endpoint.connid(),
-        to: outgoing.to.connid,
-        load: outgoing.load,
-    };
-    Ok(Some((outgoing.to.port, body)))
-}
-
 /// Pushes the next datagram.
 pub fn do_push<W: Wire>(
     alloc: Global,
@@ -92,50 +94,55 @@ pub fn do_push<W: Wire>(
 ) -> Push
     requires serves { W.serves wire.old number.0 ≡ true }
     requires ports { W.ports wire.old ≡ ports }
+    ensures does { (v : PortView) → v.number ≡ number.0 → v.log ≡ log.old.list → IsKept v state.old → IsKept (with_log v log.new.list) state.new × DoesPush v (with_log v log.new.list) result }
+    ensures room { HasRoom log.old.room state.old → HasRoom log.new.room state.new }
+    ensures wire { PushesOn (W.in_order wire.old) log.new.list result (W.held wire.old) (W.held wire.new) }
+    ensures full { FullRose (W.fulls wire.old) (W.fulls wire.new) result }
     ensures kept { IsKeptWire W.ports W.serves wire.old wire.new }
 {
-    let Ok(out) = out(alloc, state) else {
+    let Ok(departing) = state.departing(alloc) else {
         return Push::Memory;
     };
-    let Some((dst, body)) = out else {
+    let Some(departure) = departing else {
         return Push::Idle;
     };
-    let clock = state.clock;
-    let pushed = state.pushed;
-    if STAMP_MAX <= clock {
+    if STAMP_MAX <= state.clock {
         return Push::Worn;
     }
+    let dst = departure.dst;
     if ports <= dst.0 {
         return Push::Memory;
     }
-    let Ok(()) = log.reserve(state.outstanding().saturating_add(1)) else {
+    let Some(places) = state.outstanding().checked_add(1) else {
         return Push::Memory;
     };
-    let stamp = Stamp(clock.saturating_add(1));
+    let Ok(()) = log.reserve(places) else {
+        return Push::Memory;
+    };
+    let stamp = Stamp(state.clock.saturating_add(1));
     let datagram = Datagram {
         src: number,
-        number: DatagramNo(pushed),
+        number: DatagramNo(state.pushed),
         stamp,
         dst,
-        body,
+        body: departure.body,
     };
     let Ok(copy) = datagram.clone() else {
         return Push::Memory;
     };
-    match wire.push(datagram) {
-        Err(_) => Push::Full(dst),
-        Ok(()) => {
-            state.went(&copy.body);
-            state.pushed = pushed.saturating_add(1);
-            state.clock = stamp.0;
-            log.push(Entry {
-                stamp,
-                port: number,
-                act: Act::Push { datagram: copy },
-            });
-            Push::Pushed(DatagramNo(pushed))
-        }
-    }
+    let Ok(()) = wire.push(datagram) else {
+        return Push::Full(dst);
+    };
+    let pushed = DatagramNo(state.pushed);
+    state.went(&copy.body);
+    state.pushed = state.pushed.saturating_add(1);
+    state.clock = stamp.0;
+    log.push(Entry {
+        stamp,
+        port: number,
+        act: Act::Push { datagram: copy },
+    });
+    Push::Pushed(pushed)
 }
 
 /// Handles the datagram that is picked.
@@ -146,25 +153,33 @@ pub fn do_handle(
     stash: &mut Room<Datagram>,
     state: &mut State,
     log: &mut Entries,
-) -> Handled {
+) -> Handled
+    ensures does { (v : PortView) → v.number ≡ number.0 → v.log ≡ log.old.list → v.stash ≡ stash.old.list → IsKept v state.old → IsKept (with_stash v log.new.list stash.new.list) state.new × Handles.Answers v (with_stash v log.new.list stash.new.list) pick result }
+    ensures room { HasRoom log.old.room state.old → HasRoom log.new.room state.new }
+{
     let count = stash.len() as u64;
     if count == 0 {
         return Handled::Empty;
     }
     let at = (pick % count) as usize;
-    let Ok(()) = log.reserve(state.outstanding().saturating_add(1)) else {
+    let Some(places) = state.outstanding().checked_add(1) else {
+        return Handled::Memory;
+    };
+    let Ok(()) = log.reserve(places) else {
         return Handled::Memory;
     };
     let datagram = &stash.as_slice()[at];
     let late = state.clock.max(datagram.stamp.0);
     if STAMP_MAX <= late {
-        return Handled::Worn;
+        return match state.waits_early(alloc, datagram) {
+            Ok(true) => Handled::AgainEarly,
+            Ok(false) => Handled::Worn,
+            Err(_) => Handled::Memory,
+        };
     }
     let answer = state.handle(alloc, datagram);
-    match answer {
-        Handled::Took(_) => {}
-        Handled::Dropped(_) => {}
-        _ => return answer,
+    if !is_handling(answer) {
+        return answer;
     }
     let datagram = stash.remove(at);
     let stamp = Stamp(late.saturating_add(1));
@@ -178,24 +193,22 @@ pub fn do_handle(
 }
 
 /// Polls the first completion. The room for its entry was taken when its operation was accepted.
-pub fn do_poll(number: PortNo, state: &mut State, log: &mut Entries) -> Polled {
+pub fn do_poll(number: PortNo, state: &mut State, log: &mut Entries) -> Polled
+    requires room { HasRoom log.old.room state.old }
+    ensures does { (v : PortView) → v.number ≡ number.0 → v.log ≡ log.old.list → IsKept v state.old → IsKept (with_log v log.new.list) state.new × DoesPoll v (with_log v log.new.list) result }
+    ensures room { HasRoom log.new.room state.new }
+{
     if !state.has_completion() {
         return Polled::None;
     }
-    let clock = state.clock;
-    if STAMP_MAX <= clock {
+    if STAMP_MAX <= state.clock {
         return Polled::Worn;
     }
-    let Ok(()) = log.reserve(1) else {
+    let Some(twin) = state.poll() else {
         return Polled::None;
     };
-    let Some(completion) = state.poll() else {
-        return Polled::None;
-    };
-    let Ok(copy) = completion.clone() else {
-        return Polled::Some(completion);
-    };
-    let stamp = Stamp(clock.saturating_add(1));
+    let (completion, copy) = twin.into_both();
+    let stamp = Stamp(state.clock.saturating_add(1));
     state.clock = stamp.0;
     log.push(Entry {
         stamp,
@@ -205,17 +218,15 @@ pub fn do_poll(number: PortNo, state: &mut State, log: &mut Entries) -> Polled {
     Polled::Some(completion)
 }
 
-/// Fetches up to `inbox` datagrams, in order.
-pub fn fetch_into<W: Wire>(stash: &mut Room<Datagram>, wire: &mut W, port: PortNo, inbox: u32)
-    requires serves { W.serves wire.old port.0 ≡ true }
-    requires room { inbox ≤ stash.old.room }
-    ensures kept { IsKeptWire W.ports W.serves wire.old wire.new }
+/// Such an answer to a datagram is an entry.
+#[tactic(auto, unfolding(crate::specs::Handles::is_handling))]
+pub fn is_handling(answer: Handled) -> bool
+    ensures { result ≡ Handles.is_handling answer }
 {
-    for _turn in 0..inbox {
-        match wire.fetch(port) {
-            Some(datagram) => stash.push(datagram),
-            None => return,
-        }
+    match answer {
+        Handled::Took(_) => true,
+        Handled::Dropped(_) => true,
+        _ => false,
     }
 }
 

@@ -1,0 +1,25 @@
+use Rattle.std.proofs.Common.{refl, ap, ◌∙◌, List, ◌++◌}
+use Rattle.rdm_wire.specs.declared.Datagram.{Datagram}
+use Rattle.rdm_port.specs.contracts.port.Port.{the_view}
+use Rattle.rdm_port.proofs.HandleKept.{restashed}
+use Rattle.rdm_port.proofs.HandleEnds.{port_wants, port_handles}
+use Rattle.rdm_port.proofs.port.Port.handle.Goals as goal
+
+pub returns-in_default-clause-does : goal.returns-in_default-clause-does
+returns-in_default-clause-does g c =
+    rw (← c.self.view_is) (port_wants (g.W.Wire.in_order c.args.wire.now) (the_view c.self.inside) c.reserve.new.self.list c.args.pick (g.W.Wire.held c.args.wire.now) c.reserve.ensures.list)
+
+pub invariant_of-self-2 : goal.invariant_of-self-2
+invariant_of-self-2 g c =
+    let v = the_view c.self.inside in
+    let d = c.do_handle.ensures.does (record v { stash = c.fetch_into.new.stash.list }) refl refl refl (restashed v c.self.inside.state c.fetch_into.new.stash.list c.self.invariant.kept) in
+    record { kept = d.0; roomy = c.do_handle.ensures.room c.self.invariant.roomy }
+
+pub returns-clause-does : goal.returns-clause-does
+returns-clause-does g c =
+    let v = the_view c.self.inside in
+    let d = c.do_handle.ensures.does (record v { stash = c.fetch_into.new.stash.list }) refl refl refl (restashed v c.self.inside.state c.fetch_into.new.stash.list c.self.invariant.kept) in
+    let f = c.fetch_into.ensures.fetched in
+    rw (← c.self.view_is)
+    (port_handles (g.W.Wire.in_order c.args.wire.now) v _ c.fetch_into.new.stash.list f.0 c.args.pick c.do_handle.result _ _
+    (f.1 ∙ ap (λ (ds : List Datagram). ds ++ f.0) c.reserve.ensures.list) f.2 d.1)
