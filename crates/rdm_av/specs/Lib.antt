@@ -1,0 +1,3 @@
+-- Current and superseded lives.
+pub mod Lives
+pub mod Runs
