@@ -19,6 +19,7 @@ pub record Bounds (s : Sender) (text : List ℕ) (r : Receiver) : Type 0 where
   pub text_length : length text ≤ 16777216
   pub zeros : r.zeros ≤ 16777216
   pub s_range : s.at + s.len ≤ length text
+  pub s_len : s.len ≤ 12
   pub r_range : r.at + r.len ≤ r.zeros
 
 record Types (s : Sender) (text : List ℕ) (r : Receiver) : Type 0 where
@@ -64,5 +65,6 @@ bounds s text r h =
       text_length = leb-true _ _ text_length.1;
       zeros = leb-true _ _ zeros.1;
       s_range = leb-true _ _ s_range.1;
+      s_len = leb-true _ _ short.1;
       r_range = leb-true _ _ r_range.1;
     }

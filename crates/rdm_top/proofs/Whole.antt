@@ -10,6 +10,10 @@ use Rattle.rdm_script.specs.declared.refusal.Reason.TheVariants.{TooLong}
 use Rattle.rdm_script.specs.Script.{job_in, text_job, whole, script_max}
 use Rattle.rdm_top.specs.Reads.{IsRead}
 use Rattle.rdm_top.specs.Promise.{Plays}
+use Rattle.rdm_top.proofs.Once.{is_fair-job_in}
+use Rattle.rdm_law.proofs.PlaysRight.{plays_right}
+use Rattle.rdm_law.proofs.Bounded.{is_bounded}
+use Rattle.rdm_law.proofs.TheLaw.{the_headline}
 
 -- known bytes that are not touched are kept
 pub keeps : (known : Option (List ℕ)) → Keeps known known
@@ -32,4 +36,15 @@ at_end rest bytes job (inr long) is_job = let wrong : whole TooLong ≡ Ok job =
 -- what was read is the script of the report
 pub plays : (left rest : Option (List ℕ)) (bytes : List ℕ) (job : Job) (report : Report) → IsRead left rest bytes → job_in bytes ≡ Ok job → IsPlayed job report → Plays left rest report
 plays left rest bytes job report read is_job played =
-    record { bytes = bytes; job = job; read = read.0; to_end = at_end rest bytes job read.1 is_job; is_job = is_job; played = played }
+    let fair = is_fair-job_in bytes job is_job in
+    let right = plays_right is_bounded job report fair played in
+    record {
+      bytes = bytes;
+      job = job;
+      read = read.0;
+      to_end = at_end rest bytes job read.1 is_job;
+      is_job = is_job;
+      played = played;
+      right = right;
+      says = the_headline job report fair right;
+    }

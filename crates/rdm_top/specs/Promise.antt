@@ -6,6 +6,8 @@ use Rattle.rdm_io.specs.Faults.{Rose}
 use Rattle.rdm_model.specs.declared.job.Job.{Job}
 use Rattle.rdm_model.specs.declared.report.Report.{Report}
 use Rattle.rdm_model.specs.Played.{IsPlayed}
+use Rattle.rdm_model.specs.Reports.{RightReport}
+use Rattle.rdm_law.specs.Headline.{SaysRight}
 use Rattle.rdm_script.specs.Script.{job_in}
 use Rattle.rdm_report.specs.Text.{report_text}
 use Rattle.rdm_top.specs.Reads.{IsRead}
@@ -18,7 +20,10 @@ is_replay [] = false
 is_replay (word ∷ []) = bytes_eq (string_bytes word) (codes "replay")
 is_replay (word ∷ _ ∷ _) = false
 
--- the input was read to its end, and is the script of a job whose report is this
+-- the input was read to its end, and is the script of a job whose report is this: the one that is played. It is right: its
+-- history is lawful and settled, and it says of each rank what the history says. So each sender's messages enter in the order
+-- of their sending, each receive and each message is matched once at most, each completed receive has what was sent, or its
+-- first bytes and the count of the others, and what was matched between standing lives is complete
 pub record Plays (left rest : Option (List ℕ)) (report : Report) : Type 0 where
   pub bytes : List ℕ
   pub job : Job
@@ -26,6 +31,8 @@ pub record Plays (left rest : Option (List ℕ)) (report : Report) : Type 0 wher
   pub to_end : IsAtEnd rest
   pub is_job : job_in bytes ≡ Ok job
   pub played : IsPlayed job report
+  pub right : RightReport job report
+  pub says : SaysRight job report.history
 
 -- a part of the text was given that is not the whole
 abbrev pub GavePart : Option (List ℕ) → Option (List ℕ) → List ℕ → Type 0

@@ -1,10 +1,14 @@
-//! Reads a whole input, and gives a whole output, with each fault's cause.
+//! Reads a script, plays its job and gives the report, with each fault's cause.
 #![tactic(auto)]
 
 mod reading;
 mod status;
+#[cfg(test)]
+mod tests;
+mod top;
 mod writing;
 
 pub use reading::{ReadError, read_all};
 pub use status::Status;
+pub use top::job;
 pub use writing::write_all;
