@@ -1,6 +1,6 @@
 -- An instruction is to be tried again only where a pool is full.
-use Rattle.std.proofs.Common.{◌≡◌, ◌≤◌, ◌&&◌, ℕ, Bool, true, false, cond, not, List, [], ◌∷◌, Option, Some, None, refl, subst}
-use Rattle.std.specs.Prelude.{nat_le, nat_lt}
+use Rattle.std.proofs.Common.{◌≡◌, ◌&&◌, Bool, true, false, cond, List, [], ◌∷◌, Option, Some, None, refl, subst}
+use Rattle.std.specs.Prelude.{nat_le}
 use Rattle.std.proofs.lemmas.Bool.{leb-true}
 use Rattle.rdm_num.specs.Lists.{first_case}
 use Rattle.rdm_model.specs.declared.job.Job.{Job}
@@ -10,9 +10,7 @@ use Rattle.rdm_model.specs.declared.answer.DidWhat.{DidWhat}
 use Rattle.rdm_model.specs.declared.answer.Next.{Next}
 use Rattle.rdm_model.specs.declared.answer.Next.TheVariants.{Did, Refused, NotYet, Again, Worn}
 use Rattle.rdm_model.specs.declared.answer.Why.{Why}
-use Rattle.rdm_model.specs.declared.answer.Why.TheVariants as Why
 use Rattle.rdm_model.specs.declared.answer.Yet.{Yet}
-use Rattle.rdm_model.specs.declared.answer.Yet.TheVariants as Yet
 use Rattle.rdm_model.specs.declared.answer.DidWhat.TheVariants.{Plain}
 use Rattle.rdm_num.specs.declared.request.SendReq.{SendReq}
 use Rattle.rdm_num.specs.declared.request.RecvReq.{RecvReq}

@@ -1,10 +1,8 @@
 -- Drops, bytes that come once, and pools that are full.
-use Rattle.std.proofs.Common.{◌≡◌, ◌≤◌, ◌⊎◌, ℕ, Bool, true, false, cond, ◌&&◌, List, [], ◌∷◌, ◌++◌, length, Option, Some, None, refl, ap, ◌∙◌, sym, subst, inl, inr}
-use Rattle.std.specs.Prelude.{nat_le, ◌==◌}
+use Rattle.std.proofs.Common.{◌≡◌, ◌⊎◌, ℕ, Bool, true, false, cond, ◌&&◌, List, [], ◌∷◌, ◌++◌, Option, Some, None, refl, ap, ◌∙◌, sym, subst, inl, inr}
+use Rattle.std.specs.Prelude.{◌==◌}
 use Rattle.std.proofs.lemmas.List.{append-nil}
-use Rattle.std.proofs.lemmas.Bool.{leb-true}
 use Rattle.rdm_num.specs.Lists.{first_case}
-use Rattle.rdm_num.specs.Pieces.{Piece, overlaps}
 use Rattle.rdm_num.specs.declared.numbers.Life.{Life}
 use Rattle.rdm_wire.specs.declared.Datagram.{Datagram}
 use Rattle.rdm_wire.specs.declared.Body.{Body}
@@ -14,8 +12,7 @@ use Rattle.rdm_model.specs.declared.job.Job.{Job}
 use Rattle.rdm_model.specs.declared.job.Instr.{Instr}
 use Rattle.rdm_model.specs.declared.answer.Class.{Class}
 use Rattle.rdm_model.specs.declared.answer.Class.TheVariants.{ToOther, FromOther}
-use Rattle.rdm_model.specs.declared.answer.Handled.{Handled}
-use Rattle.rdm_model.specs.declared.answer.Handled.TheVariants.{Dropped, Took}
+use Rattle.rdm_model.specs.declared.answer.Handled.TheVariants.{Dropped}
 use Rattle.rdm_model.specs.declared.entry.Entry.{Entry}
 use Rattle.rdm_model.specs.declared.entry.Act.{Act}
 use Rattle.rdm_model.specs.declared.entry.Act.TheVariants.{Handle}
@@ -26,9 +23,9 @@ use Rattle.rdm_model.specs.Takes.{handled_answer, class_answer, taken_answer}
 use Rattle.rdm_model.specs.Notes.{notes, notes_by}
 use Rattle.rdm_model.specs.Sends.{Sent, with_sent, sent_by}
 use Rattle.rdm_model.specs.Scenes.{Scene, deeds_at}
-use Rattle.rdm_model.specs.Steps.{Fits, Does}
+use Rattle.rdm_model.specs.Steps.{Does}
 use Rattle.rdm_model.specs.Lawful.{Lawful, port_deeds, life_deeds, sends_in, sent_to, sent_scene, deed_for}
-use Rattle.rdm_law.specs.Clauses.{Brings, HasCome, BytesComeOnce, DropsAreOfOthers, StandsAs, ChangesNothing, DropsChangeNothing}
+use Rattle.rdm_law.specs.Clauses.{BytesComeOnce, DropsAreOfOthers, StandsAs, DropsChangeNothing}
 use Rattle.rdm_law.proofs.Logs.{at_log_of}
 use Rattle.rdm_law.proofs.SendsAre.{at_life_deeds, sends_in_newest}
 use Rattle.rdm_law.proofs.StandsStill.{nothing_stands, stands_same}
@@ -82,7 +79,8 @@ unfolding deed_by_handle
 dropped_deed src (Note note) class' = refl
 dropped_deed src (Between from to load) class' = refl
 
-deed_is : (ops : List Instr) (act : Act) (d : Datagram) (class' : Class) → act ≡ Handle d (Dropped class') → deed_of ops act ≡ Nothing
+-- a dropped datagram is the deed that does nothing
+pub deed_is : (ops : List Instr) (act : Act) (d : Datagram) (class' : Class) → act ≡ Handle d (Dropped class') → deed_of ops act ≡ Nothing
 unfolding deed_of
 deed_is ops act d class' e = rw e (dropped_deed d.src d.body class')
 

@@ -135,7 +135,7 @@ pub record CtsWent (job : Job) (history : List Entry) (i j : Life) (send recv : 
   pub answered : Answered (own_of job i) (account job history i) answer k (life_deeds job history i)
 
 -- a pair whose message is long is granting the send of that message
-cts_granting : (job : Job) (history : List Entry) (i j source : Life) (p : Pair) (send : OpId) (credits : ℕ) → Member p (pairs_of job history i) → p.message.life ≡ source → source ≡ j
+pub cts_granting : (job : Job) (history : List Entry) (i j source : Life) (p : Pair) (send : OpId) (credits : ℕ) → Member p (pairs_of job history i) → p.message.life ≡ source → source ≡ j
     → (k : Known job history i source p.message.no.0) → (account job history i).head p.message.life p.message.no.0 ≡ message_head job.limits k.sent.message k.sent.kind
     → shape_in (account job history i).head p ≡ S.LongCts send credits → Granting job history i j p k.sent × (k.sent.message.send ≡ send)
 cts_granting job history i j source p send credits m l e k head shape =

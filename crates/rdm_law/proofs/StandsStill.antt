@@ -1,5 +1,5 @@
 -- What did nothing changes nothing.
-use Rattle.std.proofs.Common.{◌≡◌, ℕ, Bool, true, false, cond, not, ◌&&◌, ◌||◌, List, [], ◌∷◌, ◌++◌, map, Option, Some, None, refl, ap, ◌∙◌, sym, subst, inl, inr, arith, ◌+◌}
+use Rattle.std.proofs.Common.{◌≡◌, ℕ, Bool, true, false, not, ◌&&◌, ◌||◌, List, [], ◌∷◌, Option, Some, None, refl, ap, ◌∙◌, sym, subst, inl, inr, arith}
 use Rattle.std.specs.Prelude.{filter, ◌==◌}
 use Rattle.std.specs.List.{list_any}
 use Rattle.std.proofs.lemmas.List.{append-nil}
@@ -7,20 +7,19 @@ use Rattle.std.proofs.lemmas.Bool.{eq-eqb}
 use Rattle.rdm_num.specs.Lists.{Member, or_else}
 use Rattle.rdm_num.specs.Pieces.{Piece, covers}
 use Rattle.rdm_num.specs.declared.numbers.Life.{Life}
-use Rattle.rdm_num.specs.declared.completion.Completion.{Completion}
 use Rattle.rdm_match.specs.Matcher.{Pair, run, is_pair}
 use Rattle.rdm_pkt.specs.declared.Packet.{Packet}
 use Rattle.rdm_model.specs.Deeds.{Deed, Nothing, deed_count}
 use Rattle.rdm_model.specs.Owns.{Own, Messages, Heads}
 use Rattle.rdm_model.specs.Currents.{current, last_inserted, first_seen, is_forgotten, inserted_by, seen_by, forgotten_by}
 use Rattle.rdm_model.specs.Heard.{heard_head, head_by}
-use Rattle.rdm_model.specs.Matches.{Receive, receives, with_received, received_by, events_by, matching, pairs}
+use Rattle.rdm_model.specs.Matches.{receives, with_received, received_by, events_by, matching, pairs}
 use Rattle.rdm_model.specs.Parts.{carried_by, carried_pieces, has_landed}
-use Rattle.rdm_model.specs.Receives.{RecvEnd, Filled, is_filled, filled_by, recv_ends, with_recv_ends, recv_ends_by, withdrawn_by}
+use Rattle.rdm_model.specs.Receives.{RecvEnd, is_filled, filled_by, recv_ends, with_recv_ends, recv_ends_by, withdrawn_by}
 use Rattle.rdm_model.specs.Regions.{regions, after_ends, region_by}
 use Rattle.rdm_model.specs.Sends.{Sent, known_by, known_word, sends, with_sent, sent_by}
 use Rattle.rdm_model.specs.Turns.{Progress, progress, after_deed, after_push, is_over, ends_send, live_of}
-use Rattle.rdm_model.specs.Completions.{completions, completions_by, recv_completions, ended_sends, send_completion, poll_count, is_poll}
+use Rattle.rdm_model.specs.Completions.{completions, completions_by, recv_completions, ended_sends, poll_count, is_poll}
 use Rattle.rdm_law.specs.Clauses.{StandsAs}
 
 -- a test that no element passes
@@ -40,7 +39,7 @@ any_member t (y ∷ ys) x (inl i) e = subst (λ z. (t z || list_any t ys) ≡ tr
 any_member t (y ∷ ys) x (inr m) e = let r = any_member t ys x m e in elim (t y) as (λ b. (b || list_any t ys) ≡ true) [ true ↦ refl | false ↦ r ]
 
 -- nothing more
-or_none : {A : Type 0} (o : Option A) → or_else o None ≡ o
+pub or_none : {A : Type 0} (o : Option A) → or_else o None ≡ o
 unfolding or_else
 or_none None = refl
 or_none (Some x) = refl
@@ -49,22 +48,22 @@ or_right : (b : Bool) → (b || false) ≡ b
 or_right true = refl
 or_right false = refl
 
-and_not : (b : Bool) → (b && not b) ≡ false
+pub and_not : (b : Bool) → (b && not b) ≡ false
 and_not true = refl
 and_not false = refl
 
 -- the bytes that came
-carried_still : (first : ℕ) (heads : Heads) (log : List Deed) (life : Life) (n : ℕ) → carried_pieces first heads (Nothing ∷ log) life n ≡ carried_pieces first heads log life n
+pub carried_still : (first : ℕ) (heads : Heads) (log : List Deed) (life : Life) (n : ℕ) → carried_pieces first heads (Nothing ∷ log) life n ≡ carried_pieces first heads log life n
 unfolding carried_pieces carried_by
 carried_still first heads log life n = append-nil (carried_pieces first heads log life n)
 
 -- the matcher
-matching_still : (first : ℕ) (heads : Heads) (log : List Deed) → matching first heads (Nothing ∷ log) ≡ matching first heads log
+pub matching_still : (first : ℕ) (heads : Heads) (log : List Deed) → matching first heads (Nothing ∷ log) ≡ matching first heads log
 unfolding matching events_by run
 matching_still first heads log = refl
 
 -- a pair is filled as it was
-filled_still : (first : ℕ) (heads : Heads) (log : List Deed) (p : Pair) → is_filled first heads (Nothing ∷ log) p ≡ is_filled first heads log p
+pub filled_still : (first : ℕ) (heads : Heads) (log : List Deed) (p : Pair) → is_filled first heads (Nothing ∷ log) p ≡ is_filled first heads log p
 unfolding is_filled has_landed matching events_by run
 filled_still first heads log p =
     ap (λ (ps : List Piece). is_pair (pairs first heads log) p.recv.id.0 p.message.life p.message.no.0 && covers ps (heads p.message.life p.message.no.0).length)
@@ -94,7 +93,7 @@ regions_still : (first : ℕ) (ms : Messages) (log : List Deed) → regions firs
 unfolding regions after_ends region_by
 regions_still first ms log = rw (none_ends first ms.head log (recv_ends first ms.head log)) (append-nil (regions first ms log))
 
-sends_still : (own : Own) (ms : Messages) (log : List Deed) → sends own ms (Nothing ∷ log) ≡ sends own ms log
+pub sends_still : (own : Own) (ms : Messages) (log : List Deed) → sends own ms (Nothing ∷ log) ≡ sends own ms log
 unfolding sends with_sent sent_by
 sends_still own ms log = append-nil (sends own ms log)
 
@@ -103,7 +102,7 @@ unfolding is_forgotten forgotten_by
 forgotten_still log life = or_right (is_forgotten log life)
 
 -- a send is over where it was
-over_still : (log : List Deed) (pushed : List Packet) (s : Sent) → is_over (Nothing ∷ log) pushed s ≡ is_over log pushed s
+pub over_still : (log : List Deed) (pushed : List Packet) (s : Sent) → is_over (Nothing ∷ log) pushed s ≡ is_over log pushed s
 unfolding is_over ends_send
 over_still log pushed s = rw (forgotten_still log s.to) refl
 

@@ -1,5 +1,5 @@
 -- Clauses of the headline that hold of each history, one by one.
-use Rattle.std.specs.Prelude.{◌≡◌, ◌≤◌, ◌⊎◌, ℕ, IsFalse, List, ◌∷◌, ◌++◌, length, Some}
+use Rattle.std.specs.Prelude.{◌≡◌, ◌≤◌, ◌⊎◌, ℕ, IsFalse, IsTrue, List, ◌∷◌, ◌++◌, length, Some}
 use Rattle.rdm_num.specs.Lists.{Member}
 use Rattle.rdm_num.specs.Pieces.{Piece, overlaps}
 use Rattle.rdm_num.specs.declared.numbers.Life.{Life}
@@ -14,7 +14,7 @@ use Rattle.rdm_model.specs.declared.answer.PoolName.TheVariants.{Tx, Rx, Cq}
 use Rattle.rdm_model.specs.declared.entry.Entry.{Entry}
 use Rattle.rdm_model.specs.declared.entry.Act.TheVariants.{Handle}
 use Rattle.rdm_model.specs.Deeds.{Deed, deed_of, log_of}
-use Rattle.rdm_model.specs.Owns.{Own, Messages, rank_of}
+use Rattle.rdm_model.specs.Owns.{Own, Messages, own_of, rank_of}
 use Rattle.rdm_model.specs.Currents.{current, is_forgotten}
 use Rattle.rdm_model.specs.Heard.{heard_head}
 use Rattle.rdm_model.specs.Matches.{receives, matching, pairs}
@@ -23,11 +23,12 @@ use Rattle.rdm_model.specs.Parts.{carried_by, carried_pieces}
 use Rattle.rdm_model.specs.Receives.{recv_ends}
 use Rattle.rdm_model.specs.Regions.{regions}
 use Rattle.rdm_model.specs.Sends.{known_word, sends}
-use Rattle.rdm_model.specs.Turns.{progress}
+use Rattle.rdm_model.specs.Turns.{progress, turn}
 use Rattle.rdm_model.specs.Completions.{completions, poll_count, tx_count, rx_count, cq_count}
 use Rattle.rdm_model.specs.Scenes.{Scene}
 use Rattle.rdm_model.specs.Settled.{left_at}
-use Rattle.rdm_model.specs.Lawful.{Lawful, port_deeds, life_deeds, sends_in, sent_scene}
+use Rattle.rdm_model.specs.Jobs.{is_fair, law_ops}
+use Rattle.rdm_model.specs.Lawful.{Lawful, port_deeds, life_deeds, sends_in, sent_to, sent_scene}
 
 -- the deed brings that piece of message n of a life
 abbrev pub Brings : Scene → Deed → Life → ℕ → Piece → Type 0
@@ -82,6 +83,20 @@ DropsChangeNothing =
     (job : Job) (e : Entry) (before : List Entry) (d : Datagram) (class' : Class)
     → e.act ≡ Handle d (Dropped class')
     → ChangesNothing job (e ∷ before) before
+
+-- what a life owes, and what goes out of it next, is as it was
+pub record OwesAs (own : Own) (ms : Messages) (after before : List Deed) : Type 0 where
+  pub replies_are : (progress own ms after).replies ≡ (progress own ms before).replies
+  pub next_is : turn own ms after ≡ turn own ms before
+
+-- In a lawful history of a fair job a dropped datagram makes no life owe anything, and takes away nothing of what a life owes.
+abbrev pub DropsOweNothing : Type 0
+DropsOweNothing =
+    (job : Job) (e : Entry) (before : List Entry) (d : Datagram) (class' : Class) (life : Life)
+    → IsTrue (is_fair law_ops job)
+    → Lawful job before
+    → e.act ≡ Handle d (Dropped class')
+    → OwesAs (own_of job life) (sent_to job before life) (life_deeds job (e ∷ before) life) (life_deeds job before life)
 
 -- as many of the pool's places are taken as it has
 abbrev pub IsFull : Scene → PoolName → Type 0

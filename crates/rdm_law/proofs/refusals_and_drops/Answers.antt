@@ -1,6 +1,7 @@
 use Rattle.rdm_law.proofs.refusals_and_drops.Goals as goal
 use Rattle.rdm_law.proofs.AgainFull.{again_is_full}
 use Rattle.rdm_law.proofs.DroppedOnly.{bytes_come_once, drops_are_of_others, drops_change_nothing}
+use Rattle.rdm_law.proofs.OwesNothing.{drops_owe_nothing}
 
 pub returns-clause-again : goal.returns-clause-again
 returns-clause-again c = again_is_full
@@ -13,3 +14,6 @@ returns-clause-drops c = drops_are_of_others
 
 pub returns-clause-nothing : goal.returns-clause-nothing
 returns-clause-nothing c = drops_change_nothing
+
+pub returns-clause-owed : goal.returns-clause-owed
+returns-clause-owed c = drops_owe_nothing
