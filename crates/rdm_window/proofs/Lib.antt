@@ -1,0 +1,8 @@
+mod Maps
+mod Messages
+mod Forgotten
+mod Sets
+mod Flags
+mod Marked
+mod Advanced
+mod Told

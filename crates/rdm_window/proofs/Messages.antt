@@ -1,0 +1,101 @@
+-- The messages that are held beside the tree map that keeps them.
+use Rattle.std.proofs.Common.{◌≡◌, refl, sym, ap, ◌∙◌, ℕ, ◌+◌, ◌<◌, ◌≤◌, Bool, true, false, List, Option, Some, None, length, arith, IsSome}
+use Rattle.std.specs.Ordering.{nat_cmp, eq_by_cmp}
+use Rattle.std.specs.Cmp.{IsTotalOrder, Equal-is, nat_cmp_total, then_total, on_total}
+use Rattle.std.specs.Prelude.{cond, is_some, option_map}
+use Rattle.std.specs.List.Sorted.{IsStrictlySortedBy}
+use Rattle.std.specs.Map.{lookup, keys_of}
+use Rattle.std.specs.BTreeMap.{is_at}
+use Rattle.std.specs.FinMap as map
+use Rattle.std.proofs.lemmas.Map.Lookups.{exact_pairs, exact_unsigned}
+use Rattle.rdm_num.specs.declared.numbers.Life.{Life}
+use Rattle.rdm_num.specs.declared.numbers.MsgNo.{MsgNo}
+use Rattle.rdm_window.specs.declared.early.EarlyMessage.{EarlyMessage}
+use Rattle.rdm_window.specs.Early.{Key, Held, message_order, key_of, message_at, with_message, without_message, pieced, put_back, with_piece}
+use Rattle.rdm_window.proofs.Maps.{Changes, get_is_lookup, len_is_length, map_after, map_without}
+
+-- keys are ordered in full
+pub message_order_total : IsTotalOrder message_order
+message_order_total = then_total (then_total (on_total (λ k. k.0.0) nat_cmp_total) (on_total (λ k. k.0.1) nat_cmp_total)) (on_total (λ k. k.1) nat_cmp_total)
+
+-- only a key ties with itself
+pub message_order-IsAntisymmetric : map.IsAntisymmetric message_order
+message_order-IsAntisymmetric x y is =
+    exact_pairs _ nat_cmp (exact_pairs nat_cmp nat_cmp exact_unsigned exact_unsigned) exact_unsigned x y is
+
+-- those messages, with that many places
+abbrev pub held_in : ℕ → map.FinMap message_order EarlyMessage → Held
+held_in size messages = record { size = size; messages = messages }
+
+-- entries of a tree map of messages
+abbrev pub Entries : Type 0
+Entries = List (Key × EarlyMessage)
+
+-- the messages of those entries, with that many places
+abbrev pub held_of : ℕ → Entries → Held
+held_of size es = held_in size (map.from_entries es)
+
+-- one more at most, where one more has a place
+pub one_more_fits : (b : Bool) (n m size : ℕ) → m ≡ n + cond b 0 1 → n < size → m ≤ size
+one_more_fits true n m size e h = omega arith
+one_more_fits false n m size e h = omega arith
+
+-- nothing is both there and not
+pub not_there : {A : Type 0} (o : Option A) → IsSome o → o ≡ None → ⊥
+not_there o there none = let e : false ≡ true = sym (ap is_some none) ∙ there in cc
+
+-- a message that is put in its own place
+same_message : (held : Held) (life : Life) (number : MsgNo) (m : EarlyMessage) → Some m ≡ message_at held life number → with_message held life number m ≡ held
+same_message held life number m is =
+    ap (held_in held.size) (map.same_map message_order_total message_order-IsAntisymmetric _ _ (λ q.
+    map.get-insert message_order_total held.messages (key_of life number) m q
+    ∙ elim (eq_by_cmp message_order q (key_of life number)) as (λ b. eq_by_cmp message_order q (key_of life number) ≡ b → cond b (Some m) (map.get held.messages q) ≡ map.get held.messages q) [
+      | true ↦ λ e. is ∙ map.get_tied message_order_total held.messages q (key_of life number) ((Equal-is _).0 e)
+      | false ↦ λ e. refl
+    ] refl))
+
+-- one more piece of a message that is held
+piece_put : (held : Held) (life : Life) (number : MsgNo) (m : EarlyMessage) (offset : ℕ) (bytes : List ℕ) → Some m ≡ message_at held life number → with_message held life number (pieced m offset bytes) ≡ with_piece held life number offset bytes
+unfolding put_back
+piece_put held life number m offset bytes is = ap (λ o. put_back held life number (option_map (λ m. pieced m offset bytes) o)) is
+
+-- what is held beside the entries that hold it
+module _ (size : ℕ) (es : Entries) (held : Held) (is : held_of size es ≡ held) where
+  -- what is held at a key is what a look-up in the kept entries finds
+  pub get_of_entries : (q : Key) → map.get held.messages q ≡ lookup (is_at (message_order q)) es
+  get_of_entries q = ap (λ (h : Held). map.get h.messages q) (sym is) ∙ get_is_lookup message_order_total es q
+
+  -- a message that is held is what a look-up in the kept entries finds
+  pub message_is_lookup : (life : Life) (number : MsgNo) → lookup (is_at (message_order (key_of life number))) es ≡ message_at held life number
+  message_is_lookup life number = sym (get_of_entries (key_of life number))
+
+  -- as many messages are held as there are entries
+  pub len_of_entries : IsStrictlySortedBy message_order (keys_of es) → map.len held.messages ≡ length es
+  len_of_entries sorted = ap (λ (h : Held). map.len h.messages) (sym is) ∙ len_is_length message_order_total es sorted
+
+  -- fewer entries than places
+  pub fewer_entries : IsStrictlySortedBy message_order (keys_of es) → map.len held.messages < held.size → length es < size
+  fewer_entries sorted h = rw (← len_of_entries sorted, ap (λ (l : Held). l.size) is) h
+
+  module _ (fs : Entries) (life : Life) (number : MsgNo) where
+    -- the messages after one took the place of its key
+    pub held_with : (m : EarlyMessage) → Changes message_order es fs (key_of life number) (Some m) → held_of size fs ≡ with_message held life number m
+    held_with m at =
+        ap (held_in size) (map_after message_order_total message_order-IsAntisymmetric es fs (key_of life number) m at)
+        ∙ ap (λ h. with_message h life number m) is
+
+    -- the messages after one was taken
+    pub held_without : Changes message_order es fs (key_of life number) None → held_of size fs ≡ without_message held life number
+    held_without at =
+        ap (held_in size) (map_without message_order_total message_order-IsAntisymmetric es fs (key_of life number) at)
+        ∙ ap (λ h. without_message h life number) is
+
+    module _ (m w : EarlyMessage) (was : Some m ≡ message_at held life number) (writes : Changes message_order es fs (key_of life number) (Some w)) where
+      -- the messages after a piece was put after the others of one
+      pub held_pieced : (offset : ℕ) (bytes : List ℕ) → w ≡ pieced m offset bytes → held_of size fs ≡ with_piece held life number offset bytes
+      held_pieced offset bytes new =
+          held_with w writes ∙ ap (with_message held life number) new ∙ piece_put held life number m offset bytes was
+
+      -- the messages after one was written as it was
+      pub held_rewritten : w ≡ m → held_of size fs ≡ held
+      held_rewritten new = held_with w writes ∙ ap (with_message held life number) new ∙ same_message held life number m was

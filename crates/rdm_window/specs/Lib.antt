@@ -1,0 +1,7 @@
+-- Heard numbers and early messages.
+pub mod Numbers
+pub mod Window
+pub mod Marks
+pub mod Kept
+pub mod Early
+pub mod Codes

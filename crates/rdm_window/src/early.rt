@@ -1,0 +1,154 @@
+//! Messages that were heard and are not matched yet.
+ghost use Rattle.std.specs.Prelude.{◌≡◌, ◌⊎◌, ◌<◌, ◌≤◌, Ok, Err, None, Some, IfOk, IfSome, IfNone, OnOk, OnErr, IsSome};
+ghost use Rattle.std.specs.Option.{option_copied};
+ghost use Rattle.std.specs.FinMap as map;
+ghost use Rattle.rdm_window.specs.Early.{none_held, message_at, with_message, opened, hold_answer, after_hold, with_piece, without_message, without_life, IsHeldOf};
+ghost use Rattle.rdm_window.specs.Early as held;
+
+use rdm_num::{Bytes, Head, Life, MsgNo, NoMemory, Segments};
+use std::alloc::Global;
+use std::collections::BTreeMap;
+use std::marker::Model;
+
+/// A message that is held: what its packets say of it, and the pieces that came, in their order.
+#[derive(Debug, Drop)]
+pub struct EarlyMessage {
+    pub head: Head,
+    pub parts: Segments,
+}
+
+/// Why a message is not held.
+#[derive(Clone, Copy, Debug, PartialEq, Eq)]
+pub enum EarlyRefused {
+    /// As many messages are held as have a place.
+    Full,
+    /// Want of memory.
+    Memory,
+}
+
+/// The messages of an endpoint that were heard and are not matched.
+#[derive(Drop)]
+pub struct Early {
+    alloc: Global,
+    size: usize,
+    messages: BTreeMap<((u32, u32), u32), EarlyMessage>,
+}
+
+impl Model for Early {
+    ghost use Rattle.rdm_window.specs.Codes.{held_code};
+    ghost use Rattle.rdm_window.specs.Early.{Held, message_order};
+    ghost use Rattle.std.specs.Prelude.{◌≤◌, length};
+    ghost use Rattle.std.specs.FinMap.{from_entries};
+
+    ghost Value = { Held };
+
+    ghost coded = { held_code };
+
+    ghost view = { λ e. record { size = e.size; messages = from_entries e.messages.entries } };
+
+    ghost invariant = { λ e. length e.messages.entries ≤ e.size };
+}
+
+impl Early {
+    /// Has a place for that many messages, and holds none.
+    pub fn new(alloc: Global, size: usize) -> Result<Early, NoMemory>
+        ensures { IfOk result (λ e. e ≡ none_held size) }
+    {
+        Ok(Early {
+            alloc,
+            size,
+            messages: BTreeMap::new(alloc),
+        })
+    }
+
+    /// As many messages are held as have a place.
+    pub fn is_full(&self) -> bool
+        ensures answer { result ≡ held.is_full self.now }
+        ensures within { map.len self.now.messages ≤ self.now.size }
+    {
+        self.messages.len() == self.size
+    }
+
+    /// Holds a message, of which no piece came yet.
+    pub fn hold(&mut self, life: Life, no: MsgNo, head: Head) -> Result<(), EarlyRefused>
+        requires { message_at self.old life no ≡ None }
+        ensures answer { (result ≡ Err EarlyRefused.Memory) ⊎ (result ≡ hold_answer self.old) }
+        ensures after { self.new ≡ after_hold self.old life no head result }
+    {
+        if self.is_full() {
+            return Err(EarlyRefused::Full);
+        }
+        self.open(life, no, head)
+            .map_err(|_error| EarlyRefused::Memory)
+    }
+
+    /// Puts a piece after the others of a message that is held.
+    pub fn add(&mut self, life: Life, no: MsgNo, offset: u64, bytes: Bytes) -> Result<(), NoMemory>
+        requires { IsSome (message_at self.old life no) }
+        ensures ok { OnOk result (self.new ≡ with_piece self.old life no offset bytes) }
+        ensures err { OnErr result (self.new ≡ self.old) }
+    {
+        match self.messages.get_mut(&key(life, no)) {
+            Some(message) => message.parts.push(offset, bytes),
+            None => unreachable!(),
+        }
+    }
+
+    /// The message with that number, if it is held.
+    pub fn get(&self, life: Life, no: MsgNo) -> Option<&EarlyMessage>
+        ensures { option_copied result ≡ message_at self.now life no }
+    {
+        self.messages.get(&key(life, no))
+    }
+
+    /// Gives the message with that number, which is held no more.
+    pub fn take(&mut self, life: Life, no: MsgNo) -> Option<EarlyMessage>
+        ensures answer { result ≡ message_at self.old life no }
+        ensures after { self.new ≡ without_message self.old life no }
+    {
+        self.messages.remove(&key(life, no))
+    }
+
+    /// No message of the life is held any more.
+    pub fn forget(&mut self, life: Life)
+        ensures { self.new ≡ without_life self.old life }
+    {
+        while let Some(no) = self.first_of(life) {
+            let _ = self.take(life, no);
+        }
+    }
+
+    /// The number of a message of the life that is held.
+    fn first_of(&self, life: Life) -> Option<MsgNo>
+        ensures { IsHeldOf self.now life result }
+    {
+        let (first, _message) = self.messages.range(key(life, MsgNo(0))..).next()?;
+        let &((port, connid), no) = first;
+        if port == life.port.0 && connid == life.connid.0 {
+            Some(MsgNo(no))
+        } else {
+            None
+        }
+    }
+
+    /// Gives a message a place.
+    fn open(&mut self, life: Life, no: MsgNo, head: Head) -> Result<(), NoMemory>
+        requires { map.len self.old.messages < self.old.size }
+        ensures ok { OnOk result (self.new ≡ with_message self.old life no (opened head)) }
+        ensures err { OnErr result (self.new ≡ self.old) }
+    {
+        let message = EarlyMessage {
+            head,
+            parts: Segments::new(self.alloc),
+        };
+        self.messages.insert(key(life, no), message)?;
+        Ok(())
+    }
+}
+
+/// What a message is held under.
+fn key(life: Life, no: MsgNo) -> ((u32, u32), u32)
+    ensures { result ≡ held.key_of life no }
+{
+    ((life.port.0, life.connid.0), no.0)
+}

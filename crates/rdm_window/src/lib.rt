@@ -1,0 +1,11 @@
+//! Which messages of a sending life were heard, and the heard messages that are not matched yet.
+#![tactic(auto)]
+
+mod early;
+mod ring;
+#[cfg(test)]
+mod tests;
+mod window;
+
+pub use early::{Early, EarlyMessage, EarlyRefused};
+pub use window::{Heard, Window, next_is_told};
