@@ -1,0 +1,5 @@
+use Rattle.rdm_cq.proofs.Law.{comes_as_written}
+use Rattle.rdm_cq.proofs.completions_law.Goals as goal
+
+pub returns : goal.returns
+returns c = comes_as_written

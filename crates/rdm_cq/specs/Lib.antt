@@ -1,0 +1,3 @@
+-- Completions and reserved places.
+pub mod Queue
+pub mod Runs

@@ -1,0 +1,5 @@
+mod Search
+mod Kept
+mod Changed
+mod Seen
+mod Law

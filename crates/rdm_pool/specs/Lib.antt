@@ -1,0 +1,5 @@
+-- Values under numbers that never repeat.
+pub mod Numbered
+pub mod Places
+pub mod Lends
+pub mod Runs

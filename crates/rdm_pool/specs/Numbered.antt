@@ -1,0 +1,68 @@
+-- Values, each under a number that no other value gets.
+use Rattle.std.specs.Prelude.{ℕ, ◌+◌, ◌≤◌, ◌<◌, ◌==◌, Bool, if◌then◌else◌, List, [], ◌∷◌, ◌++◌, length, Option, Some, None, Result, Ok, Err}
+use Rattle.rdm_num.specs.declared.numbers.OpId.{OpId}
+use Rattle.rdm_pool.specs.declared.Full.{Full}
+
+-- the numbers with their values, the oldest first, how many values there may be, and how many were
+-- ever put
+pub record Numbered (T : Type 0) : Type 0 where
+  pub list : List (ℕ × T)
+  pub size : ℕ
+  pub made : ℕ
+
+module _ {T : Type 0} where
+  -- before anything is put
+  abbrev pub nothing_put : ℕ → Numbered T
+  nothing_put size = record { list = []; size = size; made = 0 }
+
+  -- the numbers rise, from a least one on, and stay below a bound
+  abbrev pub RisesWithin : ℕ → List (ℕ × T) → ℕ → Type 0
+  RisesWithin least [] bound = Unit {0}
+  RisesWithin least (entry ∷ rest) bound = (least ≤ entry.0) × (entry.0 < bound) × RisesWithin (entry.0 + 1) rest bound
+
+  -- the numbers rise and were given, and there are no more values than the size
+  pub record IsPool (p : Numbered T) : Type 0 where
+    pub rises : RisesWithin 0 p.list p.made
+    pub within : length p.list ≤ p.size
+
+  -- the value under a number
+  unfoldable pub value_at : List (ℕ × T) → ℕ → Option T
+  value_at [] number = None
+  value_at (entry ∷ rest) number = if entry.0 == number then Some entry.1 else value_at rest number
+
+  -- the list without the value under a number
+  unfoldable pub without : List (ℕ × T) → ℕ → List (ℕ × T)
+  without [] number = []
+  without (entry ∷ rest) number = if entry.0 == number then rest else entry ∷ without rest number
+
+  -- the list with another value under a number that has one
+  unfoldable pub with_value : List (ℕ × T) → ℕ → T → List (ℕ × T)
+  with_value [] number value = []
+  with_value (entry ∷ rest) number value = if entry.0 == number then (entry.0, value) ∷ rest else entry ∷ with_value rest number value
+
+  -- there are as many values as the size
+  abbrev pub is_full : Numbered T → Bool
+  is_full p = length p.list == p.size
+
+  -- a put gives the count of the puts before it as the number, and the value back exactly where the pool is full
+  abbrev pub put_answer : Numbered T → T → Result OpId (Full T)
+  put_answer p value = if is_full p then Err (record { 0 = value }) else Ok (record { 0 = p.made })
+
+  -- a put into a pool that is not full puts the value last
+  abbrev pub after_put : Numbered T → T → Numbered T
+  after_put p value =
+      if is_full p
+      then p
+      else record { list = p.list ++ (p.made, value) ∷ []; size = p.size; made = p.made + 1 }
+
+  -- the value under the number
+  abbrev pub found : Numbered T → OpId → Option T
+  found p id = value_at p.list id.0
+
+  -- the value under the number is gone
+  abbrev pub after_take : Numbered T → OpId → Numbered T
+  after_take p id = record p { list = without p.list id.0 }
+
+  -- another value stands under the number
+  abbrev pub after_write : Numbered T → OpId → T → Numbered T
+  after_write p id value = record p { list = with_value p.list id.0 value }

@@ -1,0 +1,129 @@
+//! Values under numbers that never repeat, in memory that is taken once.
+#![tactic(auto)]
+
+ghost use Rattle.std.specs.Prelude.{◌≡◌, ◌<◌, IfOk, option_copied};
+ghost use Rattle.std.specs.Option.{option_copied_mut};
+ghost use Rattle.std.specs.Borrow.{sem};
+ghost use Rattle.rdm_pool.specs.Numbered.{nothing_put, put_answer, after_put, found, after_take, IsPool};
+ghost use Rattle.rdm_pool.specs.Numbered as Numbered;
+ghost use Rattle.rdm_pool.specs.Runs.{NumbersComeOnce};
+
+use rdm_num::{NoMemory, OpId};
+use slab::Slab;
+use std::alloc::Global;
+use std::marker::Model;
+
+mod places;
+#[cfg(test)]
+mod tests;
+
+use places::{Place, key_of, place_of};
+
+/// The pool holds as many values as it may, so this one is given back.
+#[derive(Clone, Debug, PartialEq, Drop)]
+pub struct Full<T>(pub T);
+
+/// Values, each under the number that its put gave.
+#[derive(Drop)]
+pub struct Pool<T> {
+    values: Slab<T>,
+    // Where the value of each number stands, by rising number.
+    places: Vec<Place>,
+    size: usize,
+    made: u32,
+}
+
+impl<T> Model for Pool<T> {
+    ghost use Rattle.rdm_pool.specs.Numbered.{Numbered};
+
+    ghost Value = { Numbered T };
+
+    ghost use Rattle.rdm_pool.specs.Places.{seen, IsKept};
+
+    ghost view = { seen };
+
+    ghost invariant = { IsKept };
+}
+
+impl<T> Pool<T> {
+    ghost use Rattle.rdm_pool.specs.Lends.{lends_found};
+
+    /// Takes the memory for so many values.
+    #[tactic(auto, unfolding(crate::specs::Places::listed))]
+    pub fn new(alloc: Global, size: usize) -> Result<Pool<T>, NoMemory>
+        ensures { IfOk result (λ p. p ≡ nothing_put size) }
+    {
+        let places = Vec::with_capacity(alloc, size)?;
+        let values = Slab::with_capacity(alloc, size)?;
+        Ok(Pool {
+            values,
+            places,
+            size,
+            made: 0,
+        })
+    }
+
+    /// Puts a value under the next number, unless the pool is full.
+    pub fn put(&mut self, value: T) -> Result<OpId, Full<T>>
+        requires { self.old.made < 4294967295 }
+        ensures answer { result ≡ put_answer self.old value }
+        ensures after { self.new ≡ after_put self.old value }
+    {
+        if self.is_full() {
+            return Err(Full(value));
+        }
+        let number = self.made;
+        let key = self.values.insert_reserved(value);
+        self.places.push_reserved(Place { number, key });
+        self.made += 1;
+        Ok(OpId(number))
+    }
+
+    /// The value under a number.
+    pub fn get(&self, id: OpId) -> Option<&T>
+        ensures { option_copied result ≡ found self.now id }
+    {
+        match key_of(&self.places, id) {
+            Some(key) => self.values.get(key),
+            None => None,
+        }
+    }
+
+    /// The value under a number, for writing.
+    pub fn get_mut(&mut self, id: OpId) -> Option<&mut T>
+        ensures* writes_back { sem 𝓛 (lends_found T.row self.entry id result) }
+        ensures value { option_copied_mut result ≡ found self.old id }
+    {
+        match key_of(&self.places, id) {
+            Some(key) => self.values.get_mut(key),
+            None => None,
+        }
+    }
+
+    /// Takes the value under a number out. No other value gets the number.
+    pub fn take(&mut self, id: OpId) -> Option<T>
+        ensures answer { result ≡ found self.old id }
+        ensures after { self.new ≡ after_take self.old id }
+    {
+        match place_of(&self.places, id) {
+            Some(at) => {
+                let place = self.places.remove(at);
+                Some(self.values.remove(place.key))
+            }
+            None => None,
+        }
+    }
+
+    /// A put would give its value back.
+    pub fn is_full(&self) -> bool
+        ensures value { result ≡ Numbered.is_full self.now }
+        ensures pool { IsPool self.now }
+    {
+        self.places.len() == self.size
+    }
+}
+
+/// Over any calls, the puts give the numbers 0, 1, 2 and so on, so none comes twice.
+pub fn numbers_law<T>()
+    ensures { NumbersComeOnce T }
+{}
