@@ -1,0 +1,3 @@
+-- What waits on a shelf, and in which bins.
+pub mod Shelf
+pub mod Binning

@@ -1,0 +1,94 @@
+//! Work to be timed from outside: `hash COUNT` inserts into a hash map, and `bins COUNT AHEAD`
+//! posts receives and lets their messages arrive, each of a tag of its own.
+#![tactic(auto)]
+
+use rdm_bins::Bins;
+use rdm_match::{Arrived, PostedRecv};
+use rdm_num::{Connid, Life, MsgNo, NoMemory, PortNo, RecvNo, Want};
+use std::alloc::Global;
+use std::collections::HashMap;
+use std::{env, io};
+
+fn main(rt: HostRuntime) -> io::Result<()> {
+    let words = env::args(&rt)?.skip(1).collect::<Vec<String>>(rt.alloc())?;
+    let count = number_at(words.as_slice(), 1);
+    let is_hash = words.first().is_some_and(|word| word.as_str() == "hash");
+    let done = if is_hash {
+        inserts(rt.alloc(), count)?
+    } else {
+        meetings(rt.alloc(), count, number_at(words.as_slice(), 2))?
+    };
+    println!(rt; "{done}")
+}
+
+/// The number that a word spells, or 0.
+fn number_at(words: &[String], at: usize) -> u64 {
+    let Some(word) = words.get(at) else {
+        return 0;
+    };
+    word.parse::<u64>().unwrap_or(0)
+}
+
+/// The tag of a number: each has another, and they jump about.
+fn tag_of(number: u64) -> u64 {
+    number.wrapping_mul(0x9E37_79B9_7F4A_7C15)
+}
+
+/// Inserts so many numbers by their tags, and gives how many there are then.
+fn inserts(alloc: Global, count: u64) -> Result<u64, NoMemory> {
+    let mut numbers = HashMap::new(alloc);
+    for number in 0..count {
+        numbers.insert(tag_of(number), number)?;
+    }
+    let len = numbers.len();
+    Ok(u64::try_from(len).unwrap_or(u64::MAX))
+}
+
+/// Posts so many receives. A message arrives once so many further receives are posted; in the end the
+/// others arrive. Gives how many messages met a receive.
+fn meetings(alloc: Global, count: u64, ahead: u64) -> Result<u64, NoMemory> {
+    let mut bins = Bins::new(alloc);
+    let mut met = 0u64;
+    for number in 0..count {
+        post(&mut bins, number)?;
+        if number >= ahead {
+            met = met.saturating_add(arrive(&mut bins, number - ahead)?);
+        }
+    }
+    for number in count.saturating_sub(ahead)..count {
+        met = met.saturating_add(arrive(&mut bins, number)?);
+    }
+    Ok(met)
+}
+
+/// Posts the receive of a number, which the cancel shows to be free.
+#[tactic(auto, using(rdm_bins::proofs::Cancelled::vain_cancel))]
+fn post(bins: &mut Bins, number: u64) -> Result<(), NoMemory> {
+    if bins.cancel(RecvNo(number)) {
+        return Ok(());
+    }
+    let r = PostedRecv {
+        id: RecvNo(number),
+        from: None,
+        want: Some(Want {
+            tag: tag_of(number),
+            ignore: 0,
+        }),
+    };
+    bins.post(r)?;
+    Ok(())
+}
+
+/// Lets the message of a number arrive, and gives 1 if it met a receive.
+fn arrive(bins: &mut Bins, number: u64) -> Result<u64, NoMemory> {
+    let a = Arrived {
+        life: Life {
+            port: PortNo(0),
+            connid: Connid(5),
+        },
+        no: MsgNo(0),
+        tag: Some(tag_of(number)),
+    };
+    let met = bins.arrive(a)?.is_some();
+    Ok(u64::from(met))
+}
