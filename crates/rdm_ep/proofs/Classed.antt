@@ -1,8 +1,8 @@
 -- The class of a datagram by the endpoint is the one that the definitions give it.
-use Rattle.std.proofs.Common.{◌≡◌, ℕ, Bool, true, false, not, List, [], ◌∷◌, Option, Some, None, refl, arith, ap, ◌∙◌, sym}
-use Rattle.std.specs.Prelude.{◌&&◌, ◌==◌, nat_lt, is_none, is_some}
-use Rattle.std.proofs.lemmas.Bool.{and_parts, false_from_ne_true, eqb-true, eq-eqb, le-ltb}
-use Rattle.rdm_num.specs.Lists.{first_case}
+use Rattle.std.proofs.Common.{◌≡◌, ◌≤◌, ℕ, Bool, true, false, not, List, [], ◌∷◌, Option, Some, None, refl, arith, ap, ◌∙◌, sym}
+use Rattle.std.specs.Prelude.{◌&&◌, ◌||◌, ◌==◌, nat_le, nat_lt, is_none, is_some}
+use Rattle.std.proofs.lemmas.Bool.{and_parts, false_from_ne_true, eqb-true, le-leb, le-ltb}
+use Rattle.rdm_num.specs.Lists.{Member, first_case}
 use Rattle.rdm_num.specs.Lives.{same_life}
 use Rattle.rdm_num.specs.declared.numbers.Life.{Life}
 use Rattle.rdm_num.specs.declared.numbers.Connid.{Connid}
@@ -23,13 +23,14 @@ use Rattle.rdm_model.specs.Scenes.{Scene}
 use Rattle.rdm_model.proofs.Members.{same_life-true}
 use Rattle.rdm_ep.specs.declared.state.Inbound.{Inbound}
 use Rattle.rdm_ep.specs.View.{EndpointView, current_in}
-use Rattle.rdm_ep.specs.Handling.{is_heard_in, inbound_head, has_other_head, is_eager, rtm_class, load_class, item_class_in}
+use Rattle.rdm_ep.specs.Entering.{next_in, is_message, is_held_in, is_heard_in}
+use Rattle.rdm_ep.specs.Handling.{inbound_head, is_other_message, is_eager, rtm_class, load_class, item_class_in}
 use Rattle.rdm_ep.specs.Answers.{life_scene}
 use Rattle.rdm_ep.specs.Plain.{IsPlainItem}
 use Rattle.rdm_ep.specs.Keeps.{Keeps}
 use Rattle.rdm_ep.proofs.Apart.{list_any_none}
 use Rattle.rdm_ep.proofs.Groups.{kept_of}
-use Rattle.rdm_ep.proofs.Still.{waiting_heard}
+use Rattle.rdm_ep.proofs.Still.{waiting_heard, held_heard}
 use Rattle.rdm_ep.proofs.Told.{unheard}
 
 -- the class by lives and by what the packet says of its source, or else that one
@@ -59,33 +60,41 @@ pub class_in_is : (v : EndpointView) (from : Life) (to : Connid) (item : Item)
 unfolding item_class_in by_source first_case
 class_in_is v from to item = refl
 
--- no message that waits has the name of one that was not heard of
-other_head_none : (log : List Deed) (v : EndpointView) (from : Life) (number : ℕ) (head : Head) → Keeps log v → is_heard log from number ≡ false
-    → has_other_head v from number head ≡ false
-unfolding has_other_head is_heard
-other_head_none log v from number head keeps h =
-    let k = kept_of log v keeps in
-    list_any_none (λ (i : Inbound). same_life i.life from && (i.no.0 == number) && not (same_head (inbound_head i) head)) v.arrived
-    (λ i m. false_from_ne_true (same_life i.life from && (i.no.0 == number) && not (same_head (inbound_head i) head))
+-- no message that was heard of has the name of one that was not
+other_none : (log : List Deed) (messages : List Inbound) (from : Life) (number : ℕ) (head : Head) → ((i : Inbound) → Member i messages → (h : Head) × (heard_head log i.life i.no.0 ≡ Some h))
+    → is_heard log from number ≡ false → is_other_message messages from number head ≡ false
+unfolding is_other_message is_heard
+other_none log messages from number head heard h =
+    list_any_none (λ (i : Inbound). is_message from number i && not (same_head (inbound_head i) head)) messages
+    (λ i m. false_from_ne_true (is_message from number i && not (same_head (inbound_head i) head))
     (λ e.
-    let a = and_parts (same_life i.life from && (i.no.0 == number)) (not (same_head (inbound_head i) head)) e in
+    let a = and_parts (is_message from number i) (not (same_head (inbound_head i) head)) e in
     let b = and_parts (same_life i.life from) (i.no.0 == number) a.0 in
-    let x = waiting_heard v.own log v.arrived i k.messages.arrived_are m in
+    let x = heard i m in
     let y : heard_head log from number ≡ Some x.0 =
     ap (λ (l : Life). heard_head log l number) (sym (same_life-true i.life from b.0)) ∙ ap (heard_head log i.life) (sym (eqb-true i.no.0 number b.1)) ∙ x.1 in
     let z = ap (λ (o : Option Head). is_some o) y in
     cc))
 
--- the first message of a life, in one packet, has no class until it was heard of
-first_message_class : (log : List Deed) (v : EndpointView) (from : Life) (number : ℕ) (head : Head) (bytes : List ℕ) → Keeps log v → number ≡ v.own.limits.first
+-- a number that was not heard of has not entered, and its message is not held
+pub not_heard_in : (log : List Deed) (v : EndpointView) (from : Life) (number : ℕ) → Keeps log v → v.own.limits.first ≤ number → is_heard log from number ≡ false
+    → (nat_lt number (next_in v from) || is_held_in v from number) ≡ false
+unfolding is_heard_in
+not_heard_in log v from number keeps low h =
+    let a : nat_le v.own.limits.first number ≡ true = le-leb v.own.limits.first number low in
+    let e : ((nat_le v.own.limits.first number && nat_lt number (next_in v from)) || is_held_in v from number) ≡ false = keeps.heard_are from number ∙ h in
+    rw a at e
+
+-- a message in one packet that was not heard of has no class
+message_class : (log : List Deed) (v : EndpointView) (from : Life) (number : ℕ) (head : Head) (bytes : List ℕ) → Keeps log v → v.own.limits.first ≤ number
     → is_heard log from number ≡ false → rtm_class v from number head (Eager bytes) ≡ None
 unfolding rtm_class first_case is_eager
-first_message_class log v from number head bytes keeps e h =
-    let a = other_head_none log v from number head keeps h in
-    let b : nat_lt number v.own.limits.first ≡ false = le-ltb number v.own.limits.first (omega arith) in
-    let c : is_heard_in v from number ≡ false = keeps.heard_are from number ∙ h in
-    let d : (number == v.own.limits.first) ≡ true = eq-eqb number v.own.limits.first e in
-    rw (a, b, c, d) refl
+message_class log v from number head bytes keeps low h =
+    let k = kept_of log v keeps in
+    let a = other_none log v.arrived from number head (λ i m. waiting_heard v.own log v.arrived i k.messages.arrived_are m) h in
+    let b = other_none log v.held from number head (λ i m. held_heard v.own log v.peers v.arrived v.held i k.held m) h in
+    let c = not_heard_in log v from number keeps low h in
+    rw (a, b, c) refl
 
 -- a message that was not heard of has no other head
 unheard_no_other : (o : Option Head) (head : Head) (b : Bool) → o ≡ None → (is_other_head o head && b) ≡ false
@@ -101,7 +110,7 @@ expected_agrees ports port_log log v from (Spelled (Rtm number tag opt (Eager by
     let a = unheard_no_other (heard_head log from number.0) (head_of tag opt (Eager bytes)) (not (is_received (life_scene ports v.own port_log log) from number.0)) no in
     let b : nat_lt number.0 v.own.limits.first ≡ false = le-ltb number.0 v.own.limits.first (let e = h.0 in omega arith) in
     let c = h.1 in
-    (rw (a, b, c) refl) ∙ sym (first_message_class log v from number.0 (head_of tag opt (Eager bytes)) bytes keeps h.0 h.1)
+    (rw (a, b, c) refl) ∙ sym (message_class log v from number.0 (head_of tag opt (Eager bytes)) bytes keeps h.0 h.1)
 expected_agrees ports port_log log v from (Spelled (Handshake words connid)) h keeps = let e = keeps.known_are from in rw e refl
 expected_agrees ports port_log log v from item h keeps = elim h [ ]
 

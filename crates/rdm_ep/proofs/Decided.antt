@@ -1,6 +1,6 @@
 -- What an endpoint decides is what the handling of a datagram says.
-use Rattle.std.proofs.Common.{◌≡◌, ℕ, zero, suc, ◌<◌, arith, Bool, true, false, not, ◌&&◌, List, [], ◌∷◌, Option, Some, None, refl, ◌∙◌, ap}
-use Rattle.std.specs.Prelude.{is_none, length, ◌==◌, is_some, find, slice_get, if◌then◌else◌}
+use Rattle.std.proofs.Common.{◌≡◌, Bool, true, false, not, ◌&&◌, [], ◌∷◌, Option, Some, None, refl, ◌∙◌, ap}
+use Rattle.std.specs.Prelude.{is_none, ◌==◌, if◌then◌else◌}
 use Rattle.rdm_num.specs.Lists.{first_case}
 use Rattle.rdm_num.specs.Lives.{life}
 use Rattle.rdm_num.specs.declared.numbers.Life.{Life}
@@ -17,22 +17,14 @@ use Rattle.rdm_model.specs.Deeds.{Item, Spelled, Asks, Gives, Garbled, item_of}
 use Rattle.rdm_model.specs.Sources.{is_other, is_malformed, has_raw}
 use Rattle.rdm_ep.specs.declared.answer.HandleAnswer.{HandleAnswer}
 use Rattle.rdm_ep.specs.declared.answer.HandleAnswer.TheVariants.{Took, Dropped, AgainEarly, AgainCopy, Memory}
-use Rattle.rdm_ep.specs.declared.state.Posted.{Posted}
 use Rattle.rdm_ep.specs.declared.state.Inbound.{Inbound}
 use Rattle.rdm_ep.specs.declared.state.Verdict.{Verdict}
 use Rattle.rdm_ep.specs.declared.state.Verdict.TheVariants.{Message}
-use Rattle.rdm_ep.specs.Places.{IsPlaced}
-use Rattle.rdm_ep.specs.Receiving.{takes}
 use Rattle.rdm_ep.specs.View.{EndpointView, current_in}
-use Rattle.rdm_ep.specs.Handling.{item_class_in, load_class, rtm_class, is_eager, is_met_in, class_answer_in, item_answer, needs_place_in, taken_in, after_take, with_item, after_answer, body_answer, after_body, HandlesAs}
-use Rattle.rdm_ep.specs.Verdicts.{accepted_of, verdict_of, verdict_in, verdict_answer, verdict_effect, with_features, waits_in, early_is_full, VerdictAs, IsFrom}
+use Rattle.rdm_ep.specs.Entering.{entered_by}
+use Rattle.rdm_ep.specs.Handling.{item_class_in, load_class, rtm_class, is_eager, class_answer_in, item_answer, needs_place_in, taken_in, after_take, with_item, after_answer, body_answer, after_body, HandlesAs}
+use Rattle.rdm_ep.specs.Verdicts.{accepted_of, verdict_of, verdict_in, verdict_answer, verdict_effect, with_features, waits_in, is_next_in, VerdictAs, IsFrom}
 use Rattle.rdm_ep.specs.Answers.{is_early}
-
--- a place within a list has an element
-get_some : {A : Type 0} (at : ℕ) (xs : List A) → at < length xs → is_some (slice_get xs at) ≡ true
-get_some at [] h = absurd (omega arith)
-get_some zero (x ∷ xs) h = refl
-get_some (suc at) (x ∷ xs) h = get_some at xs (omega arith)
 
 -- what has no class has none by the last word on it either
 pub unclassed_load : (a b c d : Bool) (x y z w : Class) (last : Option Class)
@@ -65,7 +57,7 @@ pub record IsTaken (v : EndpointView) (from : Life) (item : Item) : Type 0 where
 
 -- what has no class is taken, with its effect
 pub unclassed_taken : (v : EndpointView) (from : Life) (item : Item) → load_class v from item ≡ None → IsTaken v from item
-unfolding load_class rtm_class is_eager accepted_of class_answer_in verdict_answer verdict_effect waits_in early_is_full needs_place_in taken_in after_take with_item with_features
+unfolding load_class rtm_class is_eager accepted_of class_answer_in verdict_answer verdict_effect waits_in needs_place_in taken_in after_take with_item with_features
 unclassed_taken v from (Spelled (Rtm number tag opt (Eager bytes))) h = record { answer = refl; effect = λ w. refl }
 unclassed_taken v from (Spelled (Rtm number tag opt (Medium size offset bytes))) h = absurd (other_form _ _ h)
 unclassed_taken v from (Spelled (Rtm number tag opt (LongCts size send credits bytes))) h = absurd (other_form _ _ h)
@@ -132,7 +124,7 @@ verdict_from v from to item = decided_from from item (item_class_in v from to it
 -- a message would wait where its decision answers so
 pub early_waits : (v : EndpointView) (i : Inbound) → waits_in v i ≡ is_early (verdict_answer v (Message i))
 unfolding verdict_answer is_early
-early_waits v i = elim (waits_in v i) as (λ b. b ≡ is_early (if b then AgainEarly else Took (Some (record { first = i.no; count = 1 })))) [ true ↦ refl | false ↦ refl ]
+early_waits v i = elim (waits_in v i) as (λ b. b ≡ is_early (if b then AgainEarly else Took (entered_by (is_next_in v i) i v.held))) [ true ↦ refl | false ↦ refl ]
 
 -- a datagram stays where it is as its decision says
 pub early_of : (v : EndpointView) (d : Datagram) (from to : Connid) (load : Load) (verdict : Verdict) → d.body ≡ Between from to load
@@ -140,20 +132,12 @@ pub early_of : (v : EndpointView) (d : Datagram) (from to : Connid) (load : Load
 unfolding body_answer
 early_of v d from to load verdict e f = rw (f, e) (ap is_early (verdict_answers v (life d.src from) to (item_of load)))
 
--- a message that a receive takes enters
-pub met_answer : (v : EndpointView) (i : Inbound) (at : ℕ) → IsPlaced (λ p. takes p i) v.posted at → Took (Some (record { first = i.no; count = 1 })) ≡ verdict_answer v (Message i)
-unfolding verdict_answer waits_in is_met_in
-met_answer v i at h =
-    let is : is_some (find (λ (p : Posted). takes p i) v.posted) ≡ true = ap is_some h.found ∙ get_some at v.posted h.within in
-    rw is refl
+-- a message that would wait stays where it is
+pub again_answer : (v : EndpointView) (i : Inbound) → waits_in v i ≡ true → AgainEarly ≡ verdict_answer v (Message i)
+unfolding verdict_answer
+again_answer v i h = rw h refl
 
--- a message that no receive takes stays where it is, where as many wait as may
-pub full_answer : (v : EndpointView) (i : Inbound) → find (λ p. takes p i) v.posted ≡ None → early_is_full v ≡ true → AgainEarly ≡ verdict_answer v (Message i)
-unfolding verdict_answer waits_in is_met_in
-full_answer v i h f = rw (h, f) refl
-
--- and else it waits
-pub room_answer : (v : EndpointView) (i : Inbound) → find (λ p. takes p i) v.posted ≡ None → early_is_full v ≡ false
-    → Took (Some (record { first = i.no; count = 1 })) ≡ verdict_answer v (Message i)
-unfolding verdict_answer waits_in is_met_in
-room_answer v i h f = rw (h, f) refl
+-- and another one is taken
+pub took_answer : (v : EndpointView) (i : Inbound) (entered : Option Entered) → waits_in v i ≡ false → entered ≡ entered_by (is_next_in v i) i v.held → Took entered ≡ verdict_answer v (Message i)
+unfolding verdict_answer
+took_answer v i entered h e = rw (h, e) refl

@@ -1,216 +1,221 @@
--- Of plain deeds: the messages that have an early place are those that wait in the matcher.
-use Rattle.std.proofs.Common.{◌≡◌, Bool, true, false, cond, not, List, [], ◌∷◌, ◌++◌, map, Option, Some, None, refl, ap, ◌∙◌, sym, subst, inl, inr}
-use Rattle.std.specs.Prelude.{◌==◌, ◌&&◌, ◌||◌, find, filter, is_some}
-use Rattle.std.proofs.lemmas.Bool.{and_parts, eqb-true, eq-eqb, and_from, false_from_ne_true}
-use Rattle.std.proofs.lemmas.List.{append-nil, map-append}
+-- Of plain deeds: of the messages that were heard of, those that no pair has are as many as all but the pairs.
+use Rattle.std.proofs.Common.{◌≡◌, ℕ, zero, suc, ◌+◌, ◌≤◌, Bool, true, false, cond, not, List, [], ◌∷◌, ◌++◌, map, length, Option, Some, None, refl, arith, ap, ◌∙◌, sym, subst, inl, inr}
+use Rattle.std.specs.Prelude.{◌==◌, ◌&&◌, find, filter}
+use Rattle.std.proofs.lemmas.Bool.{and_parts, eqb-true, false_from_ne_true}
+use Rattle.std.proofs.lemmas.List.{map-append, length-append}
 use Rattle.std.proofs.lemmas.List.Elements.{filter-append}
-use Rattle.rdm_num.specs.Lists.{Member, or_else, without_first}
+use Rattle.rdm_num.specs.Lists.{Member, without_first, below}
 use Rattle.rdm_num.specs.Lives.{same_life}
 use Rattle.rdm_num.specs.declared.numbers.Life.{Life}
-use Rattle.rdm_num.specs.declared.head.Head.{Head}
-use Rattle.rdm_pkt.specs.declared.Packet.TheVariants.{Rtm}
 use Rattle.rdm_match.specs.declared.PostedRecv.{PostedRecv}
 use Rattle.rdm_match.specs.declared.Arrived.{Arrived}
-use Rattle.rdm_match.specs.Matcher.{Pair, Matching, accepts, after_post, after_arrive}
-use Rattle.rdm_model.specs.Deeds.{Deed, Took, Spelled}
-use Rattle.rdm_model.specs.Owns.{Own}
-use Rattle.rdm_model.specs.Heard.{head_by, heard_head, is_heard}
-use Rattle.rdm_model.specs.Completions.{Name, named_by, heard_names, is_matched}
+use Rattle.rdm_match.specs.Matcher.{Arrive, Pair, Matching, accepts, after_post, after_arrive, after, run}
+use Rattle.rdm_model.specs.declared.job.Instr.TheVariants.{Recv}
+use Rattle.rdm_model.specs.Deeds.{Deed, Did, Took}
+use Rattle.rdm_model.specs.Owns.{Own, Heads}
+use Rattle.rdm_model.specs.Heard.{has_entered, entering}
+use Rattle.rdm_model.specs.Matches.{receive, receives, matching}
+use Rattle.rdm_model.specs.Completions.{Name}
 use Rattle.rdm_model.specs.Local.{heads_by}
-use Rattle.rdm_model.proofs.Members.{member-append_cases, member-filter, member-map, find_member, without_member, same_life-true, same_life-refl, some_of}
-use Rattle.rdm_model.proofs.Matches.{arrived_heard, pair_heard, heard_still}
-use Rattle.rdm_ep.proofs.Options.{list_any-push, not_or}
-use Rattle.rdm_ep.proofs.Apart.{filter_all, filter_where, filter_both, list_any_none}
-use Rattle.rdm_ep.proofs.Pairs.{own_matching, met_by_post, met_by_arrive}
+use Rattle.rdm_model.proofs.Members.{member-append_cases, member-map, same_life-true}
+use Rattle.rdm_ep.specs.Plain.{IsPlain}
+use Rattle.rdm_ep.proofs.Apart.{filter_nothing, ApartBy, apart_push, apart_filter}
+use Rattle.rdm_ep.proofs.Entered.{entered_still}
+use Rattle.rdm_ep.proofs.Pairs.{own_matching, message_by, arriving, event_of, matching_step, arriving_enters}
 
--- the name of a message that arrived
-abbrev pub name_of : Arrived → Name
-name_of a = record { life = a.life; number = a.no.0 }
+-- how many elements pass
+abbrev pub count : {A : Type 0} → (A → Bool) → List A → ℕ
+count t xs = length (filter t xs)
 
 -- the message has that name
 abbrev pub named : Arrived → Name → Bool
 named a m = same_life a.life m.life && a.no.0 == m.number
 
--- the messages that were heard of and met no receive
-abbrev pub unmet_names : List Pair → List Name → List Name
-unmet_names ps names = filter (λ (m : Name). not (is_matched ps m)) names
+-- 1 where it holds
+unfoldable pub one_if : Bool → ℕ
+one_if true = 1
+one_if false = 0
 
--- no two messages have one name
-abbrev pub NamedApart : List Arrived → Type 0
-NamedApart [] = Unit {0}
-NamedApart (a ∷ as') = ((b : Arrived) → Member b as' → named a (name_of b) ≡ false) × NamedApart as'
+-- of one more, as many as before and it
+count_more : {A : Type 0} (t : A → Bool) (xs : List A) (x : A) → count t (xs ++ x ∷ []) ≡ count t xs + one_if (t x)
+unfolding one_if
+count_more t xs x =
+    ap length (filter-append t xs (x ∷ [])) ∙ length-append (filter t xs) (filter t (x ∷ []))
+    ∙ (elim (t x) as (λ b. count t xs + length (cond b (x ∷ []) []) ≡ count t xs + one_if b) [ true ↦ refl | false ↦ refl ])
 
--- messages of one name were both heard of or both not
-named_heard : (log : List Deed) (a : Arrived) (m : Name) → named a m ≡ true → is_heard log a.life a.no.0 ≡ is_heard log m.life m.number
-named_heard log a m e =
-    let p = and_parts (same_life a.life m.life) (a.no.0 == m.number) e in
-    ap (λ (l : Life). is_heard log l a.no.0) (same_life-true a.life m.life p.0) ∙ ap (is_heard log m.life) (eqb-true a.no.0 m.number p.1)
+-- the first one counts
+pub count_first : {A : Type 0} (t : A → Bool) (x : A) (xs : List A) → count t (x ∷ xs) ≡ one_if (t x) + count t xs
+unfolding one_if
+count_first t x xs = elim (t x) as (λ b. length (cond b (x ∷ filter t xs) (filter t xs)) ≡ one_if b + length (filter t xs)) [ true ↦ omega arith | false ↦ omega arith ]
 
--- a message that was heard of does not have the name of one that was not
-pub apart_by_heard : (log : List Deed) (a : Arrived) (m : Name) → is_heard log a.life a.no.0 ≡ true → is_heard log m.life m.number ≡ false → named a m ≡ false
-apart_by_heard log a m h n = false_from_ne_true (named a m) (λ e. let q = named_heard log a m e in cc)
-
--- and a message that was not heard of does not have the name of one that was
-pub apart_by_new : (log : List Deed) (a : Arrived) (m : Name) → is_heard log a.life a.no.0 ≡ false → is_heard log m.life m.number ≡ true → named a m ≡ false
-apart_by_new log a m n h = false_from_ne_true (named a m) (λ e. let q = named_heard log a m e in cc)
-
--- a message has its own name
-own_name : (a : Arrived) → named a (name_of a) ≡ true
-own_name a = and_from (same_life a.life a.life) (a.no.0 == a.no.0) (same_life-refl a.life) (eq-eqb a.no.0 a.no.0 refl)
-
--- the one does not have the name of the other where the other does not have its
-named_sym : (a b : Arrived) → named a (name_of b) ≡ false → named b (name_of a) ≡ false
-named_sym a b h =
-    false_from_ne_true (named b (name_of a)) (λ e.
-    let p = and_parts (same_life b.life a.life) (b.no.0 == a.no.0) e in
-    let l : b.life ≡ a.life = same_life-true b.life a.life p.0 in
-    let n : b.no.0 ≡ a.no.0 = eqb-true b.no.0 a.no.0 p.1 in
-    let t : named a (name_of b) ≡ true = and_from (same_life a.life b.life) (a.no.0 == b.no.0) (rw l (same_life-refl a.life)) (eq-eqb a.no.0 b.no.0 (sym n)) in
-    cc)
-
--- messages have names of their own with one more of another name
-apart_push : (as' : List Arrived) (a : Arrived) → NamedApart as' → ((b : Arrived) → Member b as' → named b (name_of a) ≡ false) → NamedApart (as' ++ a ∷ [])
-apart_push [] a p h = (λ b m. elim m [ ], tt)
-apart_push (c ∷ as') a p h = (
-  λ b m. elim (member-append_cases b as' (a ∷ []) m) [
-    | inl k ↦ p.0 b k
-    | inr k ↦ elim k [ inl is ↦ subst (λ (x : Arrived). named c (name_of x) ≡ false) is (h c (inl refl)) | inr never ↦ elim never [ ] ]
-  ],
-  apart_push as' a p.1 (λ b m. h b (inr m)),
-)
-
--- messages without one of them have names of their own
-apart_without : (t : Arrived → Bool) (as' : List Arrived) → NamedApart as' → NamedApart (without_first t as')
+-- without the first that passes another test
+count_without : {A : Type 0} (u t : A → Bool) (xs : List A) (x : A) → find u xs ≡ Some x → count t (without_first u xs) + one_if (t x) ≡ count t xs
 unfolding without_first
-apart_without t [] p = tt
-apart_without t (a ∷ as') p =
-    elim (t a) as (λ b. NamedApart (cond b as' (a ∷ without_first t as'))) [
-      | true ↦ p.1
-      | false ↦ (λ b m. p.0 b (without_member t b as' m), apart_without t as' p.1)
-    ]
-
--- without the name of the first message that passes is without that message
-without_name : (t : Arrived → Bool) (as' : List Arrived) (a : Arrived) → NamedApart as' → find t as' ≡ Some a
-    → filter (λ (m : Name). not (named a m)) (map name_of as') ≡ map name_of (without_first t as')
-unfolding without_first
-without_name t [] a p h = cc
-without_name t (z ∷ as') a p h =
-    (elim (t z) as (λ b. cond b (Some z) (find t as') ≡ Some a
-    → filter (λ (m : Name). not (named a m)) (name_of z ∷ map name_of as') ≡ map name_of (cond b as' (z ∷ without_first t as'))) [
+count_without u t [] x h = cc
+count_without {A} u t (y ∷ ys) x h =
+    (elim (u y) as (λ b. cond b (Some y) (find u ys) ≡ Some x → count t (cond b ys (y ∷ without_first u ys)) + one_if (t x) ≡ count t (y ∷ ys)) [
       | true ↦ λ k.
-          let is : z ≡ a = cc in
-          let e : named a (name_of z) ≡ true = subst (λ (x : Arrived). named x (name_of z) ≡ true) is (own_name z) in
-          let rest : filter (λ (m : Name). not (named a m)) (map name_of as') ≡ map name_of as' =
-          filter_all (λ (m : Name). not (named a m)) (map name_of as')
-          (λ m k. let r = member-map name_of m as' k in
-          let f : named a (name_of r.0) ≡ false = subst (λ (x : Arrived). named x (name_of r.0) ≡ false) is (p.0 r.0 r.1) in
-          subst (λ (x : Name). not (named a x) ≡ true) r.2 (ap not f)) in
-          rw (e, rest) refl
+          let is : y ≡ x = cc in
+          let c = count_first t y ys in
+          let e : one_if (t x) ≡ one_if (t y) = ap (λ z. one_if (t z)) (sym is) in
+          omega arith
       | false ↦ λ k.
-          let m = find_member t a as' k in
-          let e : named a (name_of z) ≡ false = named_sym z a (p.0 a m.0) in
-          let rest = without_name t as' a p.1 k in
-          rw (e, rest) refl
+          let r = count_without u t ys x k in
+          let c = count_first t y ys in
+          let d = count_first t y (without_first u ys) in
+          omega arith
     ]) h
 
--- whether a message is matched, with one pair more
-matched_push : (ps : List Pair) (q : Pair) (m : Name) → is_matched (ps ++ q ∷ []) m ≡ (is_matched ps m || named q.message m)
-unfolding is_matched
-matched_push ps q m = list_any-push (λ (p : Pair). same_life p.message.life m.life && p.message.no.0 == m.number) ps q
+-- how many messages of a matcher have the name
+abbrev pub occurs : Matching → Name → ℕ
+occurs m x = count (λ a. named a x) m.arrived + count (λ (p : Pair). named p.message x) m.pairs
 
--- without the message of a new pair
-unmet_push : (ps : List Pair) (q : Pair) (names : List Name)
-    → unmet_names (ps ++ q ∷ []) names ≡ filter (λ (m : Name). not (named q.message m)) (unmet_names ps names)
-unmet_push ps q names =
-    filter_where (λ (m : Name). not (is_matched (ps ++ q ∷ []) m)) (λ (m : Name). not (is_matched ps m) && not (named q.message m)) names
-    (λ m k. ap not (matched_push ps q m) ∙ not_or (is_matched ps m) (named q.message m))
-    ∙ filter_both (λ (m : Name). not (is_matched ps m)) (λ (m : Name). not (named q.message m)) names
+-- a post moves a message
+occurs_post : (m : Matching) (r : PostedRecv) (x : Name) (o : Option Arrived) → find (accepts r) m.arrived ≡ o → occurs (after_post m r o) x ≡ occurs m x
+unfolding after_post
+occurs_post m r x None e = refl
+occurs_post m r x (Some a) e =
+    let w = count_without (accepts r) (λ b. named b x) m.arrived a e in
+    let c = count_more (λ (p : Pair). named p.message x) m.pairs (record { recv = r; message = a }) in
+    omega arith
 
--- something is there with something after it
-some_after : {A : Type 0} (o : Option A) (x : A) → is_some (or_else o (Some x)) ≡ true
-unfolding or_else
-some_after None x = refl
-some_after (Some y) x = refl
+-- an arrival adds one
+occurs_arrive : (m : Matching) (a : Arrived) (x : Name) (o : Option PostedRecv) → occurs (after_arrive m a o) x ≡ occurs m x + one_if (named a x)
+unfolding after_arrive
+occurs_arrive m a x None = let c = count_more (λ b. named b x) m.arrived a in omega arith
+occurs_arrive m a x (Some r) = let c = count_more (λ (p : Pair). named p.message x) m.pairs (record { recv = r; message = a }) in omega arith
 
--- what was named was heard of
-named_by_heard : (before : List Deed) (d : Deed) (m : Name) → Member m (named_by before d) → is_heard (d ∷ before) m.life m.number ≡ true
-unfolding named_by is_heard heard_head head_by or_else
-named_by_heard before (Took from (Spelled (Rtm number tag opt form))) m k =
-    let f = member-filter (λ (x : Name). not (is_heard before x.life x.number)) m (record { life = from; number = number.0 } ∷ []) k in
-    elim f.0 [
-      | inl is ↦
-          subst (λ (x : Name). is_heard (Took from (Spelled (Rtm number tag opt form)) ∷ before) x.life x.number ≡ true) is
-          (let s = same_life-refl from in let e : (number.0 == number.0) ≡ true = eq-eqb number.0 number.0 refl in rw (s, e) (some_after (heard_head before from number.0) _))
-      | inr never ↦ elim never [ ]
-    ]
-named_by_heard before _ m k = elim k [ ]
+-- arrivals add as many as they have
+occurs_arrivals : (as' : List Arrived) (m : Matching) (x : Name) → occurs (run m (map Arrive as')) x ≡ occurs m x + count (λ a. named a x) as'
+unfolding run after
+occurs_arrivals [] m x = omega arith
+occurs_arrivals (a ∷ as') m x =
+    let o = find (λ r. accepts r a) m.posted in
+    let r = occurs_arrivals as' (after_arrive m a o) x in
+    let s = occurs_arrive m a x o in
+    let c = count_first (λ b. named b x) a as' in
+    omega arith
 
--- what was named in a log was heard of
-pub names_heard : (log : List Deed) (m : Name) → Member m (heard_names log) → is_heard log m.life m.number ≡ true
-unfolding heard_names is_heard
-names_heard [] m k = elim k [ ]
-names_heard (d ∷ before) m k =
-    elim (member-append_cases m (heard_names before) (named_by before d) k) [
-      | inl a ↦
-          let r = some_of (heard_head before m.life m.number) (names_heard before m a) in
-          ap (λ (o : Option Head). is_some o) (heard_still d before m.life m.number r.0 r.1)
-      | inr a ↦ named_by_heard before d m a
+-- a number below another one
+below_less : (n k : ℕ) → Member k (below n) → k + 1 ≤ n
+unfolding below
+below_less zero k m = elim m [ ]
+below_less (suc n) k m =
+    elim (member-append_cases k (below n) (n ∷ []) m) [
+      | inl a ↦ (let r = below_less n k a in omega arith)
+      | inr a ↦ elim a [ inl is ↦ omega arith | inr never ↦ elim never [ ] ]
     ]
 
--- the messages that wait and those that were named, of one log
-pub record EarlyAre (own : Own) (log : List Deed) : Type 0 where
-  pub apart : NamedApart (own_matching own log).arrived
-  pub names : unmet_names (own_matching own log).pairs (heard_names log) ≡ map name_of (own_matching own log).arrived
+-- numbers from one on are apart
+below_apart : (first n : ℕ) → ApartBy (λ (k : ℕ). k) (map (λ k. first + k) (below n))
+unfolding below
+below_apart first zero = tt
+below_apart first (suc n) =
+    subst (ApartBy (λ (k : ℕ). k)) (sym (map-append (λ (k : ℕ). first + k) (below n) (n ∷ [])))
+    (apart_push (λ (k : ℕ). k) (map (λ k. first + k) (below n)) (first + n) (below_apart first n)
+    (λ y m e. let r = member-map (λ (k : ℕ). first + k) y (below n) m in let l = below_less n r.0 r.1 in let q = r.2 in absurd (omega arith)))
 
--- a message that waits was heard of
-pub heard_arrived : (own : Own) (log : List Deed) (a : Arrived) → Member a (own_matching own log).arrived → is_heard log a.life a.no.0 ≡ true
-unfolding is_heard
-heard_arrived own log a m = ap (λ (o : Option Head). is_some o) ((arrived_heard own.limits.first (heads_by log) log).waiting a m).0.1
+-- of numbers that are apart one at most has a name
+count_apart : (heads : Heads) (from : Life) (ns : List ℕ) (x : Name) → ApartBy (λ (k : ℕ). k) ns → count (λ a. named a x) (map (message_by heads from) ns) ≤ 1
+unfolding one_if
+count_apart heads from [] x h = omega arith
+count_apart heads from (n ∷ ns) x h =
+    let rest = map (message_by heads from) ns in
+    let c = count_first (λ a. named a x) (message_by heads from n) rest in
+    let r = count_apart heads from ns x h.1 in
+    (elim (named (message_by heads from n) x) as (λ b. named (message_by heads from n) x ≡ b → count (λ a. named a x) (map (message_by heads from) (n ∷ ns)) ≤ 1) [
+      | true ↦ λ e.
+          let none : filter (λ a. named a x) rest ≡ [] =
+          filter_nothing (λ a. named a x) rest (λ a m.
+          let q = member-map (message_by heads from) a ns m in
+          false_from_ne_true (named a x) (λ t.
+          let y : n ≡ x.number = eqb-true n x.number (and_parts (same_life from x.life) (n == x.number) e).1 in
+          let z : a.no.0 ≡ x.number = eqb-true a.no.0 x.number (and_parts (same_life a.life x.life) (a.no.0 == x.number) t).1 in
+          let w : q.0 ≡ a.no.0 = ap (λ (b : Arrived). b.no.0) q.2 in
+          h.0 q.0 q.1 (w ∙ z ∙ sym y))) in
+          let l = ap length none in
+          let v = ap one_if e in
+          omega arith
+      | false ↦ λ e. (let v = ap one_if e in omega arith)
+    ]) refl
 
--- a message of a pair was heard of
-pub heard_paired : (own : Own) (log : List Deed) (p : Pair) → Member p (own_matching own log).pairs → is_heard log p.message.life p.message.no.0 ≡ true
-unfolding is_heard
-heard_paired own log p m = ap (λ (o : Option Head). is_some o) (pair_heard own.limits.first (heads_by log) log p m).1
+-- no message of a name that has not entered, and one at most of each
+pub record AtMostOne (own : Own) (log : List Deed) (x : Name) : Type 0 where
+  pub none : has_entered own.limits.first log x.life x.number ≡ false → occurs (own_matching own log) x ≡ 0
+  pub most : occurs (own_matching own log) x ≤ 1
 
--- a receive that finds a message, or none
-pub post_early : (names : List Name) (m : Matching) (r : PostedRecv) (o : Option Arrived) → find (accepts r) m.arrived ≡ o → NamedApart m.arrived
-    → unmet_names m.pairs names ≡ map name_of m.arrived
-    → NamedApart (after_post m r o).arrived × (unmet_names (m.pairs ++ met_by_post r o) names ≡ map name_of (after_post m r o).arrived)
-unfolding after_post met_by_post
-post_early names m r None e p h = (p, rw (append-nil m.pairs) h)
-post_early names m r (Some a) e p h = (
-  apart_without (accepts r) m.arrived p,
-  unmet_push m.pairs (record { recv = r; message = a }) names ∙ ap (filter (λ (x : Name). not (named a x))) h ∙ without_name (accepts r) m.arrived a p e,
-)
+-- none is counted where none has the name
+counted_none : (as' : List Arrived) (x : Name) → ((a : Arrived) → Member a as' → named a x ≡ true → ⊥) → count (λ a. named a x) as' ≡ 0
+counted_none as' x h = ap length (filter_nothing (λ a. named a x) as' (λ a m. false_from_ne_true (named a x) (h a m)))
 
--- a message that no receive takes, or one
-pub arrive_early : (names : List Name) (m : Matching) (a : Arrived) (o : Option PostedRecv) → NamedApart m.arrived
-    → ((b : Arrived) → Member b m.arrived → named b (name_of a) ≡ false) → ((p : Pair) → Member p m.pairs → named p.message (name_of a) ≡ false)
-    → ((x : Name) → Member x names → named a x ≡ false) → unmet_names m.pairs names ≡ map name_of m.arrived
-    → NamedApart (after_arrive m a o).arrived × (unmet_names (m.pairs ++ met_by_arrive a o) (names ++ name_of a ∷ []) ≡ map name_of (after_arrive m a o).arrived)
-unfolding after_arrive met_by_arrive is_matched
-arrive_early names m a None p other paired new h = (
-  apart_push m.arrived a p other,
-  (let none : is_matched m.pairs (name_of a) ≡ false = list_any_none (λ (q : Pair). named q.message (name_of a)) m.pairs paired in
-      ap (λ (ps : List Pair). unmet_names ps (names ++ name_of a ∷ [])) (append-nil m.pairs)
-      ∙ filter-append (λ (x : Name). not (is_matched m.pairs x)) names (name_of a ∷ [])
-      ∙ ap (λ (b : Bool). unmet_names m.pairs names ++ cond (not b) (name_of a ∷ []) []) none
-      ∙ ap (λ (xs : List Name). xs ++ name_of a ∷ []) h ∙ sym (map-append name_of m.arrived (a ∷ []))),
-)
-arrive_early names m a (Some r) p other paired new h = (
-  p,
-  (let q : Pair = record { recv = r; message = a } in
-      let mine = own_name a in
-      let rest : filter (λ (x : Name). not (named a x)) (unmet_names m.pairs names) ≡ unmet_names m.pairs names =
-      filter_all (λ (x : Name). not (named a x)) (unmet_names m.pairs names) (λ x k. ap not (new x (member-filter (λ (y : Name). not (is_matched m.pairs y)) x names k).0)) in
-      unmet_push m.pairs q (names ++ name_of a ∷ [])
-      ∙ ap (filter (λ (x : Name). not (named a x))) (filter-append (λ (x : Name). not (is_matched m.pairs x)) names (name_of a ∷ []))
-      ∙ filter-append (λ (x : Name). not (named a x)) (unmet_names m.pairs names) (unmet_names m.pairs (name_of a ∷ []))
-      ∙ ap (λ (xs : List Name). xs ++ filter (λ (x : Name). not (named a x)) (unmet_names m.pairs (name_of a ∷ []))) (rest ∙ h)
-      ∙ ap (λ (xs : List Name). map name_of m.arrived ++ xs)
-      (elim (is_matched m.pairs (name_of a)) as (λ b. filter (λ (x : Name). not (named a x)) (cond (not b) (name_of a ∷ []) []) ≡ []) [
-        | true ↦ refl
-        | false ↦ rw mine refl
-      ])
-      ∙ append-nil (map name_of m.arrived)),
-)
+-- a message that arrives under a name enters under it
+arrives_named : (own : Own) (d : Deed) (before : List Deed) (a : Arrived) (x : Name) → Member a (arriving own d before) → named a x ≡ true
+    → (has_entered own.limits.first (d ∷ before) x.life x.number ≡ true) × (has_entered own.limits.first before x.life x.number ≡ false)
+arrives_named own d before a x m t =
+    let e = arriving_enters own d before a m in
+    let p = and_parts (same_life a.life x.life) (a.no.0 == x.number) t in
+    let l = same_life-true a.life x.life p.0 in
+    let n = eqb-true a.no.0 x.number p.1 in
+    let now : Life → ℕ → Type 0 = λ y k. has_entered own.limits.first (d ∷ before) y k ≡ true in
+    let was : Life → ℕ → Type 0 = λ y k. has_entered own.limits.first before y k ≡ false in
+    (subst (λ k. now x.life k) n (subst (λ y. now y a.no.0) l e.entered), subst (λ k. was x.life k) n (subst (λ y. was y a.no.0) l e.not_before))
+
+-- one message of a name arrives by a deed at most
+arriving_once : (own : Own) (d : Deed) (before : List Deed) (x : Name) → count (λ a. named a x) (arriving own d before) ≤ 1
+unfolding arriving entering
+arriving_once own (Took from item) before x =
+    let d = Took from item in
+    let p = λ (n : ℕ). has_entered own.limits.first (d ∷ before) from n && not (has_entered own.limits.first before from n) in
+    count_apart (heads_by (d ∷ before)) from (filter p (map (λ k. own.limits.first + k) (below (length (d ∷ before))))) x
+    (apart_filter (λ (k : ℕ). k) p (map (λ k. own.limits.first + k) (below (length (d ∷ before)))) (below_apart own.limits.first (length (d ∷ before))))
+arriving_once own _ before x = omega arith
+
+-- what had not entered before had not where it has not now
+not_entered : (first : ℕ) (d : Deed) (before : List Deed) (source : Life) (n : ℕ) → has_entered first (d ∷ before) source n ≡ false → has_entered first before source n ≡ false
+not_entered first d before source n h = false_from_ne_true (has_entered first before source n) (λ e. let f = entered_still first d before source n e in cc)
+
+-- after messages that arrived by a deed
+most_arrived : (own : Own) (d : Deed) (before : List Deed) (x : Name) → AtMostOne own before x
+    → (has_entered own.limits.first (d ∷ before) x.life x.number ≡ false → occurs (run (own_matching own before) (map Arrive (arriving own d before))) x ≡ 0)
+    × (occurs (run (own_matching own before) (map Arrive (arriving own d before))) x ≤ 1)
+most_arrived own d before x k =
+    let o = occurs_arrivals (arriving own d before) (own_matching own before) x in
+    let once = arriving_once own d before x in (
+      λ e.
+          let c = counted_none (arriving own d before) x (λ a m t. let z = (arrives_named own d before a x m t).0 in cc) in
+          let n = k.none (not_entered own.limits.first d before x.life x.number e) in
+          omega arith,
+      (elim (has_entered own.limits.first before x.life x.number) as (λ b. has_entered own.limits.first before x.life x.number ≡ b
+          → occurs (run (own_matching own before) (map Arrive (arriving own d before))) x ≤ 1) [
+            | true ↦ λ e.
+                let c = counted_none (arriving own d before) x (λ a m t. let z = (arrives_named own d before a x m t).1 in cc) in
+                let n = k.most in
+                omega arith
+            | false ↦ λ e. let n = k.none e in omega arith
+          ]) refl,
+    )
+
+-- after a plain deed
+most_after : (own : Own) (d : Deed) (before : List Deed) (x : Name) → AtMostOne own before x
+    → (has_entered own.limits.first (d ∷ before) x.life x.number ≡ false → occurs (run (own_matching own before) (event_of own d before)) x ≡ 0)
+    × (occurs (run (own_matching own before) (event_of own d before)) x ≤ 1)
+unfolding event_of run after
+most_after own (Did (Recv req)) before x k =
+    let m = own_matching own before in
+    let r = (receive (length (receives before)) before req).posted in
+    let o = occurs_post m r x (find (accepts r) m.arrived) refl in
+    let n = k.most in
+    (λ e. (let z = k.none (not_entered own.limits.first (Did (Recv req)) before x.life x.number e) in omega arith), omega arith)
+most_after own d before x k = most_arrived own d before x k
+
+-- no name has two messages
+pub at_most_one : (own : Own) (log : List Deed) (x : Name) → IsPlain own log → AtMostOne own log x
+unfolding matching
+at_most_one own [] x h = record { none = λ e. refl; most = omega arith }
+at_most_one own (d ∷ before) x h =
+    let k = most_after own d before x (at_most_one own before x h.0) in
+    let step = matching_step own d before h in
+    record {
+      none = λ e. ap (λ (m : Matching). occurs m x) step ∙ k.0 e;
+      most = subst (λ (m : Matching). occurs m x ≤ 1) (sym step) k.1;
+    }

@@ -1,126 +1,172 @@
--- Of plain deeds: a message enters when it is heard of.
-use Rattle.std.proofs.Common.{◌≡◌, ℕ, zero, suc, ◌+◌, ◌-◌, ◌<◌, Bool, true, false, not, List, [], ◌∷◌, map, length, Option, Some, None, refl, arith, inl, inr, ap, ◌∙◌, sym}
-use Rattle.std.specs.Prelude.{◌==◌, ◌&&◌, nat_le, is_some, filter}
-use Rattle.std.specs.Bool.{then_some}
-use Rattle.rdm_pkt.specs.Heads.{head_of}
-use Rattle.std.proofs.lemmas.Bool.{eq-eqb, le-leb, cases_eq, and_right, false_from_ne_true}
-use Rattle.std.proofs.lemmas.List.{map-append}
+-- Which numbers of a life have entered, where the least one is known that was not heard of.
+use Rattle.std.proofs.Common.{◌≡◌, ℕ, zero, suc, ◌+◌, ◌-◌, ◌<◌, ◌≤◌, Bool, true, false, cond, not, inl, inr, List, [], ◌∷◌, ◌++◌, map, length, refl, arith, ap, ◌∙◌, sym, subst}
+use Rattle.std.specs.Prelude.{◌==◌, ◌&&◌, nat_le, nat_lt, filter, min}
+use Rattle.std.proofs.lemmas.Bool.{eq-eqb, ne_eqb, le-leb, lt-leb, lt-ltb, le-ltb, cases_lt, cases_eq, and_right, false_from_ne_true}
+use Rattle.std.proofs.lemmas.List.{append-nil, map-append}
 use Rattle.std.proofs.lemmas.List.Elements.{filter-append}
-use Rattle.rdm_num.specs.Lists.{or_else, below, each_below}
-use Rattle.rdm_num.specs.Lives.{same_life}
+use Rattle.rdm_num.specs.Lists.{below, each_below}
 use Rattle.rdm_num.specs.declared.numbers.Life.{Life}
-use Rattle.rdm_num.specs.declared.numbers.MsgNo.{MsgNo}
-use Rattle.rdm_num.specs.declared.numbers.Connid.{Connid}
-use Rattle.rdm_hdr.specs.declared.Opt.{Opt}
-use Rattle.rdm_pkt.specs.declared.Packet.TheVariants.{Rtm, Handshake}
-use Rattle.rdm_pkt.specs.declared.Form.TheVariants.{Eager}
-use Rattle.rdm_model.specs.Deeds.{Deed, Took, Spelled}
-use Rattle.rdm_model.specs.Owns.{Own}
-use Rattle.rdm_model.specs.Heard.{head_by, heard_head, is_heard, heard_below, has_entered, is_next_number, entering}
-use Rattle.rdm_model.specs.Local.{heads_by}
-use Rattle.rdm_ep.specs.Plain.{IsPlain}
-use Rattle.rdm_model.proofs.Members.{some_of, same_life-refl}
-use Rattle.rdm_ep.proofs.Told.{heard_came}
+use Rattle.rdm_model.specs.Deeds.{Deed}
+use Rattle.rdm_model.specs.Heard.{is_heard, heard_below, has_entered, is_next_number, entering}
+use Rattle.rdm_model.proofs.Members.{each_below_at}
+use Rattle.rdm_model.proofs.Lists.{each_below_from}
 
--- only the first message of a life was heard of
-pub heard_first : (own : Own) (log : List Deed) (source : Life) (n : ℕ) → IsPlain own log → is_heard log source n ≡ true → n ≡ own.limits.first
-unfolding is_heard
-heard_first own log source n h is =
-    let r = some_of (heard_head log source n) is in
-    (heard_came own (heads_by log) log source n r.0 h r.1).is_first
+-- the least number of a life that was not heard of
+pub record IsNext (first : ℕ) (log : List Deed) (source : Life) (next : ℕ) : Type 0 where
+  pub from : first ≤ next
+  pub below : (n : ℕ) → first ≤ n → n < next → is_heard log source n ≡ true
+  pub at : is_heard log source next ≡ false
 
--- all numbers below the first one were heard of
-pub first_below : (own : Own) (log : List Deed) (source : Life) → heard_below own.limits.first log source own.limits.first ≡ true
-unfolding heard_below each_below
-first_below own log source =
-    let a : nat_le own.limits.first own.limits.first ≡ true = le-leb own.limits.first own.limits.first (omega arith) in
-    let b : own.limits.first - own.limits.first ≡ 0 = omega arith in
+-- all numbers below the next one were heard of
+below_heard : (first : ℕ) (log : List Deed) (source : Life) (next n : ℕ) → IsNext first log source next → first ≤ n → n ≤ next → heard_below first log source n ≡ true
+unfolding heard_below
+below_heard first log source next n h low high =
+    let a : nat_le first n ≡ true = le-leb first n low in
+    let b : each_below (λ k. is_heard log source (first + k)) (n - first) ≡ true =
+    each_below_from (λ k. is_heard log source (first + k)) (n - first) (λ k lt. h.below (first + k) (omega arith) (omega arith)) in
     rw (a, b) refl
 
--- what was heard of has entered
-pub entered_is : (own : Own) (log : List Deed) (source : Life) (n : ℕ) → IsPlain own log → has_entered own.limits.first log source n ≡ is_heard log source n
+-- not all numbers below a greater one were
+past_unheard : (first : ℕ) (log : List Deed) (source : Life) (next n : ℕ) → IsNext first log source next → next < n → heard_below first log source n ≡ false
+unfolding heard_below
+past_unheard first log source next n h past =
+    let f = h.from in
+    let b : each_below (λ k. is_heard log source (first + k)) (n - first) ≡ false =
+    false_from_ne_true (each_below (λ k. is_heard log source (first + k)) (n - first)) (λ e.
+    let x = each_below_at (λ k. is_heard log source (first + k)) (n - first) (next - first) e (omega arith) in
+    let same : first + (next - first) ≡ next = omega arith in
+    let y : is_heard log source next ≡ true = subst (λ k. is_heard log source k ≡ true) same x in
+    let z = h.at in
+    cc) in
+    rw b (and_right (nat_le first n) false refl)
+
+-- and none below one that is below the first
+low_unheard : (first : ℕ) (log : List Deed) (source : Life) (n : ℕ) → n < first → heard_below first log source n ≡ false
+unfolding heard_below
+low_unheard first log source n h = let a : nat_le first n ≡ false = lt-leb first n h in rw a refl
+
+-- the numbers from the first one to the next one have entered
+pub entered_is : (first : ℕ) (log : List Deed) (source : Life) (next n : ℕ) → IsNext first log source next
+    → has_entered first log source n ≡ (nat_le first n && nat_lt n next)
 unfolding has_entered
-entered_is own log source n h =
-    elim (cases_eq n own.limits.first) [
-      | inl e ↦ (let b = first_below own log source in rw (e, b) refl)
-      | inr ne ↦
-          let no : is_heard log source n ≡ false = false_from_ne_true (is_heard log source n) (λ is. ne (heard_first own log source n h is)) in
-          rw no (and_right (heard_below own.limits.first log source n) false refl)
+entered_is first log source next n h =
+    elim (cases_lt n first) [
+      | inl low ↦
+          let a = low_unheard first log source n low in
+          let b : nat_le first n ≡ false = lt-leb first n low in
+          rw (a, b) refl
+      | inr from ↦ elim (cases_lt n next) [
+        | inl less ↦
+            let a = below_heard first log source next n h from (omega arith) in
+            let b = h.below n from less in
+            let c : nat_le first n ≡ true = le-leb first n from in
+            let d : nat_lt n next ≡ true = lt-ltb n next less in
+            rw (a, b, c, d) refl
+        | inr more ↦
+            let c : nat_le first n ≡ true = le-leb first n from in
+            let d : nat_lt n next ≡ false = le-ltb n next more in
+            elim (cases_eq n next) [
+              | inl same ↦
+                  let e : is_heard log source n ≡ false = subst (λ k. is_heard log source k ≡ false) (sym same) h.at in
+                  rw (c, d, e) (and_right (heard_below first log source n) false refl)
+              | inr other ↦
+                  let e = past_unheard first log source next n h (omega arith) in
+                  rw (c, d, e) refl
+            ]
+      ]
     ]
 
--- the first number of a life is the next one until it was heard of
-pub next_is : (own : Own) (log : List Deed) (source : Life) → is_next_number own.limits.first log source own.limits.first ≡ not (is_heard log source own.limits.first)
+-- the next number is that one
+pub next_is : (first : ℕ) (log : List Deed) (source : Life) (next n : ℕ) → IsNext first log source next → is_next_number first log source n ≡ (n == next)
 unfolding is_next_number
-next_is own log source = let b = first_below own log source in rw b refl
+next_is first log source next n h =
+    elim (cases_eq n next) [
+      | inl same ↦
+          let f = h.from in
+          let a = below_heard first log source next n h (omega arith) (omega arith) in
+          let b : is_heard log source n ≡ false = subst (λ k. is_heard log source k ≡ false) (sym same) h.at in
+          let c : (n == next) ≡ true = eq-eqb n next same in
+          rw (a, b, c) refl
+      | inr other ↦
+          let c : (n == next) ≡ false = ne_eqb n next other in
+          elim (cases_lt n first) [
+            | inl low ↦ (let a = low_unheard first log source n low in rw (a, c) refl)
+            | inr from ↦ elim (cases_lt n next) [
+              | inl less ↦ (let b = h.below n from less in rw (b, c) (and_right (heard_below first log source n) false refl))
+              | inr more ↦ (let a = past_unheard first log source next n h (omega arith) in rw (a, c) refl)
+            ]
+          ]
+    ]
 
--- no number below the bound passes
-filter_none : (p : ℕ → Bool) (first n : ℕ) → ((k : ℕ) → p (first + k) ≡ false) → filter p (map (λ k. first + k) (below n)) ≡ []
+-- one more number
+below_more : (f : ℕ → ℕ) (n : ℕ) → map f (below (suc n)) ≡ map f (below n) ++ f n ∷ []
 unfolding below
-filter_none p first zero h = refl
-filter_none p first (suc n) h =
-    ap (λ (xs : List ℕ). filter p xs) (map-append (λ (k : ℕ). first + k) (below n) (n ∷ [])) ∙ filter-append p (map (λ k. first + k) (below n)) ((first + n) ∷ [])
-    ∙ (let a = filter_none p first n h in let b = h n in rw (a, b) refl)
+below_more f n = map-append f (below n) (n ∷ [])
 
--- the first number alone passes
-filter_zero : (p : ℕ → Bool) (first n : ℕ) → p first ≡ true → ((k : ℕ) → 0 < k → p (first + k) ≡ false)
-    → filter p (map (λ k. first + k) (below (suc n))) ≡ first ∷ []
+-- a list and nothing more
+nothing_more : {xs ys : List ℕ} → xs ≡ ys → xs ++ [] ≡ ys
+nothing_more {xs} {ys} e = append-nil xs ∙ e
+
+-- the numbers of a range that pass a test, where those from one place to another do
+filter_range : (p : ℕ → Bool) (first a b n : ℕ) → a ≤ b → ((k : ℕ) → p (first + k) ≡ (nat_lt k b && not (nat_lt k a)))
+    → filter p (map (λ k. first + k) (below n)) ≡ map (λ k. first + a + k) (below (min b n - a))
 unfolding below
-filter_zero p first zero h g = let e : first + 0 ≡ first = omega arith in rw (e, h) refl
-filter_zero p first (suc n) h g =
-    ap (λ (xs : List ℕ). filter p xs) (map-append (λ (k : ℕ). first + k) (below (suc n)) (suc n ∷ [])) ∙ filter-append p (map (λ k. first + k) (below (suc n))) ((first + suc n) ∷ [])
-    ∙ (let a = filter_zero p first n h g in let b = g (suc n) (omega arith) in rw (a, b) refl)
+filter_range p first a b zero le h = let e : min b 0 - a ≡ 0 = omega arith in rw e refl
+filter_range p first a b (suc n) le h =
+    let earlier = filter_range p first a b n le h in
+    let t = h n in
+    ap (filter p) (below_more (λ k. first + k) n) ∙ filter-append p (map (λ k. first + k) (below n)) ((first + n) ∷ [])
+    ∙ (elim (cases_lt n b) [
+      | inr past ↦
+          let c : nat_lt n b ≡ false = le-ltb n b past in
+          let no : p (first + n) ≡ false = t ∙ ap (λ x. x && not (nat_lt n a)) c in
+          let m : min b (suc n) - a ≡ min b n - a = omega arith in
+          ap (λ x. filter p (map (λ k. first + k) (below n)) ++ cond x ((first + n) ∷ []) []) no ∙ nothing_more earlier ∙ ap (λ x. map (λ k. first + a + k) (below x)) (sym m)
+      | inl less ↦ elim (cases_lt n a) [
+        | inl low ↦
+            let c : nat_lt n a ≡ true = lt-ltb n a low in
+            let no : p (first + n) ≡ false = t ∙ ap (λ x. nat_lt n b && not x) c ∙ and_right (nat_lt n b) false refl in
+            let m : min b (suc n) - a ≡ min b n - a = omega arith in
+            ap (λ x. filter p (map (λ k. first + k) (below n)) ++ cond x ((first + n) ∷ []) []) no ∙ nothing_more earlier ∙ ap (λ x. map (λ k. first + a + k) (below x)) (sym m)
+        | inr high ↦
+            let c : nat_lt n b ≡ true = lt-ltb n b less in
+            let d : nat_lt n a ≡ false = le-ltb n a high in
+            let yes : p (first + n) ≡ true = t ∙ (rw (c, d) refl) in
+            let m : min b (suc n) - a ≡ suc (n - a) = omega arith in
+            let l : min b n - a ≡ n - a = omega arith in
+            let same : first + a + (n - a) ≡ first + n = omega arith in
+            ap (λ x. filter p (map (λ k. first + k) (below n)) ++ cond x ((first + n) ∷ []) []) yes
+            ∙ ap (λ (xs : List ℕ). xs ++ (first + n) ∷ []) (earlier ∙ ap (λ x. map (λ k. first + a + k) (below x)) l)
+            ∙ ap (λ x. map (λ k. first + a + k) (below (n - a)) ++ x ∷ []) (sym same)
+            ∙ sym (below_more (λ k. first + a + k) (n - a)) ∙ ap (λ x. map (λ k. first + a + k) (below x)) (sym m)
+      ]
+    ])
 
--- a deed that tells nothing of a message leaves whether it was heard of
-heard_same : (d : Deed) (before : List Deed) (source : Life) (n : ℕ) → head_by source n d ≡ None → is_heard (d ∷ before) source n ≡ is_heard before source n
-unfolding is_heard heard_head or_else
-heard_same d before source n h =
-    rw h (elim (heard_head before source n) as (λ o. is_some (or_else o None) ≡ is_some o) [ None ↦ refl | Some x ↦ refl ])
+-- a number below another, both less the first
+shifted : (first k n : ℕ) → first ≤ n → nat_lt (first + k) n ≡ nat_lt k (n - first)
+shifted first k n h =
+    elim (cases_lt (first + k) n) [
+      | inl less ↦ (let a : nat_lt (first + k) n ≡ true = lt-ltb (first + k) n less in let b : nat_lt k (n - first) ≡ true = lt-ltb k (n - first) (omega arith) in rw (a, b) refl)
+      | inr more ↦ (let a : nat_lt (first + k) n ≡ false = le-ltb (first + k) n more in let b : nat_lt k (n - first) ≡ false = le-ltb k (n - first) (omega arith) in rw (a, b) refl)
+    ]
 
--- a message is heard of by its packet
-heard_now : (before : List Deed) (from : Life) (number : MsgNo) (tag : Option ℕ) (opt : Opt) (bytes : List ℕ) (n : ℕ) → number.0 ≡ n
-    → is_heard before from n ≡ false → is_heard (Took from (Spelled (Rtm number tag opt (Eager bytes))) ∷ before) from n ≡ true
-unfolding is_heard heard_head head_by or_else
-heard_now before from number tag opt bytes n e h =
-    let s = same_life-refl from in
-    let q : (number.0 == n) ≡ true = eq-eqb number.0 n e in
-    (elim (heard_head before from n) as (λ o. is_some o ≡ false → is_some (or_else o (then_some (same_life from from && number.0 == n) (head_of tag opt (Eager bytes)))) ≡ true) [
-      | None ↦ λ k. rw (s, q) refl
-      | Some x ↦ λ k. cc
-    ]) h
-
--- a first message enters by its packet
-pub entering_new : (own : Own) (before : List Deed) (from : Life) (number : MsgNo) (tag : Option ℕ) (opt : Opt) (bytes : List ℕ)
-    → IsPlain own (Took from (Spelled (Rtm number tag opt (Eager bytes))) ∷ before)
-    → entering own.limits.first (Took from (Spelled (Rtm number tag opt (Eager bytes)))) before from ≡ number.0 ∷ []
+-- the numbers that enter by a deed: from the next one to the one that is next then
+pub entering_is : (first : ℕ) (d : Deed) (before : List Deed) (source : Life) (was now : ℕ) → IsNext first before source was → IsNext first (d ∷ before) source now
+    → was ≤ now → now ≤ first + length (d ∷ before) → entering first d before source ≡ map (λ k. was + k) (below (now - was))
 unfolding entering
-entering_new own before from number tag opt bytes h =
-    let d = Took from (Spelled (Rtm number tag opt (Eager bytes))) in
-    let first = own.limits.first in
-    let p = λ (n : ℕ). has_entered first (d ∷ before) from n && not (has_entered first before from n) in
-    let a = entered_is own (d ∷ before) from first h in
-    let b = entered_is own before from first h.0 in
-    let was : is_heard before from first ≡ false = rw (← h.1.0) h.1.1 in
-    let is : is_heard (d ∷ before) from first ≡ true = heard_now before from number tag opt bytes first h.1.0 was in
-    filter_zero p first (length before) (rw (a, b, was, is) refl)
-    (λ k lt.
-    let no : is_heard (d ∷ before) from (first + k) ≡ false =
-    false_from_ne_true (is_heard (d ∷ before) from (first + k)) (λ is. let e = heard_first own (d ∷ before) from (first + k) h is in absurd (omega arith)) in
-    let c = entered_is own (d ∷ before) from (first + k) h in
-    rw (c, no) refl)
-    ∙ ap (λ (n : ℕ). n ∷ []) (sym h.1.0)
-
--- nothing enters by a handshake
-pub entering_none : (own : Own) (before : List Deed) (from : Life) (words : List ℕ) (connid : Connid)
-    → IsPlain own (Took from (Spelled (Handshake words connid)) ∷ before)
-    → entering own.limits.first (Took from (Spelled (Handshake words connid))) before from ≡ []
-unfolding entering head_by
-entering_none own before from words connid h =
-    let d = Took from (Spelled (Handshake words connid)) in
-    let first = own.limits.first in
-    let p = λ (n : ℕ). has_entered first (d ∷ before) from n && not (has_entered first before from n) in
-    filter_none p first (length (d ∷ before))
-    (λ k.
-    let a = entered_is own (d ∷ before) from (first + k) h in
-    let b = entered_is own before from (first + k) h.0 in
-    let e = heard_same d before from (first + k) refl in
-    rw (a, b, e) (elim (is_heard before from (first + k)) as (λ x. (x && not x) ≡ false) [ true ↦ refl | false ↦ refl ]))
+entering_is first d before source was now w n le within =
+    let f = w.from in
+    let p = λ (x : ℕ). has_entered first (d ∷ before) source x && not (has_entered first before source x) in
+    let each : (k : ℕ) → p (first + k) ≡ (nat_lt k (now - first) && not (nat_lt k (was - first))) =
+    λ k.
+    let a = entered_is first (d ∷ before) source now (first + k) n in
+    let b = entered_is first before source was (first + k) w in
+    let low : nat_le first (first + k) ≡ true = le-leb first (first + k) (omega arith) in
+    let x : nat_lt (first + k) now ≡ nat_lt k (now - first) = shifted first k now (omega arith) in
+    let y : nat_lt (first + k) was ≡ nat_lt k (was - first) = shifted first k was f in
+    rw (a, b, low, x, y) refl in
+    let size : min (now - first) (length (d ∷ before)) - (was - first) ≡ now - was = omega arith in
+    let start : first + (was - first) ≡ was = omega arith in
+    filter_range p first (was - first) (now - first) (length (d ∷ before)) (omega arith) each
+    ∙ ap (λ x. map (λ k. first + (was - first) + k) (below x)) size
+    ∙ ap (λ x. map (λ k. x + k) (below (now - was))) start

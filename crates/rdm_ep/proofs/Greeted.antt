@@ -138,7 +138,17 @@ greeted_told from peers word life = peer_kept (λ p. p.greeted) (known_peer word
 pub sent_met : (from : Life) (peers : List Peer) (life : Life) → (peer_in (greeted_peers from peers) life).sent ≡ (peer_in peers life).sent
 sent_met from peers life = greeted_keeps (λ p. p.sent) from peers life (λ p. refl)
 
+-- and how many numbers have entered
+pub entered_met : (from : Life) (peers : List Peer) (life : Life) → (peer_in (greeted_peers from peers) life).entered ≡ (peer_in peers life).entered
+entered_met from peers life = greeted_keeps (λ p. p.entered) from peers life (λ p. refl)
+
 -- and so do features that are told
+pub entered_told : (from : Life) (peers : List Peer) (word : Option ℕ) (life : Life)
+    → (peer_in (with_peer (known_peer word) from (greeted_peers from peers)) life).entered ≡ (peer_in peers life).entered
+entered_told from peers word life =
+    peer_kept (λ p. p.entered) (known_peer word) from (greeted_peers from peers) life (λ p. refl) (λ p. refl) ∙ entered_met from peers life
+
+-- the same of what was sent
 pub sent_told : (from : Life) (peers : List Peer) (word : Option ℕ) (life : Life)
     → (peer_in (with_peer (known_peer word) from (greeted_peers from peers)) life).sent ≡ (peer_in peers life).sent
 sent_told from peers word life =

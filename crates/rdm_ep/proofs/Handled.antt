@@ -1,7 +1,7 @@
 -- What an endpoint answers to a datagram is what the definitions say, and what it keeps then.
-use Rattle.std.proofs.Common.{◌≡◌, ℕ, Bool, true, false, cond, not, List, [], ◌∷◌, Option, Some, None, refl, ◌∙◌, sym}
-use Rattle.std.specs.Prelude.{◌||◌, ◌==◌, nat_lt, is_some}
-use Rattle.std.proofs.lemmas.Bool.{true≢false, or_parts, eqb-true, not-false}
+use Rattle.std.proofs.Common.{◌≡◌, ℕ, Bool, true, false, cond, List, [], ◌∷◌, Option, Some, None, refl, arith, ap, ◌∙◌, sym}
+use Rattle.std.specs.Prelude.{◌||◌, nat_le, nat_lt, is_some}
+use Rattle.std.proofs.lemmas.Bool.{true≢false, or_parts, ltb-false, and_right}
 use Rattle.rdm_num.specs.Lists.{first_case}
 use Rattle.rdm_num.specs.declared.numbers.Life.{Life}
 use Rattle.rdm_num.specs.declared.numbers.Connid.{Connid}
@@ -17,7 +17,8 @@ use Rattle.rdm_model.specs.Deeds.{Deed, Took, Item, Spelled, Garbled}
 use Rattle.rdm_model.specs.Sources.{is_malformed}
 use Rattle.rdm_ep.specs.View.{EndpointView}
 use Rattle.rdm_ep.specs.Peers.{peer_in}
-use Rattle.rdm_ep.specs.Handling.{is_heard_in, is_eager, rtm_class, load_class, item_class_in, after_take}
+use Rattle.rdm_ep.specs.Entering.{next_in, is_held_in, is_heard_in}
+use Rattle.rdm_ep.specs.Handling.{is_eager, rtm_class, load_class, item_class_in, after_take}
 use Rattle.rdm_ep.specs.Plain.{IsPlainItem, IsPlain}
 use Rattle.rdm_ep.specs.Keeps.{Keeps}
 use Rattle.rdm_ep.proofs.Classed.{by_source, class_in_is}
@@ -40,16 +41,18 @@ none_of_three false true c h = cc
 none_of_three false false true h = cc
 none_of_three false false false h = (refl, refl)
 
--- a packet that the endpoint takes is the first message of its life, in one packet
+-- a packet that the endpoint takes is a message in one packet that was not heard of
 plain_rtm : (log : List Deed) (v : EndpointView) (from : Life) (number : MsgNo) (tag : Option ℕ) (opt : Opt) (form : Form) → Keeps log v
     → rtm_class v from number.0 (head_of tag opt form) form ≡ None → IsPlainItem v.own log from (Spelled (Rtm number tag opt form))
-unfolding rtm_class is_eager
+unfolding rtm_class is_eager is_heard_in
 plain_rtm log v from number tag opt (Eager bytes) k h =
-    let t = none_of_three _ (nat_lt number.0 v.own.limits.first || is_heard_in v from number.0) (not (number.0 == v.own.limits.first)) h in (
-      eqb-true number.0 v.own.limits.first (not-false (number.0 == v.own.limits.first) t.1),
-      sym (k.heard_are from number.0) ∙ (or_parts (nat_lt number.0 v.own.limits.first) (is_heard_in v from number.0) t.0).1,
+    let t = none_of_three _ (nat_lt number.0 (next_in v from) || is_held_in v from number.0) false h in
+    let p = or_parts (nat_lt number.0 (next_in v from)) (is_held_in v from number.0) t.0 in
+    let l = ltb-false number.0 (next_in v from) p.0 in (
+      omega arith,
+      sym (k.heard_are from number.0) ∙ (rw (p.0, p.1) (ap (λ b. b || false) (and_right (nat_le v.own.limits.first number.0) false refl))),
     )
-plain_rtm log v from number tag opt form k h = let t = none_of_three _ (nat_lt number.0 v.own.limits.first || is_heard_in v from number.0) true h in absurd (true≢false t.1)
+plain_rtm log v from number tag opt form k h = let t = none_of_three _ (nat_lt number.0 (next_in v from) || is_held_in v from number.0) true h in absurd (true≢false t.1)
 
 -- what the endpoint expects is plain
 plain_load : (log : List Deed) (v : EndpointView) (from : Life) (item : Item) → Keeps log v → is_malformed from item ≡ false → load_class v from item ≡ None

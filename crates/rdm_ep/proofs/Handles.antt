@@ -1,8 +1,11 @@
 -- What an endpoint answers to a datagram is what the definitions say.
-use Rattle.std.proofs.Common.{◌≡◌, ℕ, Bool, true, false, cond, not, List, [], ◌∷◌, Option, Some, None, refl, ap, ◌∙◌, sym, subst}
+use Rattle.std.proofs.Common.{◌≡◌, ℕ, zero, suc, ◌+◌, inl, inr, Bool, true, false, cond, List, [], ◌∷◌, map, length, Option, Some, None, refl, arith, ap, ◌∙◌, sym, subst}
+use Rattle.std.proofs.lemmas.Bool.{cases_eq, eq-eqb, ne_eqb}
+use Rattle.std.proofs.lemmas.List.{length-map, length-append}
 use Rattle.std.proofs.Math.Bool.{and_assoc}
-use Rattle.std.specs.Prelude.{◌&&◌, ◌||◌, nat_le, is_none, is_some, find, option_map}
+use Rattle.std.specs.Prelude.{◌&&◌, ◌||◌, ◌==◌, nat_le, is_none, is_some, find, option_map}
 use Rattle.std.specs.List.{list_any}
+use Rattle.rdm_num.specs.Lists.{below}
 use Rattle.rdm_num.specs.Lives.{life}
 use Rattle.rdm_num.specs.declared.numbers.Life.{Life}
 use Rattle.rdm_num.specs.declared.numbers.Connid.{Connid}
@@ -19,8 +22,8 @@ use Rattle.rdm_match.specs.Matcher.{accepts}
 use Rattle.rdm_model.specs.declared.answer.Class.{Class}
 use Rattle.rdm_model.specs.declared.answer.Handled.TheVariants.{Took as TookAnswer}
 use Rattle.rdm_model.specs.Deeds.{Deed, Took, Item, Spelled, item_of}
-use Rattle.rdm_model.specs.Heard.{is_heard, is_next_number, entering, entered_of}
-use Rattle.rdm_model.specs.Matches.{Receive}
+use Rattle.rdm_model.specs.Heard.{head_by, entering, entered_of}
+use Rattle.rdm_model.specs.Matches.{Receive, receives}
 use Rattle.rdm_model.specs.Completions.{early_count}
 use Rattle.rdm_model.specs.Classes.{body_class, class_of, body_lives_class, lives_class}
 use Rattle.rdm_model.specs.Takes.{taken_answer, class_answer, handled_answer, is_met, needs_place, body_needs_place, is_again_early}
@@ -28,15 +31,20 @@ use Rattle.rdm_model.specs.Local.{heard_by}
 use Rattle.rdm_ep.specs.declared.answer.HandleAnswer.TheVariants as HandleA
 use Rattle.rdm_ep.specs.declared.state.Posted.{Posted}
 use Rattle.rdm_ep.specs.View.{EndpointView}
-use Rattle.rdm_ep.specs.Handling.{item_class_in, inbound, is_met_in, needs_place_in, taken_in, class_answer_in, item_answer, body_answer}
+use Rattle.rdm_ep.specs.Receiving.{arrived_message, takes}
+use Rattle.rdm_ep.specs.Entering.{next_in, following, entered_by}
+use Rattle.rdm_ep.specs.Handling.{item_class_in, inbound, is_met_in, enters_at_once, early_is_full, needs_place_in, taken_in, class_answer_in, item_answer, body_answer}
 use Rattle.rdm_ep.specs.Answers.{handled_of, life_scene, is_early, IsPlainBody, HandlesAs}
 use Rattle.rdm_ep.specs.Plain.{IsPlainItem, IsPlain}
 use Rattle.rdm_ep.specs.Keeps.{posted_of, Keeps}
-use Rattle.rdm_ep.proofs.Entering.{next_is, entering_new, entering_none}
-use Rattle.rdm_ep.proofs.Pairs.{own_matching, entered}
-use Rattle.rdm_ep.proofs.Live.{own_live, seen}
+use Rattle.rdm_ep.proofs.Entering.{next_is}
+use Rattle.rdm_ep.proofs.Pairs.{own_matching}
+use Rattle.rdm_ep.proofs.Live.{own_live, seen, met_found, waiting_are}
+use Rattle.rdm_ep.proofs.Arrivals.{takes_found}
+use Rattle.rdm_ep.proofs.Runs.{rising, next_kept, entering_next, entering_ahead}
+use Rattle.rdm_ep.proofs.Still.{none_enter}
+use Rattle.rdm_ep.proofs.KeepsMessage.{live_among}
 use Rattle.rdm_ep.proofs.Groups.{kept_of}
-use Rattle.rdm_ep.proofs.KeepsTook.{took_found, matcher_found}
 use Rattle.rdm_ep.proofs.Counts.{early_agrees}
 use Rattle.rdm_ep.proofs.Classed.{class_agrees, lives_class_agrees}
 
@@ -51,62 +59,94 @@ both_found : {A B C : Type 0} (f : A → B) (g : A → C) (o : Option A) → is_
 both_found f g None = refl
 both_found f g (Some x) = refl
 
--- the number of a first message is the next one of its life
-next_first : (log : List Deed) (v : EndpointView) (from : Life) (number : ℕ) → number ≡ v.own.limits.first → is_heard log from number ≡ false
-    → is_next_number v.own.limits.first log from number ≡ true
-next_first log v from number e h =
-    let n = next_is v.own log from in
-    let was : is_heard log from v.own.limits.first ≡ false = subst (λ (x : ℕ). is_heard log from x ≡ false) e h in
-    ap (is_next_number v.own.limits.first log from) e ∙ n ∙ ap not was
-
--- a posted receive accepts the message here and in the matcher
+-- a posted receive accepts the message, that is next, here and in the matcher
 met_agrees : (ports : ℕ) (port_log log : List Deed) (v : EndpointView) (from : Life) (number : MsgNo) (tag : Option ℕ) (opt : Opt) (bytes : List ℕ)
-    → IsPlain v.own log → IsPlainItem v.own log from (Spelled (Rtm number tag opt (Eager bytes))) → Keeps log v
-    → is_met (life_scene ports v.own port_log log) from number.0 tag ≡ is_met_in v (inbound from number.0 tag opt bytes)
-unfolding is_met is_met_in heard_by
-met_agrees ports port_log log v from number tag opt bytes h p k =
-    let n = next_first log v from number.0 p.0 p.1 in
-    let a = entered from number tag in
-    let ro = find (λ (r : Receive). accepts r.posted a) (own_live v.own log) in
-    let m = (own_matching v.own log).posted in
-    ap (λ (b : Bool). b && list_any (λ (r : PostedRecv). accepts r a) m) n
-    ∙ any_is_found (λ (r : PostedRecv). accepts r a) m
-    ∙ ap (λ (o : Option PostedRecv). is_some o) (matcher_found v.own log a h)
-    ∙ both_found seen posted_of ro
-    ∙ ap (λ (o : Option Posted). is_some o) (sym (took_found v.own log v.posted (inbound from number.0 tag opt bytes) (kept_of log v k).receives.posted_are))
+    → IsPlain v.own log → Keeps log v
+    → is_met (life_scene ports v.own port_log log) from number.0 tag ≡ enters_at_once v (inbound from number.0 tag opt bytes)
+unfolding is_met is_met_in enters_at_once heard_by
+met_agrees ports port_log log v from number tag opt bytes h keeps =
+    let k = kept_of log v keeps in
+    let next = next_kept v.own log v.peers v.arrived v.held from k.held in
+    let n = next_is v.own.limits.first log from (next_in v from) number.0 next in
+    let i = inbound from number.0 tag opt bytes in
+    let a = arrived_message i in
+    let live = own_live v.own log in
+    let m = own_matching v.own log in
+    let there = met_found live m a (waiting_are v.own log h) in
+    let here : find (λ (p : Posted). takes p i) v.posted ≡ option_map posted_of (find (λ (r : Receive). accepts r.posted a) live) =
+    ap (find (λ (p : Posted). takes p i)) k.receives.posted_are ∙ takes_found (receives log) live i (live_among v.own log) in
+    ap (λ (b : Bool). b && list_any (λ (r : PostedRecv). accepts r a) m.posted) n
+    ∙ ap (λ (b : Bool). (number.0 == next_in v from) && b)
+    (any_is_found (λ (r : PostedRecv). accepts r a) m.posted
+    ∙ ap (λ (o : Option PostedRecv). is_some o) there
+    ∙ both_found seen posted_of (find (λ (r : Receive). accepts r.posted a) live)
+    ∙ ap (λ (o : Option Posted). is_some o) (sym here))
 
 -- a plain item needs a place, and there is none, by the definitions and by the endpoint
 places_agree : (ports : ℕ) (port_log log : List Deed) (v : EndpointView) (from : Life) (item : Item) → IsPlain v.own log → IsPlainItem v.own log from item → Keeps log v
     → (needs_place (life_scene ports v.own port_log log) from item && nat_le v.own.limits.early (early_count v.own (heard_by v.own.limits.first log).head log))
     ≡ needs_place_in v from item
-unfolding needs_place needs_place_in
+unfolding needs_place needs_place_in early_is_full
 places_agree ports port_log log v from (Spelled (Rtm number tag opt (Eager bytes))) h p k =
     let a = p.1 in
-    let m = met_agrees ports port_log log v from number tag opt bytes h p k in
+    let m = met_agrees ports port_log log v from number tag opt bytes h k in
     let e = early_agrees log v h k in
     rw (a, m, e) refl
 places_agree ports port_log log v from (Spelled (Handshake words connid)) h p k = refl
 places_agree ports port_log log v from item h p k = elim p [ ]
 
+-- as many numbers as that
+length_below : (n : ℕ) → length (below n) ≡ n
+unfolding below
+length_below zero = refl
+length_below (suc n) = let r = length_below n in let l = length-append (below n) (n ∷ []) in omega arith
+
+-- the least of numbers in a row, and their count
+entered_row : (n k : ℕ) → entered_of (map (λ i. n + i) (below (suc k))) ≡ Some (record { first = record { 0 = n }; count = suc k })
+unfolding entered_of
+entered_row n k =
+    let r = rising n k in
+    let l : length (map (λ (i : ℕ). n + 1 + i) (below k)) ≡ k = length-map (below k) (λ (i : ℕ). n + 1 + i) ∙ length_below k in
+    rw (r, l) refl
+
+-- no numbers enter
+none_entered : entered_of [] ≡ None
+unfolding entered_of
+none_entered = refl
+
 -- what enters by a plain item
-entered_agrees : (log : List Deed) (v : EndpointView) (from : Life) (item : Item) → IsPlain v.own log → IsPlainItem v.own log from item
-    → TookAnswer (entered_of (entering v.own.limits.first (Took from item) log from)) ≡ handled_of (taken_in item)
-unfolding handled_of taken_in entered_of
-entered_agrees log v from (Spelled (Rtm number tag opt (Eager bytes))) h p = let e = entering_new v.own log from number tag opt bytes (h, p) in rw e refl
-entered_agrees log v from (Spelled (Handshake words connid)) h p = let e = entering_none v.own log from words connid (h, tt) in rw e refl
-entered_agrees log v from item h p = elim p [ ]
+entered_agrees : (log : List Deed) (v : EndpointView) (from : Life) (item : Item) → IsPlain v.own log → IsPlainItem v.own log from item → Keeps log v
+    → TookAnswer (entered_of (entering v.own.limits.first (Took from item) log from)) ≡ handled_of (taken_in v from item)
+unfolding handled_of taken_in entered_by head_by
+entered_agrees log v from (Spelled (Rtm number tag opt (Eager bytes))) h p keeps =
+    let k = kept_of log v keeps in
+    let next = next_in v from in
+    elim (cases_eq number.0 next) [
+      | inl same ↦
+          let q : (number.0 == next) ≡ true = eq-eqb number.0 next same in
+          let e = entering_next v.own log v.peers v.arrived v.held from number tag opt bytes (record { kept = k.held; is_next = same }) in
+          let row = entered_row next (length (following (length v.held) v.held from (number.0 + 1))) in
+          rw (q, e, row) (ap (λ (n : ℕ). TookAnswer (Some (record { first = record { 0 = n }; count = suc (length (following (length v.held) v.held from (number.0 + 1))) }))) (sym same))
+      | inr other ↦
+          let q : (number.0 == next) ≡ false = ne_eqb number.0 next other in
+          let e = entering_ahead v.own log v.peers v.arrived v.held from number tag opt bytes k.held other in
+          rw (q, e) (ap TookAnswer none_entered)
+    ]
+entered_agrees log v from (Spelled (Handshake words connid)) h p keeps =
+    let e = none_enter v.own.limits.first (Took from (Spelled (Handshake words connid))) log from (λ life n. refl) in rw e (ap TookAnswer none_entered)
+entered_agrees log v from item h p keeps = elim p [ ]
 
 -- what is taken does not stay
-taken_not_early : (item : Item) → is_early (taken_in item) ≡ false
+taken_not_early : (v : EndpointView) (from : Life) (item : Item) → is_early (taken_in v from item) ≡ false
 unfolding is_early taken_in
-taken_not_early (Spelled (Rtm number tag opt form)) = refl
-taken_not_early item = refl
+taken_not_early v from (Spelled (Rtm number tag opt (Eager bytes))) = refl
+taken_not_early v from item = refl
 
 -- what has no class stays where it needs a place
-early_by_class : (b : Bool) (item : Item) → b ≡ is_early (cond b HandleA.AgainEarly (taken_in item))
+early_by_class : (b : Bool) (v : EndpointView) (from : Life) (item : Item) → b ≡ is_early (cond b HandleA.AgainEarly (taken_in v from item))
 unfolding is_early
-early_by_class true item = refl
-early_by_class false item = sym (taken_not_early item)
+early_by_class true v from item = refl
+early_by_class false v from item = sym (taken_not_early v from item)
 
 -- the answers to what comes from one life to another, by its class
 handles_by : (ports : ℕ) (port_log log : List Deed) (v : EndpointView) (d : Datagram) (from to : Connid) (load : Load) (o : Option Class)
@@ -120,10 +160,10 @@ handles_by ports port_log log v d from to load (Some class') h p k = (refl, λ e
 handles_by ports port_log log v d from to load None h p k =
     let source = life d.src from in
     let item = item_of load in (
-      places_agree ports port_log log v source item h p k ∙ early_by_class (needs_place_in v source item) item,
+      places_agree ports port_log log v source item h p k ∙ early_by_class (needs_place_in v source item) v source item,
       λ e.
-          let q : needs_place_in v source item ≡ false = early_by_class (needs_place_in v source item) item ∙ e in
-          entered_agrees log v source item h p ∙ ap (λ (b : Bool). handled_of (cond b HandleA.AgainEarly (taken_in item))) (sym q),
+          let q : needs_place_in v source item ≡ false = early_by_class (needs_place_in v source item) v source item ∙ e in
+          entered_agrees log v source item h p k ∙ ap (λ (b : Bool). handled_of (cond b HandleA.AgainEarly (taken_in v source item))) (sym q),
     )
 
 -- the same, by what the datagram has in it

@@ -25,7 +25,7 @@ use Rattle.rdm_ep.proofs.Progress.{sends_left}
 use Rattle.rdm_ep.proofs.Pushes.{own_sends, own_progress, own_live_sends, own_sends_step, replies_left, replies_step, live_left, live_sends_step, sends_ended, ended_left, turn_is}
 use Rattle.rdm_ep.proofs.Completed.{own_completions, completions_step}
 use Rattle.rdm_ep.proofs.Groups.{CompletionsKept, kept_of, keeps_by}
-use Rattle.rdm_ep.proofs.Still.{lives_still, receives_still, messages_still, no_pairs, regions_still}
+use Rattle.rdm_ep.proofs.Still.{lives_still, receives_still, messages_still, held_still, no_pairs, regions_still}
 
 -- the endpoint with other handshakes to come, other sends and other completions
 abbrev pub with_left : EndpointView → List Life → List Outbound → List Completion → EndpointView
@@ -124,7 +124,8 @@ keeps_pushed log v h keeps =
         outgoing_are = out ∙ ap (map outbound_of) (sym (live_sends_step own d log g ∙ append-nil (sends_left rs live)));
       };
       receives = receives_still own d log v.receives v.posted g tt k.receives;
-      messages = messages_still own d log v.arrived v.heard g tt k.messages;
+      messages = messages_still own d log v.arrived g tt k.messages;
+      held = held_still own d log v.peers v.arrived v.held g tt k.held;
       owed = drop_first own v.owed ∙ ap (drop 1) k.owed ∙ sym (replies_step own d log g ∙ append-nil (drop 1 rs));
       regions = regions_still own d log v.regions g tt refl k.regions;
       completions = completions_more own d log v.polled v.completions (outgoing_done v.owed v.outgoing) refl c k.completions;

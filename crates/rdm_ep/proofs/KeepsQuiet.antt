@@ -1,7 +1,7 @@
 -- What an endpoint keeps after deeds that bring it no message and make no send.
-use Rattle.std.proofs.Common.{◌≡◌, ◌<◌, ℕ, zero, suc, ◌+◌, true, false, cond, List, [], ◌∷◌, ◌++◌, length, drop, Option, Some, None, refl, arith, ap, ◌∙◌, sym, subst}
-use Rattle.std.specs.Prelude.{◌==◌, is_none}
-use Rattle.std.proofs.lemmas.Bool.{eqb-true}
+use Rattle.std.proofs.Common.{◌≡◌, ◌<◌, ℕ, zero, suc, ◌+◌, inl, inr, true, false, cond, List, [], ◌∷◌, ◌++◌, length, drop, Option, Some, None, refl, arith, ap, ◌∙◌, sym, subst}
+use Rattle.std.specs.Prelude.{◌==◌, ◌&&◌, ◌||◌, nat_le, nat_lt, is_none}
+use Rattle.std.proofs.lemmas.Bool.{eqb-true, cases_lt, le-leb, lt-leb, le-ltb}
 use Rattle.std.proofs.Math.Seq.{drop-nil}
 use Rattle.rdm_num.specs.Lists.{or_else}
 use Rattle.rdm_num.specs.declared.numbers.Life.{Life}
@@ -17,7 +17,7 @@ use Rattle.rdm_model.specs.Regions.{after_ends, region_by, regions}
 use Rattle.rdm_model.specs.Sends.{sends_to, sends, known_by, known_word}
 use Rattle.rdm_model.specs.Replies.{is_from}
 use Rattle.rdm_model.specs.Turns.{progress, live_of, live_sends}
-use Rattle.rdm_model.specs.Completions.{completions, is_poll, poll_count}
+use Rattle.rdm_model.specs.Completions.{completions, is_poll, poll_count, heard_names}
 use Rattle.rdm_ep.specs.View.{EndpointView, new_endpoint, current_in}
 use Rattle.rdm_ep.specs.Peers.{peer_in}
 use Rattle.rdm_ep.specs.Sending.{after_reg, after_insert}
@@ -28,18 +28,37 @@ use Rattle.rdm_ep.proofs.Options.{or_else-none, find-push}
 use Rattle.rdm_ep.proofs.Currents.{of_port, shown_by, current_step}
 use Rattle.rdm_ep.proofs.Completed.{own_completions, regions_step}
 use Rattle.rdm_ep.proofs.Groups.{current_of, kept_of, keeps_by}
-use Rattle.rdm_ep.proofs.Still.{ShowsNoLife, SendsNothing, MeetsNothing, GreetsNobody, lives_still, sends_still, receives_still, messages_still, owed_still, no_pairs, regions_still, none_completed, completions_still}
+use Rattle.rdm_ep.proofs.Still.{ShowsNoLife, SendsNothing, MeetsNothing, GreetsNobody, lives_still, sends_still, receives_still, messages_still, held_still, owed_still, no_pairs, regions_still, none_completed, completions_still}
+
+-- no number is from the first one on and below it
+none_below : (first n : ℕ) → ((nat_le first n && nat_lt n (first + 0)) || false) ≡ false
+none_below first n =
+    elim (cases_lt n first) [
+      | inl low ↦ (let a : nat_le first n ≡ false = lt-leb first n low in rw a refl)
+      | inr from ↦ (
+          let a : nat_le first n ≡ true = le-leb first n from in
+          let b : nat_lt n (first + 0) ≡ false = le-ltb n (first + 0) (omega arith) in
+          rw (a, b) refl)
+    ]
 
 -- before any deed
 pub keeps_new : (own : Own) → Keeps [] (new_endpoint own)
-unfolding new_endpoint current last_inserted first_seen or_else peer_in known_word sends_to sends poll_count deed_count receives live_receives matching heard_head is_heard progress live_of live_sends completions regions
+unfolding new_endpoint current last_inserted first_seen or_else peer_in known_word sends_to sends poll_count deed_count receives live_receives matching heard_head is_heard progress live_of live_sends completions heard_names regions
 keeps_new own =
     keeps_by [] (new_endpoint own) tt
     (record {
       lives = record { currents_are = λ port. refl; greeted_are = λ life. refl; known_are = λ life. refl };
       sends = record { sent_are = λ life. refl; sends_are = refl; outgoing_are = refl };
       receives = record { receives_are = refl; posted_are = refl };
-      messages = record { arrived_are = refl; heads_are = λ i m. elim m [ ]; bytes_are = λ i m. elim m [ ]; heard_are = λ life n. refl };
+      messages = record { arrived_are = refl; heads_are = λ i m. elim m [ ]; bytes_are = λ i m. elim m [ ] };
+      held = record {
+        heads_are = λ i m. elim m [ ];
+        bytes_are = λ i m. elim m [ ];
+        heard_are = λ life n. none_below own.limits.first n;
+        next_are = λ life. refl;
+        within = λ life. omega arith;
+        count = refl;
+      };
       owed = refl;
       regions = refl;
       completions = record { polled_are = refl; polled_within = omega arith; completions_are = refl };
@@ -87,7 +106,8 @@ keeps_quiet d log v q h keeps =
       lives = lives_still v.own d log v.currents v.peers l.plain l.life k.lives;
       sends = sends_still v.own d log v.sends v.peers v.outgoing g l.send k.sends;
       receives = receives_still v.own d log v.receives v.posted g l.message k.receives;
-      messages = messages_still v.own d log v.arrived v.heard g l.message k.messages;
+      messages = messages_still v.own d log v.arrived g l.message k.messages;
+      held = held_still v.own d log v.peers v.arrived v.held g l.message k.held;
       owed = owed_still v.own d log v.owed g l.greeting k.owed;
       regions = regions_still v.own d log v.regions g l.message l.region k.regions;
       completions = completions_still v.own d log v.polled v.completions g l.message l.send l.poll k.completions;
@@ -105,7 +125,8 @@ keeps_reg content log v h keeps =
       lives = lives_still v.own d log v.currents v.peers tt tt k.lives;
       sends = sends_still v.own d log v.sends v.peers v.outgoing g tt k.sends;
       receives = receives_still v.own d log v.receives v.posted g tt k.receives;
-      messages = messages_still v.own d log v.arrived v.heard g tt k.messages;
+      messages = messages_still v.own d log v.arrived g tt k.messages;
+      held = held_still v.own d log v.peers v.arrived v.held g tt k.held;
       owed = owed_still v.own d log v.owed g tt k.owed;
       regions = ap (λ (rs : List (List ℕ)). rs ++ content ∷ []) k.regions ∙ sym (regions_step v.own d log g ∙ (let p = no_pairs v.own d log tt in rw p refl));
       completions = completions_still v.own d log v.polled v.completions g tt tt refl k.completions;
@@ -160,7 +181,8 @@ keeps_insert life log v g keeps =
       };
       sends = sends_still v.own d log v.sends v.peers v.outgoing g tt k.sends;
       receives = receives_still v.own d log v.receives v.posted g tt k.receives;
-      messages = messages_still v.own d log v.arrived v.heard g tt k.messages;
+      messages = messages_still v.own d log v.arrived g tt k.messages;
+      held = held_still v.own d log v.peers v.arrived v.held g tt k.held;
       owed = owed_still v.own d log v.owed g tt k.owed;
       regions = regions_still v.own d log v.regions g tt refl k.regions;
       completions = completions_still v.own d log v.polled v.completions g tt tt refl k.completions;
@@ -189,7 +211,8 @@ keeps_polled log v c cs h e keeps =
       lives = lives_still v.own d log v.currents v.peers tt tt k.lives;
       sends = sends_still v.own d log v.sends v.peers v.outgoing g tt k.sends;
       receives = receives_still v.own d log v.receives v.posted g tt k.receives;
-      messages = messages_still v.own d log v.arrived v.heard g tt k.messages;
+      messages = messages_still v.own d log v.arrived g tt k.messages;
+      held = held_still v.own d log v.peers v.arrived v.held g tt k.held;
       owed = owed_still v.own d log v.owed g tt k.owed;
       regions = regions_still v.own d log v.regions g tt refl k.regions;
       completions = record {

@@ -1,5 +1,5 @@
 -- What an endpoint keeps after a receive.
-use Rattle.std.proofs.Common.{◌≡◌, ℕ, ◌+◌, List, [], ◌∷◌, ◌++◌, map, length, take, Option, Some, None, refl, ap, ◌∙◌, sym, subst, inl}
+use Rattle.std.proofs.Common.{◌≡◌, ℕ, ◌+◌, List, [], ◌∷◌, ◌++◌, map, length, take, Option, Some, None, refl, arith, ap, ◌∙◌, sym, subst, inl}
 use Rattle.std.specs.Prelude.{find, option_map}
 use Rattle.std.proofs.lemmas.List.{append-nil, length-append, map-append}
 use Rattle.rdm_num.specs.Lists.{Member, without_first}
@@ -12,12 +12,13 @@ use Rattle.rdm_match.specs.declared.Arrived.{Arrived}
 use Rattle.rdm_match.specs.Matcher.{Matching, Pair, accepts, after_post, after, run}
 use Rattle.rdm_model.specs.declared.job.Instr.TheVariants.{Recv}
 use Rattle.rdm_model.specs.Deeds.{Deed, Did}
+use Rattle.rdm_model.specs.Owns.{Own}
 use Rattle.rdm_model.specs.Currents.{named_life}
 use Rattle.rdm_model.specs.Heard.{head_by}
 use Rattle.rdm_model.specs.Matches.{Receive, receive, receives, received_by, with_received}
 use Rattle.rdm_model.specs.Receives.{Filled, receive_numbered}
 use Rattle.rdm_model.specs.Regions.{put, change_at, after_ends, region_by}
-use Rattle.rdm_model.specs.Completions.{recv_completions, is_poll}
+use Rattle.rdm_model.specs.Completions.{recv_completions, is_poll, named_by, heard_names}
 use Rattle.rdm_model.specs.Local.{heard_by}
 use Rattle.rdm_model.proofs.Members.{member-append_right, find_member, without_member}
 use Rattle.rdm_ep.specs.declared.state.Posted.{Posted}
@@ -29,12 +30,13 @@ use Rattle.rdm_ep.specs.Keeps.{posted_of, Keeps}
 use Rattle.rdm_ep.proofs.Options.{find-map, without-map}
 use Rattle.rdm_ep.proofs.Apart.{apart_numbered}
 use Rattle.rdm_ep.proofs.Accepted.{number_of, receives_apart}
-use Rattle.rdm_ep.proofs.Pairs.{own_matching, event_of, matching_step, met_by_post, met_by}
+use Rattle.rdm_ep.proofs.Held.{without_length}
+use Rattle.rdm_ep.proofs.Pairs.{own_matching, event_of, matching_step, pairs_step, new_pairs, met_by_post, met_by, met_by_all}
 use Rattle.rdm_ep.proofs.Live.{own_live, live_post, live_after, live_step}
 use Rattle.rdm_ep.proofs.Pushes.{ended_left}
 use Rattle.rdm_ep.proofs.Completed.{own_completions, own_regions, completions_step, regions_step}
-use Rattle.rdm_ep.proofs.Groups.{Kept, kept_of, keeps_by}
-use Rattle.rdm_ep.proofs.Still.{lives_still, sends_still, owed_still, told_stays, heard_more}
+use Rattle.rdm_ep.proofs.Groups.{next_of, Kept, kept_of, keeps_by}
+use Rattle.rdm_ep.proofs.Still.{lives_still, sends_still, owed_still, told_stays, held_stays, heard_more}
 use Rattle.rdm_ep.proofs.KeepsPushed.{completions_more}
 use Rattle.rdm_ep.proofs.Fills.{IsFill, fill_written, fill_completes}
 
@@ -119,6 +121,13 @@ unfolding arrived_then
 still_member p None arrived i m = m
 still_member p (Some j) arrived i m = without_member (takes p) i arrived m
 
+-- how many wait, with the pair that the receive makes
+then_count : (p : Posted) (r : PostedRecv) (o : Option Inbound) (arrived : List Inbound) → find (takes p) arrived ≡ o
+    → length (arrived_then p o arrived) + length (met_by_post r (option_map arrived_message o) ++ []) ≡ length arrived
+unfolding arrived_then met_by_post
+then_count p r None arrived e = omega arith
+then_count p r (Some i) arrived e = without_length (takes p) arrived i e
+
 -- the pair that the receive makes is of that message
 post_fills : (req : RecvReq) (log : List Deed) (v : EndpointView) (i : Inbound) → IsPlain v.own (Did (Recv req) ∷ log) → Kept log v → Member i v.arrived
     → IsFill (heard_by v.own.limits.first (Did (Recv req) ∷ log)) (receives (Did (Recv req) ∷ log))
@@ -127,7 +136,7 @@ unfolding heard_by receives with_received received_by receive_numbered
 post_fills req log v i g k m =
     let d = Did (Recv req) in
     let r = new_receive log req in
-    let t = told_stays v.own d log v.arrived v.heard i g k.messages m in
+    let t = told_stays v.own d log v.arrived i g k.messages m in
     record {
       numbered = apart_numbered number_of (receives (d ∷ log)) r (receives_apart (d ∷ log)) (member-append_right r (receives log) (r ∷ []) (inl refl));
       message = refl;
@@ -162,10 +171,34 @@ post_done req log v (Some i) g k h =
     let q : Pair = record { recv = r.posted; message = arrived_message i } in
     sym (fill_completes (heard_by v.own.limits.first (Did (Recv req) ∷ log)) (receives (Did (Recv req) ∷ log)) q r i (post_fills req log v i g k (h i refl)))
 
+-- the pair that a receive makes
+post_pairs : (own : Own) (log : List Deed) (req : RecvReq) → new_pairs own log (Did (Recv req)) ≡ met_by_post (new_receive log req).posted (find (accepts (new_receive log req).posted) (own_matching own log).arrived)
+unfolding event_of met_by_all met_by
+post_pairs own log req = append-nil (met_by_post (new_receive log req).posted (find (accepts (new_receive log req).posted) (own_matching own log).arrived))
+
+-- how many wait then, with the pairs
+recv_count : (req : RecvReq) (log : List Deed) (v : EndpointView) (o : Option Inbound) → IsPlain v.own (Did (Recv req) ∷ log) → Kept log v
+    → find (takes (posted_of (new_receive log req))) v.arrived ≡ o
+    → length (arrived_then (posted_of (new_receive log req)) o v.arrived) + length v.held + length (own_matching v.own (Did (Recv req) ∷ log)).pairs ≡ length (heard_names (Did (Recv req) ∷ log))
+unfolding event_of met_by_all met_by heard_names named_by
+recv_count req log v o g k e =
+    let own = v.own in
+    let d = Did (Recv req) in
+    let m = own_matching own log in
+    let r = new_receive log req in
+    let found : find (accepts r.posted) m.arrived ≡ option_map arrived_message o = post_found log v req k ∙ ap (option_map arrived_message) e in
+    let step = ap length (pairs_step own d log g) in
+    let l = length-append m.pairs (met_by_post r.posted (find (accepts r.posted) m.arrived) ++ []) in
+    let z = ap (λ (x : Option Arrived). length (met_by_post r.posted x ++ [])) found in
+    let n = ap length (append-nil (heard_names log)) in
+    let c = k.held.count in
+    let w = then_count (posted_of r) r.posted o v.arrived e in
+    omega arith
+
 -- after a receive that finds that message, or none
 recv_kept : (req : RecvReq) (log : List Deed) (v : EndpointView) (o : Option Inbound) → IsPlain v.own (Did (Recv req) ∷ log) → Kept log v
     → find (takes (posted_of (new_receive log req))) v.arrived ≡ o → Keeps (Did (Recv req) ∷ log) (post_view v (posted_of (new_receive log req)) o)
-unfolding region_by is_poll ended_left event_of met_by run after live_after receives with_received received_by head_by
+unfolding region_by is_poll ended_left event_of met_by_all met_by run after live_after receives with_received received_by head_by
 recv_kept req log v o g k e =
     let own = v.own in
     let d = Did (Recv req) in
@@ -189,18 +222,27 @@ recv_kept req log v o g k e =
         arrived_are =
             arrived_are m r v.arrived o refl k.messages.arrived_are ∙ ap (λ (x : Option Arrived). (after_post m r.posted x).arrived) (sym found)
             ∙ ap (λ (x : Matching). x.arrived) (sym (matching_step own d log g));
-        heads_are = λ i n. let a = still_member p o v.arrived i n in (told_stays own d log v.arrived v.heard i g k.messages a).0 ∙ k.messages.heads_are i a;
-        bytes_are = λ i n. let a = still_member p o v.arrived i n in (told_stays own d log v.arrived v.heard i g k.messages a).1 ∙ k.messages.bytes_are i a;
-        heard_are = λ life n. k.messages.heard_are life n ∙ sym (heard_more d log life n refl);
+        heads_are = λ i n. let a = still_member p o v.arrived i n in (told_stays own d log v.arrived i g k.messages a).0 ∙ k.messages.heads_are i a;
+        bytes_are = λ i n. let a = still_member p o v.arrived i n in (told_stays own d log v.arrived i g k.messages a).1 ∙ k.messages.bytes_are i a;
+      };
+      held = record {
+        heads_are = λ i m. (held_stays own d log v.peers v.arrived v.held i g k.held m).0;
+        bytes_are = λ i m. (held_stays own d log v.peers v.arrived v.held i g k.held m).1;
+        heard_are = λ life n. k.held.heard_are life n ∙ sym (heard_more d log life n refl);
+        next_are = λ life. heard_more d log life (next_of own.limits.first v.peers life) refl ∙ k.held.next_are life;
+        within = λ life. (let w = k.held.within life in omega arith);
+        count = recv_count req log v o g k e;
       };
       owed = owed_still own d log v.owed g tt k.owed;
       regions =
           post_regions req log v o g k among
           ∙ ap (λ (x : Option Arrived). after_ends (heard_by own.limits.first (d ∷ log)) (receives (d ∷ log)) (map Filled (met_by_post r.posted x)) (own_regions own log)) (sym found)
+          ∙ ap (λ ps. after_ends (heard_by own.limits.first (d ∷ log)) (receives (d ∷ log)) (map Filled ps) (own_regions own log)) (sym (post_pairs own log req))
           ∙ sym (regions_step own d log g ∙ append-nil _);
       completions =
           completions_more own d log v.polled v.completions (done_then p o) refl
           (completions_step own d log g
+          ∙ ap (λ ps. own_completions own log ++ (recv_completions (heard_by own.limits.first (d ∷ log)) (receives (d ∷ log)) (map Filled ps) ++ [])) (post_pairs own log req)
           ∙ ap (λ (x : Option Arrived). own_completions own log ++ (recv_completions (heard_by own.limits.first (d ∷ log)) (receives (d ∷ log)) (map Filled (met_by_post r.posted x)) ++ [])) found
           ∙ ap (λ (cs : List Completion). own_completions own log ++ cs) (append-nil _ ∙ sym (post_done req log v o g k among)))
           k.completions;

@@ -25,7 +25,7 @@ use Rattle.rdm_ep.specs.Keeps.{outbound_of, Keeps}
 use Rattle.rdm_ep.proofs.Pushes.{own_sends, own_live_sends, new_sends, own_sends_step, live_left, live_sends_step, ended_left}
 use Rattle.rdm_ep.proofs.Completed.{own_completions, own_regions, completions_step}
 use Rattle.rdm_ep.proofs.Groups.{CompletionsKept, Kept, kept_of, keeps_by}
-use Rattle.rdm_ep.proofs.Still.{lives_still, receives_still, messages_still, owed_still, no_pairs, regions_still}
+use Rattle.rdm_ep.proofs.Still.{lives_still, receives_still, messages_still, held_still, held_still_by, owed_still, no_pairs, regions_still}
 use Rattle.rdm_ep.proofs.KeepsPushed.{completions_more}
 use Rattle.rdm_ep.proofs.PeersOf.{peer_kept, peer_changed}
 
@@ -123,7 +123,8 @@ send_kept req to log v g made k =
             ∙ ap (map outbound_of) (sym (live_sends_step own d log g ∙ ap (λ (xs : List Sent). own_live_sends own log ++ xs) made));
       };
       receives = receives_still own d log v.receives v.posted g tt k.receives;
-      messages = messages_still own d log v.arrived v.heard g tt k.messages;
+      messages = messages_still own d log v.arrived g tt k.messages;
+      held = held_still_by own d log v.peers (with_peer sent_peer to v.peers) v.arrived v.held g tt (λ life. peer_kept (λ p. p.entered) sent_peer to v.peers life (λ p. refl) (λ p. refl)) k.held;
       owed = owed_still own d log v.owed g tt k.owed;
       regions = regions_still own d log v.regions g tt refl k.regions;
       completions =
@@ -151,7 +152,8 @@ unsent_kept req log v g made k =
             ∙ ap (map outbound_of) (sym (live_sends_step own d log g ∙ ap (λ (xs : List Sent). own_live_sends own log ++ xs) made ∙ append-nil (own_live_sends own log)));
       };
       receives = receives_still own d log v.receives v.posted g tt k.receives;
-      messages = messages_still own d log v.arrived v.heard g tt k.messages;
+      messages = messages_still own d log v.arrived g tt k.messages;
+      held = held_still own d log v.peers v.arrived v.held g tt k.held;
       owed = owed_still own d log v.owed g tt k.owed;
       regions = regions_still own d log v.regions g tt refl k.regions;
       completions =

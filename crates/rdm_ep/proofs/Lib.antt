@@ -5,6 +5,8 @@ pub mod SendingLemmas
 pub mod SoundLemmas
 pub mod RegionLemmas
 pub mod Landing
+pub mod MeetingLemmas
+pub mod Follows
 pub mod Decided
 pub mod Welcomed
 -- What an endpoint keeps is what the definitions say.
@@ -14,7 +16,9 @@ pub mod Apart
 pub mod Currents
 pub mod Told
 pub mod Accounts
+pub mod Entered
 pub mod Entering
+pub mod Held
 -- What is sent, and what is left to push:
 pub mod EagerSends
 pub mod Progress
@@ -26,17 +30,21 @@ pub mod Pairs
 pub mod Ends
 pub mod Live
 pub mod Early
+pub mod EarlyCounts
 pub mod Completed
 -- What an endpoint keeps, deed by deed:
 pub mod Groups
 pub mod Still
 pub mod PeersOf
 pub mod Fills
+pub mod Arrivals
+pub mod Runs
 pub mod KeepsQuiet
 pub mod KeepsPushed
 pub mod KeepsSend
 pub mod KeepsRecv
 pub mod Greeted
+pub mod KeepsMessage
 pub mod KeepsTook
 -- What it answers:
 pub mod Counts

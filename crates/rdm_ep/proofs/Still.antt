@@ -1,41 +1,48 @@
 -- What a plain deed leaves as it is.
-use Rattle.std.proofs.Common.{◌≡◌, ℕ, ◌+◌, false, List, [], ◌∷◌, ◌++◌, map, length, Option, Some, None, refl, arith, ap, ◌∙◌, sym, subst}
-use Rattle.std.specs.Prelude.{is_some}
+use Rattle.std.proofs.Common.{◌≡◌, ℕ, ◌+◌, ◌-◌, Bool, true, false, not, List, [], ◌∷◌, ◌++◌, map, length, Option, Some, None, refl, arith, ap, ◌∙◌, sym, subst}
+use Rattle.std.specs.Prelude.{is_some, ◌&&◌, ◌==◌}
+use Rattle.std.proofs.Math.Bool.{or-true}
+use Rattle.std.proofs.lemmas.Bool.{and_from, eq-eqb}
 use Rattle.std.proofs.lemmas.List.{append-nil}
-use Rattle.rdm_num.specs.Lists.{Member, or_else}
+use Rattle.rdm_num.specs.Lists.{Member, or_else, below}
+use Rattle.rdm_num.specs.Lives.{same_life}
 use Rattle.rdm_num.specs.declared.numbers.Life.{Life}
 use Rattle.rdm_num.specs.declared.head.Head.{Head}
 use Rattle.rdm_num.specs.declared.completion.Completion.{Completion}
 use Rattle.rdm_match.specs.Matcher.{Matching, run}
 use Rattle.rdm_pkt.specs.declared.Packet.TheVariants.{Rtm}
 use Rattle.rdm_model.specs.declared.job.Instr.TheVariants.{Insert, Send, Recv}
-use Rattle.rdm_model.specs.Deeds.{Deed, Did, Took, Pushed, Spelled, deed_count}
+use Rattle.rdm_model.specs.Deeds.{Deed, Did, Took, Pushed, Item, Spelled, deed_count}
 use Rattle.rdm_model.specs.Owns.{Own}
-use Rattle.rdm_model.specs.Heard.{head_by, heard_head, is_heard}
+use Rattle.rdm_model.specs.Heard.{head_by, heard_head, is_heard, heard_below, has_entered, entering}
 use Rattle.rdm_model.specs.Matches.{Receive, receives, received_by, with_received}
 use Rattle.rdm_model.specs.Regions.{after_ends, region_by}
 use Rattle.rdm_model.specs.Sends.{Sent, sends_to, known_by, known_word, sent_by}
 use Rattle.rdm_model.specs.Replies.{Reply, is_from, handshake_by}
-use Rattle.rdm_model.specs.Completions.{is_poll, poll_count, recv_completions}
+use Rattle.rdm_model.specs.Completions.{is_poll, poll_count, named_by, heard_names, recv_completions}
 use Rattle.rdm_model.specs.Local.{heads_by, bytes_by}
-use Rattle.rdm_model.proofs.Members.{map-member}
+use Rattle.rdm_model.proofs.Members.{map-member, member_list_any, same_life-refl, some_of}
+use Rattle.rdm_model.proofs.Lists.{each_below_same}
 use Rattle.rdm_model.proofs.Matches.{arrived_heard}
 use Rattle.rdm_ep.specs.declared.state.Peer.{Peer}
 use Rattle.rdm_ep.specs.declared.state.Posted.{Posted}
-use Rattle.rdm_ep.specs.declared.state.Heard.{Heard}
 use Rattle.rdm_ep.specs.declared.state.Inbound.{Inbound}
 use Rattle.rdm_ep.specs.declared.state.Outbound.{Outbound}
+use Rattle.rdm_ep.specs.Peers.{peer_in}
 use Rattle.rdm_ep.specs.Receiving.{arrived_message}
+use Rattle.rdm_ep.specs.Entering.{is_message}
+use Rattle.rdm_ep.specs.Handling.{inbound_head}
 use Rattle.rdm_ep.specs.Plain.{IsPlainDeed, IsPlain}
 use Rattle.rdm_ep.specs.Keeps.{posted_of, outbound_of}
 use Rattle.rdm_ep.proofs.Options.{or_else-none}
 use Rattle.rdm_ep.proofs.Currents.{shown_by, current_step}
 use Rattle.rdm_ep.proofs.Accounts.{head_stays, bytes_stay}
-use Rattle.rdm_ep.proofs.Pairs.{own_matching, event_of, matching_step, met_by, new_pairs}
-use Rattle.rdm_ep.proofs.Live.{own_live, live_after, live_step}
+use Rattle.rdm_ep.proofs.Pairs.{own_matching, arriving, event_of, matching_step, met_by_all, new_pairs, pairs_step}
+use Rattle.rdm_ep.proofs.Live.{own_live, live_after, live_arrivals, live_step}
 use Rattle.rdm_ep.proofs.Pushes.{own_sends, own_progress, own_live_sends, new_sends, own_sends_step, replies_left, replies_step, live_left, live_sends_step, ended_left}
 use Rattle.rdm_ep.proofs.Completed.{own_completions, own_regions, completions_step, regions_step}
-use Rattle.rdm_ep.proofs.Groups.{LivesKept, SendsKept, ReceivesKept, MessagesKept, OwedKept, RegionsKept, CompletionsKept}
+use Rattle.rdm_ep.proofs.Apart.{filter_nothing}
+use Rattle.rdm_ep.proofs.Groups.{next_of, held_of, LivesKept, SendsKept, ReceivesKept, MessagesKept, HeldKept, OwedKept, RegionsKept, CompletionsKept}
 
 -- the deed shows no life
 abbrev pub ShowsNoLife : Deed → Type 0
@@ -103,14 +110,46 @@ sends_still own d before count peers outgoing h n k =
       outgoing_are = k.outgoing_are ∙ ap (map outbound_of) (sym l);
     }
 
+-- nothing is and is not
+and_not_self : (b : Bool) → (b && not b) ≡ false
+and_not_self true = refl
+and_not_self false = refl
+
+-- an item that is no message tells of none
+silent_item : (from : Life) (item : Item) → MeetsNothing (Took from item) → (life : Life) (n : ℕ) → head_by life n (Took from item) ≡ None
+unfolding head_by
+silent_item from (Spelled (Rtm number tag opt form)) h life n = elim h [ ]
+silent_item from item h life n = refl
+
+-- and names none
+unnamed_item : (before : List Deed) (from : Life) (item : Item) → MeetsNothing (Took from item) → named_by before (Took from item) ≡ []
+unfolding named_by
+unnamed_item before from (Spelled (Rtm number tag opt form)) h = elim h [ ]
+unnamed_item before from item h = refl
+
+-- a deed that tells of no message lets none enter
+pub none_enter : (first : ℕ) (d : Deed) (before : List Deed) (source : Life) → ((life : Life) (n : ℕ) → head_by life n d ≡ None) → entering first d before source ≡ []
+unfolding entering has_entered heard_below is_heard heard_head
+none_enter first d before source h =
+    let same : (n : ℕ) → is_some (or_else (heard_head before source n) (head_by source n d)) ≡ is_some (heard_head before source n) =
+    λ n. let e = h source n in rw e (ap (λ (o : Option Head). is_some o) (or_else-none (heard_head before source n))) in
+    filter_nothing (λ n. has_entered first (d ∷ before) source n && not (has_entered first before source n)) (map (λ k. first + k) (below (length (d ∷ before))))
+    (λ n m.
+    let a = same n in
+    let b = each_below_same (λ k. is_heard (d ∷ before) source (first + k)) (λ k. is_heard before source (first + k)) (n - first) (λ k. same (first + k)) in
+    rw (a, b) (and_not_self (has_entered first before source n)))
+
 -- a deed that brings nothing meets nothing
 pub unmet : (own : Own) (d : Deed) (before : List Deed) → MeetsNothing d
-    → (event_of before d ≡ []) × (receives (d ∷ before) ≡ receives before) × ((live : List Receive) (m : Matching) → live_after live m before d ≡ live)
-    × ((life : Life) (n : ℕ) → head_by life n d ≡ None)
-unfolding event_of receives with_received received_by live_after head_by
+    → (event_of own d before ≡ []) × (receives (d ∷ before) ≡ receives before) × ((live : List Receive) (m : Matching) → live_after own live m before d ≡ live)
+    × ((life : Life) (n : ℕ) → head_by life n d ≡ None) × (named_by before d ≡ [])
+unfolding event_of arriving receives with_received received_by live_after live_arrivals head_by named_by
 unmet own (Did (Recv req)) before n = elim n [ ]
 unmet own (Took from (Spelled (Rtm number tag opt form))) before n = elim n [ ]
-unmet own _ before n = (refl, append-nil (receives before), λ live m. refl, λ life k. refl)
+unmet own (Took from item) before n =
+    let e = none_enter own.limits.first (Took from item) before from (silent_item from item n) in
+    (rw e refl, append-nil (receives before), λ live m. rw e refl, silent_item from item n, unnamed_item before from item n)
+unmet own _ before n = (refl, append-nil (receives before), λ live m. refl, λ life k. refl, refl)
 
 -- the receives stay where nothing is met
 pub receives_still : (own : Own) (d : Deed) (before : List Deed) (count : ℕ) (posted : List Posted) → IsPlain own (d ∷ before) → MeetsNothing d
@@ -130,10 +169,10 @@ waiting_heard own log arrived i e m =
     (subst (λ (xs : List _). Member (arrived_message i) xs) e (map-member arrived_message i arrived m))).0
 
 -- what was told of the messages that wait stays
-pub told_stays : (own : Own) (d : Deed) (before : List Deed) (arrived : List Inbound) (heard : List Heard) (i : Inbound) → IsPlain own (d ∷ before)
-    → MessagesKept own before arrived heard → Member i arrived
+pub told_stays : (own : Own) (d : Deed) (before : List Deed) (arrived : List Inbound) (i : Inbound) → IsPlain own (d ∷ before)
+    → MessagesKept own before arrived → Member i arrived
     → (heads_by (d ∷ before) i.life i.no.0 ≡ heads_by before i.life i.no.0) × (bytes_by own.limits.first (d ∷ before) i.life i.no.0 ≡ bytes_by own.limits.first before i.life i.no.0)
-told_stays own d before arrived heard i h k m =
+told_stays own d before arrived i h k m =
     let x = waiting_heard own before arrived i k.arrived_are m in
     (head_stays d before i.life i.no.0 x.0 x.1, bytes_stay own d before i.life i.no.0 x.0 h x.1)
 
@@ -143,18 +182,57 @@ unfolding is_heard heard_head
 heard_more d before life n e = rw e (ap (λ (o : Option Head). is_some o) (or_else-none (heard_head before life n)))
 
 -- the messages stay where nothing is met
-pub messages_still : (own : Own) (d : Deed) (before : List Deed) (arrived : List Inbound) (heard : List Heard) → IsPlain own (d ∷ before) → MeetsNothing d
-    → MessagesKept own before arrived heard → MessagesKept own (d ∷ before) arrived heard
+pub messages_still : (own : Own) (d : Deed) (before : List Deed) (arrived : List Inbound) → IsPlain own (d ∷ before) → MeetsNothing d
+    → MessagesKept own before arrived → MessagesKept own (d ∷ before) arrived
 unfolding run
-messages_still own d before arrived heard h n k =
+messages_still own d before arrived h n k =
     let u = unmet own d before n in
     let s : own_matching own (d ∷ before) ≡ own_matching own before = matching_step own d before h ∙ ap (run (own_matching own before)) u.0 in
     record {
       arrived_are = k.arrived_are ∙ ap (λ (m : Matching). m.arrived) (sym s);
-      heads_are = λ i m. (told_stays own d before arrived heard i h k m).0 ∙ k.heads_are i m;
-      bytes_are = λ i m. (told_stays own d before arrived heard i h k m).1 ∙ k.bytes_are i m;
-      heard_are = λ life number. k.heard_are life number ∙ sym (heard_more d before life number (u.3 life number));
+      heads_are = λ i m. (told_stays own d before arrived i h k m).0 ∙ k.heads_are i m;
+      bytes_are = λ i m. (told_stays own d before arrived i h k m).1 ∙ k.bytes_are i m;
     }
+
+-- a held message was heard of
+pub held_heard : (own : Own) (log : List Deed) (peers : List Peer) (arrived held : List Inbound) (i : Inbound) → HeldKept own log peers arrived held → Member i held
+    → (h : Head) × (heard_head log i.life i.no.0 ≡ Some h)
+unfolding is_heard
+held_heard own log peers arrived held i k m =
+    let here : held_of held i.life i.no.0 ≡ true =
+    member_list_any (is_message i.life i.no.0) i held m (and_from (same_life i.life i.life) (i.no.0 == i.no.0) (same_life-refl i.life) (eq-eqb i.no.0 i.no.0 refl)) in
+    some_of (heard_head log i.life i.no.0) (sym (k.heard_are i.life i.no.0) ∙ (rw here (or-true _)))
+
+-- what was told of the held messages stays
+pub held_stays : (own : Own) (d : Deed) (before : List Deed) (peers : List Peer) (arrived held : List Inbound) (i : Inbound) → IsPlain own (d ∷ before)
+    → HeldKept own before peers arrived held → Member i held
+    → (heads_by (d ∷ before) i.life i.no.0 ≡ inbound_head i) × (bytes_by own.limits.first (d ∷ before) i.life i.no.0 ≡ i.bytes)
+held_stays own d before peers arrived held i h k m =
+    let x = held_heard own before peers arrived held i k m in
+    (head_stays d before i.life i.no.0 x.0 x.1 ∙ k.heads_are i m, bytes_stay own d before i.life i.no.0 x.0 h x.1 ∙ k.bytes_are i m)
+
+-- the held messages stay where nothing is met, and what is known of lives but for their numbers may change
+pub held_still_by : (own : Own) (d : Deed) (before : List Deed) (peers now : List Peer) (arrived held : List Inbound) → IsPlain own (d ∷ before) → MeetsNothing d
+    → ((life : Life) → (peer_in now life).entered ≡ (peer_in peers life).entered) → HeldKept own before peers arrived held → HeldKept own (d ∷ before) now arrived held
+unfolding heard_names met_by_all
+held_still_by own d before peers now arrived held h n same k =
+    let u = unmet own d before n in
+    let p = pairs_step own d before h in
+    let e = u.0 in
+    let f = u.4 in
+    record {
+      heads_are = λ i m. (held_stays own d before peers arrived held i h k m).0;
+      bytes_are = λ i m. (held_stays own d before peers arrived held i h k m).1;
+      heard_are = λ life number. (let q = same life in rw q (k.heard_are life number)) ∙ sym (heard_more d before life number (u.3 life number));
+      next_are = λ life. (let q = same life in rw q (heard_more d before life (next_of own.limits.first peers life) (u.3 life (next_of own.limits.first peers life)) ∙ k.next_are life));
+      within = λ life. (let q = same life in let w = k.within life in omega arith);
+      count = rw (p, e, f, append-nil (own_matching own before).pairs, append-nil (heard_names before)) k.count;
+    }
+
+-- the same where nothing that is known of lives changes
+pub held_still : (own : Own) (d : Deed) (before : List Deed) (peers : List Peer) (arrived held : List Inbound) → IsPlain own (d ∷ before) → MeetsNothing d
+    → HeldKept own before peers arrived held → HeldKept own (d ∷ before) peers arrived held
+held_still own d before peers arrived held h n k = held_still_by own d before peers peers arrived held h n (λ life. refl) k
 
 -- a deed that takes and pushes nothing leaves what is owed
 greets_nobody : (own : Own) (d : Deed) (before : List Deed) → GreetsNobody d → ((rs : List Reply) → replies_left d rs ≡ rs) × (handshake_by own before d ≡ [])
@@ -172,8 +250,8 @@ owed_still own d before owed h n k =
 
 -- a deed that meets nothing makes no pair
 pub no_pairs : (own : Own) (d : Deed) (before : List Deed) → MeetsNothing d → new_pairs own before d ≡ []
-unfolding met_by
-no_pairs own d before n = ap (met_by (own_matching own before)) (unmet own d before n).0
+unfolding met_by_all
+no_pairs own d before n = ap (met_by_all (own_matching own before)) (unmet own d before n).0
 
 -- the regions stay where nothing is met or registered
 pub regions_still : (own : Own) (d : Deed) (before : List Deed) (regions : List (List ℕ)) → IsPlain own (d ∷ before) → MeetsNothing d → region_by d ≡ []

@@ -1,4 +1,4 @@
--- Of plain deeds: each message that was heard of is the first one of its life, and came whole in one packet.
+-- Of plain deeds: each message that was heard of came whole in one packet.
 use Rattle.std.proofs.Common.{◌≡◌, ℕ, true, false, cond, List, [], ◌∷◌, length, Option, Some, None, refl, ◌⊎◌, inl, inr, ap, ◌∙◌, sym}
 use Rattle.std.specs.Prelude.{◌==◌, is_some}
 use Rattle.std.proofs.lemmas.Bool.{eqb-true}
@@ -24,11 +24,10 @@ use Rattle.rdm_model.proofs.Members.{same_life-true}
 abbrev pub whole : List ℕ → Piece
 whole bytes = record { offset = 0; bytes = bytes }
 
--- a deed that tells of that message, which was not heard of: the first one of its life, whole
+-- a deed that tells of that message, which was not heard of: it comes whole
 pub record Tells (own : Own) (before : List Deed) (ps : List Pair) (source : Life) (n : ℕ) (d : Deed) : Type 0 where
   pub head : Head
   pub bytes : List ℕ
-  pub is_first : n ≡ own.limits.first
   pub is_new : heard_head before source n ≡ None
   pub told : head_by source n d ≡ Some head
   pub is_eager : head.shape ≡ S.Eager
@@ -59,7 +58,6 @@ tells_or_silent own before ps source n (Took from (Spelled (Rtm number tag opt (
             | true ↦ λ e. inl (record {
               head = head_of tag opt (Eager bytes);
               bytes = bytes;
-              is_first = sym (eqb-true number.0 n e) ∙ h.0;
               is_new = unheard before from source number.0 n (same_life-true from source s) (eqb-true number.0 n e) h.1;
               told = rw (s, e) refl;
               is_eager = refl;
@@ -78,7 +76,6 @@ tells_or_silent own before ps source n _ h = inr (record { told = refl; carried 
 -- what was heard of, with its one piece
 pub record Came (own : Own) (heads : Heads) (log : List Deed) (source : Life) (n : ℕ) (head : Head) : Type 0 where
   pub bytes : List ℕ
-  pub is_first : n ≡ own.limits.first
   pub is_eager : head.shape ≡ S.Eager
   pub length_is : head.length ≡ length bytes
   pub carried : carried_pieces own.limits.first heads log source n ≡ whole bytes ∷ []
@@ -112,7 +109,6 @@ heard_came own heads (d ∷ before) source n head h is =
           let same : t.head ≡ head = cc in
           record {
             bytes = t.bytes;
-            is_first = t.is_first;
             is_eager = sym (ap (λ (x : Head). x.shape) same) ∙ t.is_eager;
             length_is = sym (ap (λ (x : Head). x.length) same) ∙ t.length_is;
             carried = let c = t.carried in rw (none, c) refl;
@@ -126,7 +122,6 @@ heard_came own heads (d ∷ before) source n head h is =
           let c = heard_came own heads before source n head h.0 e in
           record {
             bytes = c.bytes;
-            is_first = c.is_first;
             is_eager = c.is_eager;
             length_is = c.length_is;
             carried = let x = c.carried in let y = t.carried in rw (x, y) refl;

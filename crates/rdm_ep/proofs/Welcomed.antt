@@ -1,19 +1,12 @@
 -- What the code writes where a datagram is taken is what the definitions say.
-use Rattle.std.proofs.Common.{◌≡◌, ℕ, true, false, List, [], ◌∷◌, ◌++◌, take, Option, Some, None, refl, ◌∙◌, ap}
+use Rattle.std.proofs.Common.{◌≡◌, ℕ, true, false, List, Option, refl, ◌∙◌, ap}
 use Rattle.std.specs.Prelude.{find, is_none, ◌==◌}
-use Rattle.rdm_num.specs.Lists.{without_first}
 use Rattle.rdm_num.specs.declared.numbers.Life.{Life}
-use Rattle.rdm_num.specs.declared.completion.Completion.{Completion}
-use Rattle.rdm_model.specs.Regions.{change_at, put}
 use Rattle.rdm_ep.specs.declared.state.Peer.{Peer}
-use Rattle.rdm_ep.specs.declared.state.Heard.{Heard}
-use Rattle.rdm_ep.specs.declared.state.Posted.{Posted}
-use Rattle.rdm_ep.specs.declared.state.Inbound.{Inbound}
-use Rattle.rdm_ep.specs.declared.state.Verdict.TheVariants.{Message, Features}
+use Rattle.rdm_ep.specs.declared.state.Verdict.TheVariants.{Features}
 use Rattle.rdm_ep.specs.View.{EndpointView, current_in}
 use Rattle.rdm_ep.specs.Peers.{peer_in, put_peer, known_peer}
-use Rattle.rdm_ep.specs.Receiving.{takes, completion_of, landed, after_arrive}
-use Rattle.rdm_ep.specs.Handling.{with_source, with_greeting, with_message}
+use Rattle.rdm_ep.specs.Handling.{with_source, with_greeting}
 use Rattle.rdm_ep.specs.Verdicts.{currents_with, peers_with, owed_with, with_features, verdict_effect}
 use Rattle.rdm_ep.proofs.PeersLemmas.{with_peer_put}
 
@@ -40,35 +33,6 @@ welcomed v from =
             | false ↦ λ was. rw (is, was) refl
           ] refl
     ] refl
-
--- the endpoint with the message last of those that wait
-pub kept : (v : EndpointView) (i : Inbound) (currents : List Life) (peers : List Peer) (owed : List Life) (heard : List Heard) (arrived : List Inbound)
-    → find (λ p. takes p i) v.posted ≡ None → currents ≡ currents_with i.life v.currents → peers ≡ peers_with i.life v.peers → owed ≡ owed_with i.life v.peers v.owed
-    → heard ≡ v.heard ++ record { life = i.life; no = i.no } ∷ [] → arrived ≡ v.arrived ++ i ∷ []
-    → ◌≡◌ {A = EndpointView} (record v { currents = currents; peers = peers; owed = owed; heard = heard; arrived = arrived }) (verdict_effect i.life (Message i) v)
-unfolding verdict_effect with_message after_arrive
-kept v i currents peers owed heard arrived none a b d e f =
-    let w : ◌≡◌ {A = EndpointView} (record v { currents = currents; peers = peers; owed = owed; heard = heard; arrived = arrived })
-    (with_message i (record v { currents = currents_with i.life v.currents; peers = peers_with i.life v.peers; owed = owed_with i.life v.peers v.owed })) =
-    rw (a, b, d, e, f, none) refl in
-    w ∙ ap (with_message i) (welcomed v i.life)
-
--- the endpoint after the receive at a place took the message
-pub landed_at : (v : EndpointView) (i : Inbound) (p : Posted) (at : ℕ) (regions : List (List ℕ)) (currents : List Life) (peers : List Peer) (owed : List Life) (heard : List Heard)
-    (posted : List Posted) (completions : List Completion)
-    → find (λ q. takes q i) v.posted ≡ Some p → without_first (λ q. takes q i) v.posted ≡ posted
-    → currents ≡ currents_with i.life v.currents → peers ≡ peers_with i.life v.peers → owed ≡ owed_with i.life v.peers v.owed
-    → heard ≡ v.heard ++ record { life = i.life; no = i.no } ∷ []
-    → regions ≡ change_at (put p.req.at (take p.req.len i.bytes)) p.req.region.0 v.regions → completions ≡ v.completions ++ completion_of p i ∷ []
-    → ◌≡◌ {A = EndpointView}
-    (record v { regions = regions; currents = currents; peers = peers; posted = posted; heard = heard; owed = owed; completions = completions })
-    (verdict_effect i.life (Message i) v)
-unfolding verdict_effect with_message after_arrive landed
-landed_at v i p at regions currents peers owed heard posted completions found without a b d e r k =
-    let w : ◌≡◌ {A = EndpointView} (record v { regions = regions; currents = currents; peers = peers; posted = posted; heard = heard; owed = owed; completions = completions })
-    (with_message i (record v { currents = currents_with i.life v.currents; peers = peers_with i.life v.peers; owed = owed_with i.life v.peers v.owed })) =
-    rw (a, b, d, e, found, without, r, k) refl in
-    w ∙ ap (with_message i) (welcomed v i.life)
 
 -- the endpoint with the features of a life written
 pub features_written : (v : EndpointView) (from : Life) (word : Option ℕ) (currents : List Life) (peers : List Peer) (owed : List Life)

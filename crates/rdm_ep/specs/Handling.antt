@@ -1,8 +1,8 @@
 -- What the handling of a datagram makes of an endpoint.
-use Rattle.std.specs.Prelude.{◌≡◌, ℕ, Bool, true, false, not, ◌&&◌, ◌||◌, ◌==◌, nat_lt, nat_le, if◌then◌else◌, List, [], ◌∷◌, ◌++◌, length, Option, Some, None, is_none, is_some, find, slice_get}
+use Rattle.std.specs.Prelude.{◌≡◌, ℕ, ◌+◌, Bool, true, false, not, ◌&&◌, ◌||◌, ◌==◌, nat_lt, nat_le, if◌then◌else◌, List, [], ◌∷◌, ◌++◌, length, Option, Some, None, is_none, is_some, find, slice_get}
 use Rattle.std.specs.List.{list_any}
 use Rattle.rdm_num.specs.Lists.{first_case}
-use Rattle.rdm_num.specs.Lives.{same_life, life}
+use Rattle.rdm_num.specs.Lives.{life}
 use Rattle.rdm_num.specs.declared.numbers.Life.{Life}
 use Rattle.rdm_num.specs.declared.numbers.Connid.{Connid}
 use Rattle.rdm_num.specs.declared.head.Head.{Head}
@@ -20,40 +20,39 @@ use Rattle.rdm_model.specs.declared.answer.Class.TheVariants.{ToOther, FromOther
 use Rattle.rdm_model.specs.Deeds.{Item, Spelled, Asks, item_of}
 use Rattle.rdm_model.specs.Heads.{same_head}
 use Rattle.rdm_model.specs.Sources.{is_other, is_malformed, has_raw}
-use Rattle.rdm_ep.specs.declared.state.Heard.{Heard}
 use Rattle.rdm_ep.specs.declared.state.Inbound.{Inbound}
 use Rattle.rdm_ep.specs.declared.answer.HandleAnswer.{HandleAnswer}
 use Rattle.rdm_ep.specs.declared.answer.HandleAnswer.TheVariants.{Took, Dropped, AgainEarly, Memory}
 use Rattle.rdm_ep.specs.View.{EndpointView, current_in}
 use Rattle.rdm_ep.specs.Peers.{peer_in, with_peer, greeted_peer, known_peer}
-use Rattle.rdm_ep.specs.Receiving.{takes, after_arrive}
+use Rattle.rdm_ep.specs.Receiving.{takes}
+use Rattle.rdm_ep.specs.Entering.{next_in, is_message, is_held_in, with_message, entered_by}
 
--- the message was heard of
-unfoldable pub is_heard_in : EndpointView → Life → ℕ → Bool
-is_heard_in v from number = list_any (λ (h : Heard). same_life h.life from && h.no.0 == number) v.heard
-
--- what the packet of a waiting message said of it
+-- what the packet of a message said of it
 abbrev pub inbound_head : Inbound → Head
 inbound_head i = record { tag = i.tag; cq_data = i.cq_data; length = length i.bytes; shape = S.Eager }
 
--- the message waits, and its packet said something else
-unfoldable pub has_other_head : EndpointView → Life → (number : ℕ) → Head → Bool
-has_other_head v from number head =
-    list_any (λ (i : Inbound). same_life i.life from && (i.no.0 == number) && not (same_head (inbound_head i) head)) v.arrived
+-- the message is one of these, and its packet said something else
+unfoldable pub is_other_message : List Inbound → Life → (number : ℕ) → Head → Bool
+is_other_message messages from number head = list_any (λ (i : Inbound). is_message from number i && not (same_head (inbound_head i) head)) messages
+
+-- the message waits or is held, and its packet said something else
+abbrev pub has_other_head : EndpointView → Life → (number : ℕ) → Head → Bool
+has_other_head v from number head = is_other_message v.arrived from number head || is_other_message v.held from number head
 
 -- the whole message in one packet
 unfoldable pub is_eager : Form → Bool
 is_eager (Eager bytes) = true
 is_eager _ = false
 
--- the class of a packet that opens a message. What is not built, a message in other than one packet or another
--- than the first one of its life, is dropped as if it were no packet
+-- the class of a packet that opens a message. What is not built, a message in other than one packet, is dropped as if it
+-- were no packet
 unfoldable pub rtm_class : EndpointView → Life → (number : ℕ) → Head → Form → Option Class
 rtm_class v from number head form =
     first_case
     ((has_other_head v from number head, Some Mismatch)
-    ∷ (nat_lt number v.own.limits.first || is_heard_in v from number, Some Overlap)
-    ∷ (not (is_eager form && number == v.own.limits.first), Some Malformed)
+    ∷ (nat_lt number (next_in v from) || is_held_in v from number, Some Overlap)
+    ∷ (not (is_eager form), Some Malformed)
     ∷ [])
     None
 
@@ -83,21 +82,28 @@ inbound from number tag opt bytes = record { life = from; no = record { 0 = numb
 unfoldable pub is_met_in : EndpointView → Inbound → Bool
 is_met_in v i = is_some (find (λ p. takes p i) v.posted)
 
+-- as many messages wait, for a receive or for those before them, as may
+unfoldable pub early_is_full : EndpointView → Bool
+early_is_full v = nat_le v.own.limits.early (length v.arrived + length v.held)
+
+-- the message is next, and a posted receive accepts it
+unfoldable pub enters_at_once : EndpointView → Inbound → Bool
+enters_at_once v i = (i.no.0 == next_in v i.life) && is_met_in v i
+
 -- the message would wait, and as many wait as may
 unfoldable pub needs_place_in : EndpointView → Life → Item → Bool
-needs_place_in v from (Spelled (Rtm number tag opt (Eager bytes))) =
-    not (is_met_in v (inbound from number.0 tag opt bytes)) && nat_le v.own.limits.early (length v.arrived)
+needs_place_in v from (Spelled (Rtm number tag opt (Eager bytes))) = not (enters_at_once v (inbound from number.0 tag opt bytes)) && early_is_full v
 needs_place_in v from _ = false
 
--- what a taken datagram answers: the number that enters by it
-unfoldable pub taken_in : Item → HandleAnswer
-taken_in (Spelled (Rtm number tag opt form)) = Took (Some (record { first = number; count = 1 }))
-taken_in _ = Took None
+-- what a taken datagram answers: the numbers that enter by it
+unfoldable pub taken_in : EndpointView → Life → Item → HandleAnswer
+taken_in v from (Spelled (Rtm number tag opt (Eager bytes))) = Took (entered_by (number.0 == next_in v from) (inbound from number.0 tag opt bytes) v.held)
+taken_in v from _ = Took None
 
 -- what a datagram answers, by its class
 unfoldable pub class_answer_in : EndpointView → Life → Item → Option Class → HandleAnswer
 class_answer_in v from item (Some class') = Dropped class'
-class_answer_in v from item None = if needs_place_in v from item then AgainEarly else taken_in item
+class_answer_in v from item None = if needs_place_in v from item then AgainEarly else taken_in v from item
 
 -- what the handling of a datagram from one life to another answers
 unfoldable pub item_answer : EndpointView → Life → (to : Connid) → Item → HandleAnswer
@@ -114,23 +120,15 @@ with_greeting from v =
     then v
     else record v { peers = with_peer greeted_peer from v.peers; owed = v.owed ++ from ∷ [] }
 
--- the message was heard
-abbrev pub with_heard : Inbound → EndpointView → EndpointView
-with_heard i v = record v { heard = v.heard ++ record { life = i.life; no = i.no } ∷ [] }
-
--- a message arrives
-unfoldable pub with_message : Inbound → EndpointView → EndpointView
-with_message i v = after_arrive (with_heard i v) i (find (λ p. takes p i) v.posted)
-
--- what was taken has its effect
-unfoldable pub with_item : Life → Item → EndpointView → EndpointView
-with_item from (Spelled (Rtm number tag opt (Eager bytes))) v = with_message (inbound from number.0 tag opt bytes) v
-with_item from (Spelled (Handshake words connid)) v = record v { peers = with_peer (known_peer (slice_get words 0)) from v.peers }
-with_item from _ v = v
+-- what was taken has its effect, where that number is the next one of its life
+unfoldable pub with_item : (next : ℕ) → Life → Item → EndpointView → EndpointView
+with_item next from (Spelled (Rtm number tag opt (Eager bytes))) v = with_message (number.0 == next) (inbound from number.0 tag opt bytes) v
+with_item next from (Spelled (Handshake words connid)) v = record v { peers = with_peer (known_peer (slice_get words 0)) from v.peers }
+with_item next from _ v = v
 
 -- the endpoint after a datagram that was taken
 unfoldable pub after_take : Life → Item → EndpointView → EndpointView
-after_take from item v = with_item from item (with_greeting from (with_source from v))
+after_take from item v = with_item (next_in v from) from item (with_greeting from (with_source from v))
 
 -- a datagram that was taken has its effect, and any other has none
 unfoldable pub after_answer : HandleAnswer → Life → Item → EndpointView → EndpointView

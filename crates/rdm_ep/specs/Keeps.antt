@@ -1,5 +1,5 @@
 -- What an endpoint keeps of the deeds of its life.
-use Rattle.std.specs.Prelude.{◌≡◌, ◌≤◌, ℕ, List, [], ◌∷◌, map, length, drop}
+use Rattle.std.specs.Prelude.{◌≡◌, ◌≤◌, ◌+◌, ℕ, false, List, [], ◌∷◌, map, length, drop}
 use Rattle.std.specs.List.{list_any}
 use Rattle.rdm_num.specs.Lists.{Member}
 use Rattle.rdm_num.specs.declared.numbers.Life.{Life}
@@ -16,7 +16,7 @@ use Rattle.rdm_model.specs.Regions.{regions}
 use Rattle.rdm_model.specs.Sends.{Sent, sends, sends_to, known_word}
 use Rattle.rdm_model.specs.Replies.{Reply, reply, is_from}
 use Rattle.rdm_model.specs.Turns.{progress, live_sends}
-use Rattle.rdm_model.specs.Completions.{completions, poll_count}
+use Rattle.rdm_model.specs.Completions.{completions, poll_count, heard_names}
 use Rattle.rdm_model.specs.Deeds.{Spelled}
 use Rattle.rdm_pkt.specs.declared.Packet.TheVariants.{Handshake}
 use Rattle.rdm_ep.specs.declared.state.Posted.{Posted}
@@ -25,7 +25,8 @@ use Rattle.rdm_ep.specs.declared.state.Outbound.{Outbound}
 use Rattle.rdm_ep.specs.View.{EndpointView, current_in}
 use Rattle.rdm_ep.specs.Peers.{peer_in}
 use Rattle.rdm_ep.specs.Receiving.{arrived_message}
-use Rattle.rdm_ep.specs.Handling.{is_heard_in, inbound_head}
+use Rattle.rdm_ep.specs.Entering.{next_in, is_heard_in}
+use Rattle.rdm_ep.specs.Handling.{inbound_head}
 
 -- a receive of the life as the endpoint keeps it
 abbrev pub posted_of : Receive → Posted
@@ -58,7 +59,11 @@ pub record Keeps (log : List Deed) (v : EndpointView) : Type 0 where
       ≡ (matching v.own.limits.first (heard_by v.own.limits.first log).head log).posted
   pub arrived_are : map arrived_message v.arrived ≡ (matching v.own.limits.first (heard_by v.own.limits.first log).head log).arrived
   pub told : (i : Inbound) → Member i v.arrived → IsToldBy (heard_by v.own.limits.first log) i
+  pub held_told : (i : Inbound) → Member i v.held → IsToldBy (heard_by v.own.limits.first log) i
   pub heard_are : (life : Life) (number : ℕ) → is_heard_in v life number ≡ is_heard log life number
+  pub next_are : (life : Life) → is_heard log life (next_in v life) ≡ false
+  pub entered_within : (life : Life) → (peer_in v.peers life).entered + length v.held ≤ length log
+  pub waiting_count : length v.arrived + length v.held + length (matching v.own.limits.first (heard_by v.own.limits.first log).head log).pairs ≡ length (heard_names log)
   pub owed_are : map (greeting v.own) v.owed ≡ (progress v.own (heard_by v.own.limits.first log) log).replies
   pub outgoing_are : v.outgoing ≡ map outbound_of (live_sends v.own (heard_by v.own.limits.first log) log)
   pub polled_within : poll_count log ≤ length (completions v.own (heard_by v.own.limits.first log) log)

@@ -5,6 +5,8 @@ pub mod Counts
 pub mod Peers
 pub mod Sending
 pub mod Receiving
+pub mod Meeting
+pub mod Entering
 pub mod Handling
 pub mod Verdicts
 pub mod Going

@@ -6,7 +6,7 @@ use Rattle.rdm_ep.specs.declared.state.Peer.{Peer}
 
 -- a life of which nothing is known
 abbrev pub new_peer : Life → Peer
-new_peer life = record { life = life; greeted = false; known = None; sent = 0 }
+new_peer life = record { life = life; greeted = false; known = None; sent = 0; entered = 0 }
 
 -- what is known of a life
 unfoldable pub peer_in : List Peer → Life → Peer
@@ -29,6 +29,10 @@ known_peer word p = record p { known = word }
 -- one more message was sent to it
 abbrev pub sent_peer : Peer → Peer
 sent_peer p = record p { sent = p.sent + 1 }
+
+-- so many more of its messages have entered
+abbrev pub entered_peer : ℕ → Peer → Peer
+entered_peer count p = record p { entered = p.entered + count }
 
 -- what is known of the lives after this was written of one
 unfoldable pub put_peer : Life → Peer → List Peer → List Peer

@@ -1,6 +1,6 @@
--- The deeds that the built calls of an endpoint reach: messages in one packet each, the first one of a life to
--- another, no life forgotten, none closed, no receive cancelled.
-use Rattle.std.specs.Prelude.{◌≡◌, Bool, true, false, nat_le, List, [], ◌∷◌, is_some}
+-- The deeds that the built calls of an endpoint reach: messages in one packet each, no life forgotten, none closed, no
+-- receive cancelled.
+use Rattle.std.specs.Prelude.{◌≡◌, ◌≤◌, Bool, true, false, nat_le, List, [], ◌∷◌, is_some}
 use Rattle.rdm_num.specs.declared.numbers.Life.{Life}
 use Rattle.rdm_pkt.specs.declared.Packet.TheVariants.{Rtm, Handshake}
 use Rattle.rdm_pkt.specs.declared.Form.TheVariants.{Eager}
@@ -26,9 +26,9 @@ IsPlainInstr own before (Cancel recv) = ⊥
 IsPlainInstr own before CloseLife = ⊥
 IsPlainInstr own before _ = Unit {0}
 
--- the first message of a life in one packet, or a handshake
+-- a message in one packet that was not heard of, or a handshake
 abbrev pub IsPlainItem : Own → List Deed → Life → Item → Type 0
-IsPlainItem own before from (Spelled (Rtm number tag opt (Eager bytes))) = (number.0 ≡ own.limits.first) × (is_heard before from number.0 ≡ false)
+IsPlainItem own before from (Spelled (Rtm number tag opt (Eager bytes))) = (own.limits.first ≤ number.0) × (is_heard before from number.0 ≡ false)
 IsPlainItem own before from (Spelled (Handshake words connid)) = Unit {0}
 IsPlainItem own before from _ = ⊥
 

@@ -84,11 +84,6 @@ one_more_receive v = record v { receives = v.receives + 1 }
 unfoldable pub after_recv : EndpointView → RecvReq → EndpointView
 after_recv v req = after_post (one_more_receive v) (posted_by v req) (find (takes (posted_by v req)) v.arrived)
 
--- the first receive that accepts a message takes it, or it waits last
-unfoldable pub after_arrive : EndpointView → Inbound → Option Posted → EndpointView
-after_arrive v i None = record v { arrived = v.arrived ++ i ∷ [] }
-after_arrive v i (Some p) = landed p i (record v { posted = without_first (λ q. takes q i) v.posted })
-
 -- the endpoint is as the answer to a receive says
 abbrev pub ReceivesAs : EndpointView → EndpointView → RecvReq → RecvAnswer → Type 0
 ReceivesAs old new req (Did recv) = new ≡ after_recv old req

@@ -1,5 +1,5 @@
 -- What an endpoint decides on what came, and what the decision makes of it.
-use Rattle.std.specs.Prelude.{◌≡◌, ℕ, Bool, not, ◌&&◌, nat_le, if◌then◌else◌, List, [], ◌∷◌, ◌++◌, length, Option, Some, None, is_none, find, slice_get, ◌==◌}
+use Rattle.std.specs.Prelude.{◌≡◌, ℕ, Bool, not, ◌&&◌, if◌then◌else◌, List, [], ◌∷◌, ◌++◌, Option, Some, None, is_none, find, slice_get, ◌==◌}
 use Rattle.rdm_num.specs.Lists.{first_case}
 use Rattle.rdm_num.specs.declared.numbers.Life.{Life}
 use Rattle.rdm_num.specs.declared.numbers.Connid.{Connid}
@@ -17,7 +17,8 @@ use Rattle.rdm_ep.specs.declared.answer.HandleAnswer.{HandleAnswer}
 use Rattle.rdm_ep.specs.declared.answer.HandleAnswer.TheVariants.{Took, Dropped, AgainEarly, Memory}
 use Rattle.rdm_ep.specs.View.{EndpointView, current_in}
 use Rattle.rdm_ep.specs.Peers.{peer_in, with_peer, greeted_peer, known_peer}
-use Rattle.rdm_ep.specs.Handling.{load_class, item_class_in, inbound, is_met_in, with_source, with_greeting, with_message}
+use Rattle.rdm_ep.specs.Entering.{next_in, with_message, entered_by}
+use Rattle.rdm_ep.specs.Handling.{load_class, item_class_in, inbound, early_is_full, enters_at_once, with_source, with_greeting}
 
 -- what is taken: a message in one packet, or a handshake
 unfoldable pub accepted_of : Life → Item → Verdict
@@ -52,18 +53,18 @@ abbrev pub IsFrom : Life → Verdict → Type 0
 IsFrom from (Message i) = i.life ≡ from
 IsFrom from _ = Unit {0}
 
--- as many messages wait as may
-unfoldable pub early_is_full : EndpointView → Bool
-early_is_full v = nat_le v.own.limits.early (length v.arrived)
-
 -- the message would wait, and as many wait as may
 unfoldable pub waits_in : EndpointView → Inbound → Bool
-waits_in v i = not (is_met_in v i) && early_is_full v
+waits_in v i = not (enters_at_once v i) && early_is_full v
+
+-- the message is the next one of its life
+abbrev pub is_next_in : EndpointView → Inbound → Bool
+is_next_in v i = i.no.0 == next_in v i.life
 
 -- what a decision answers
 unfoldable pub verdict_answer : EndpointView → Verdict → HandleAnswer
 verdict_answer v (Refuse class') = Dropped class'
-verdict_answer v (Message i) = if waits_in v i then AgainEarly else Took (Some (record { first = i.no; count = 1 }))
+verdict_answer v (Message i) = if waits_in v i then AgainEarly else Took (entered_by (is_next_in v i) i v.held)
 verdict_answer v (Features word) = Took None
 
 -- the features of a life are known
@@ -73,7 +74,7 @@ with_features from word v = record v { peers = with_peer (known_peer word) from 
 -- what a decision makes of the endpoint
 unfoldable pub verdict_effect : Life → Verdict → EndpointView → EndpointView
 verdict_effect from (Refuse class') v = v
-verdict_effect from (Message i) v = with_message i (with_greeting from (with_source from v))
+verdict_effect from (Message i) v = with_message (is_next_in v i) i (with_greeting from (with_source from v))
 verdict_effect from (Features word) v = with_features from word (with_greeting from (with_source from v))
 
 -- the endpoint is as the answer to a decision says

@@ -5,7 +5,6 @@ use Rattle.rdm_num.specs.declared.completion.Completion.{Completion}
 use Rattle.rdm_model.specs.Owns.{Own}
 use Rattle.rdm_ep.specs.declared.state.Peer.{Peer}
 use Rattle.rdm_ep.specs.declared.state.Posted.{Posted}
-use Rattle.rdm_ep.specs.declared.state.Heard.{Heard}
 use Rattle.rdm_ep.specs.declared.state.Inbound.{Inbound}
 use Rattle.rdm_ep.specs.declared.state.Outbound.{Outbound}
 
@@ -23,8 +22,8 @@ pub record EndpointView : Type 0 where
   -- receives without a message, and messages without a receive
   pub posted : List Posted
   pub arrived : List Inbound
-  -- the message numbers that were heard
-  pub heard : List Heard
+  -- the messages that were heard of, and wait for those before them
+  pub held : List Inbound
   -- the lives that are owed a handshake, and the sends that are to be pushed
   pub owed : List Life
   pub outgoing : List Outbound
@@ -44,7 +43,7 @@ new_endpoint own =
       polled = 0;
       posted = [];
       arrived = [];
-      heard = [];
+      held = [];
       owed = [];
       outgoing = [];
       completions = [];

@@ -2,7 +2,7 @@
 ghost use Rattle.std.specs.Prelude.{◌≡◌, ◌≤◌, IfOk};
 ghost use Rattle.rdm_ep.specs.View.{new_endpoint};
 
-use crate::state::{Heard, Inbound, Outbound, Peer, Posted};
+use crate::state::{Inbound, Outbound, Peer, Posted};
 use crate::twin::Twin;
 use rdm_num::{EpLimits, Life, NoMemory};
 use std::alloc::Global;
@@ -22,7 +22,7 @@ pub struct Endpoint {
     pub(crate) polled: u64,
     pub(crate) posted: Vec<Posted>,
     pub(crate) arrived: Vec<Inbound>,
-    pub(crate) heard: Vec<Heard>,
+    pub(crate) held: Vec<Inbound>,
     pub(crate) owed: Vec<Life>,
     pub(crate) outgoing: Vec<Outbound>,
     pub(crate) completions: VecDeque<Twin>,
@@ -46,7 +46,7 @@ impl Model for Endpoint {
       polled = e.polled;
       posted = e.posted.items;
       arrived = e.arrived.items;
-      heard = e.heard.items;
+      held = e.held.items;
       owed = e.owed.items;
       outgoing = e.outgoing.items;
       completions = e.completions.items;
@@ -80,7 +80,7 @@ impl Endpoint {
             polled: 0,
             posted: Vec::new(alloc),
             arrived: Vec::new(alloc),
-            heard: Vec::new(alloc),
+            held: Vec::new(alloc),
             owed: Vec::new(alloc),
             outgoing: Vec::new(alloc),
             completions,
@@ -101,7 +101,7 @@ impl Endpoint {
             polled: _,
             posted: _,
             arrived: _,
-            heard: _,
+            held: _,
             owed: _,
             outgoing: _,
             completions: _,

@@ -7,6 +7,8 @@ mod current;
 mod endpoint;
 mod going;
 mod handling;
+mod holding;
+mod meeting;
 mod packets;
 mod peers;
 mod ranges;
@@ -24,5 +26,5 @@ pub use answer::{
     CancelAnswer, HandleAnswer, InsertRefused, Inserted, Outgoing, RecvAnswer, SendAnswer,
 };
 pub use endpoint::Endpoint;
-pub use state::{Heard, Inbound, Outbound, Peer, Posted};
-pub use twin::Twin;
+pub use state::{Inbound, Outbound, Peer, Posted};
+pub use twin::{Twin, TwinBytes};

@@ -37,6 +37,7 @@ pub fn peer_of(peers: &[Peer], life: Life) -> Peer
             greeted: false,
             known: None,
             sent: 0,
+            entered: 0,
         },
     }
 }

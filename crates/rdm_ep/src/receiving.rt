@@ -1,5 +1,5 @@
 //! Receives, and messages that meet them.
-ghost use Rattle.std.specs.Prelude.{◌≡◌, ◌⊎◌, ◌<◌, ◌≤◌, ◌+◌, ◌++◌, ◌∷◌, [], map, take, length, get_or, IfOk, OnOk, OnErr, MatchResult, Some, None, slice_get, remove, vec_len};
+ghost use Rattle.std.specs.Prelude.{◌≡◌, ◌⊎◌, ◌<◌, ◌≤◌, ◌+◌, ◌++◌, ◌∷◌, [], map, take, length, get_or, IfOk, OnOk, OnErr, MatchResult, Some, None, slice_get, remove, vec_len, vec_capacity};
 ghost use Rattle.std.specs.List.{position_from};
 ghost use Rattle.rdm_model.specs.Regions.{change_at, put};
 ghost use Rattle.rdm_ep.specs.Places.{IsPlace, IsPlaced};
@@ -17,8 +17,7 @@ use crate::state::{Inbound, Posted};
 use crate::twin::Twin;
 use rdm_match::{Arrived, PostedRecv, accepts};
 use rdm_model::{PoolName, RecvWhy};
-use rdm_num::{Bytes, Completion, Life, NoMemory, Outcome, PortNo, RecvNo, RecvReq, RegionNo};
-use std::alloc::Global;
+use rdm_num::{Life, NoMemory, PortNo, RecvNo, RecvReq, RegionNo};
 
 /// The receive takes the message.
 #[tactic(auto, unfolding(crate::specs::Receiving::takes))]
@@ -76,26 +75,17 @@ pub(crate) fn kept_bytes(bytes: &[u8], capacity: u64) -> &[u8]
 
 /// The completion of a receive with a message.
 #[tactic(auto, unfolding(crate::specs::Receiving::completion_of))]
-pub(crate) fn completion_of(
-    alloc: Global,
-    posted: &Posted,
-    inbound: &Inbound,
-) -> Result<Twin, NoMemory>
-    ensures { IfOk result (λ c. c ≡ Receiving.completion_of posted.now inbound.now) }
+pub(crate) fn completion_of(posted: &Posted, inbound: Inbound) -> Twin
+    ensures { result ≡ Receiving.completion_of posted.now inbound }
 {
-    let all = inbound.bytes.as_slice();
-    let bytes = Bytes::from_slice(alloc, kept_bytes(all, posted.req.len))?;
-    let excess = (all.len() as u64).saturating_sub(posted.req.len);
-    Twin::copied(Completion::Recv {
-        recv: posted.number,
-        outcome: Outcome::Took {
-            from: inbound.life,
-            tag: inbound.tag,
-            cq_data: inbound.cq_data,
-            bytes,
-            excess,
-        },
-    })
+    Twin::of_message(
+        posted.number,
+        inbound.life,
+        inbound.tag,
+        inbound.cq_data,
+        inbound.bytes,
+        posted.req.len,
+    )
 }
 
 /// Writes bytes at a place of a region.
@@ -191,14 +181,14 @@ impl Endpoint {
 
     /// Accepts a receive or says why not. It completes at once where a message waits for it.
     #[tactic(auto, unfolding(crate::specs::Receiving::after_recv))]
-    pub fn recv(&mut self, alloc: Global, r: &RecvReq) -> RecvAnswer
+    pub fn recv(&mut self, r: &RecvReq) -> RecvAnswer
         requires { self.old.receives < 4294967295 }
         ensures answer { (result ≡ RecvAnswer.Memory) ⊎ (result ≡ Receiving.recv_answer self.old r.now) }
         ensures after { ReceivesAs self.old self.new r.now result }
     {
         match self.check_recv(r) {
             Err(answer) => answer,
-            Ok(from) => match self.accept_recv(alloc, r, from) {
+            Ok(from) => match self.accept_recv(r, from) {
                 Ok(recv) => RecvAnswer::Did(recv),
                 Err(_) => RecvAnswer::Memory,
             },
@@ -207,12 +197,7 @@ impl Endpoint {
 
     /// Keeps an accepted receive, or completes it with the first message that it takes.
     #[tactic(auto, unfolding(crate::specs::Receiving::after_recv, crate::specs::Receiving::posted_by))]
-    fn accept_recv(
-        &mut self,
-        alloc: Global,
-        r: &RecvReq,
-        from: Option<Life>,
-    ) -> Result<RecvNo, NoMemory>
+    fn accept_recv(&mut self, r: &RecvReq, from: Option<Life>) -> Result<RecvNo, NoMemory>
         requires receives { self.old.receives < 4294967295 }
         requires can { CanReceive self.old r.now from }
         ensures number { IfOk result (λ n. n.0 ≡ self.old.receives) }
@@ -227,7 +212,7 @@ impl Endpoint {
         };
         match place_of_arrived(&self.arrived, &posted) {
             None => self.wait(posted)?,
-            Some(at) => self.meet(alloc, posted, at)?,
+            Some(at) => self.meet(posted, at),
         }
         Ok(number)
     }
@@ -249,29 +234,27 @@ impl Endpoint {
 
     /// Completes a receive with a message that waits.
     #[tactic(auto, unfolding(crate::specs::Receiving::after_post, crate::specs::Receiving::landed))]
-    fn meet(&mut self, alloc: Global, posted: Posted, at: usize) -> Result<(), NoMemory>
+    fn meet(&mut self, posted: Posted, at: usize)
         requires receives { self.old.receives < 4294967295 }
         requires room { self.old.sends + self.old.receives < self.old.own.limits.cq + self.old.polled }
         requires range { IsInRange self.old.regions posted }
         requires placed { IsPlaced (Receiving.takes posted) self.old.arrived at }
-        ensures ok { OnOk result (self.new ≡ after_post (one_more_receive self.old) posted (slice_get self.old.arrived at)) }
-        ensures err { OnErr result (self.new ≡ self.old) }
+        ensures { self.new ≡ after_post (one_more_receive self.old) posted (slice_get self.old.arrived at) }
     {
-        let inbound = &self.arrived[at];
-        let completion = completion_of(alloc, &posted, inbound)?;
+        let inbound = take_out(&mut self.arrived, at);
         let kept = kept_bytes(inbound.bytes.as_slice(), posted.req.len);
         write_region(&mut self.regions, posted.req.region, posted.req.at, kept);
-        complete(&mut self.completions, completion);
-        take_out(&mut self.arrived, at);
+        complete(&mut self.completions, completion_of(&posted, inbound));
         self.receives += 1;
-        Ok(())
     }
 }
 
 /// Takes out a message.
-fn take_out(arrived: &mut Vec<Inbound>, at: usize)
-    requires { at < vec_len arrived.old }
-    ensures { arrived.new.items ≡ remove arrived.old.items at }
+pub(crate) fn take_out(messages: &mut Vec<Inbound>, at: usize) -> Inbound
+    requires { at < vec_len messages.old }
+    ensures message { slice_get messages.old.items at ≡ Some result }
+    ensures left { messages.new.items ≡ remove messages.old.items at }
+    ensures room { vec_capacity messages.new ≡ vec_capacity messages.old }
 {
-    arrived.remove(at);
+    messages.remove(at)
 }

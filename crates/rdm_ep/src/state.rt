@@ -1,6 +1,7 @@
 //! What an endpoint keeps.
+use crate::twin::TwinBytes;
 use rdm_model::Class;
-use rdm_num::{Bytes, Life, MsgNo, RecvNo, RecvReq, SendNo, SendReq};
+use rdm_num::{Life, MsgNo, RecvNo, RecvReq, SendNo, SendReq};
 use rdm_pkt::Packet;
 
 /// What is known of a life.
@@ -13,6 +14,8 @@ pub struct Peer {
     pub known: Option<u64>,
     /// How many messages were sent to it.
     pub sent: u64,
+    /// How many of its messages' numbers have entered.
+    pub entered: u64,
 }
 
 /// A receive that waits for its message.
@@ -24,21 +27,14 @@ pub struct Posted {
     pub from: Option<Life>,
 }
 
-/// A message number that was heard.
-#[derive(Clone, Copy, Debug, PartialEq, Eq)]
-pub struct Heard {
-    pub life: Life,
-    pub no: MsgNo,
-}
-
-/// A message that waits for its receive.
+/// A message that waits for its receive, or is held for those before it.
 #[derive(Debug, Drop)]
 pub struct Inbound {
     pub life: Life,
     pub no: MsgNo,
     pub tag: Option<u64>,
     pub cq_data: Option<u64>,
-    pub bytes: Bytes,
+    pub bytes: TwinBytes,
 }
 
 /// A send that was not pushed yet, with the packet that it owes.

@@ -1,112 +1,126 @@
 //! What a datagram that is taken makes of an endpoint.
-ghost use Rattle.std.specs.Prelude.{◌≡◌, ◌<◌, ◌≤◌, ◌+◌, OnOk, OnErr, None, find, length, remove, slice_get, vec_len, vec_capacity};
+ghost use Rattle.std.specs.Prelude.{◌≡◌, ◌<◌, ◌≤◌, ◌+◌, true, false, IfOk, OnOk, OnErr, vec_len, vec_capacity};
 ghost use Rattle.rdm_ep.specs.declared.state.Verdict.TheVariants.{Message, Features};
-ghost use Rattle.rdm_ep.specs.Places.{IsPlaced};
-ghost use Rattle.rdm_ep.specs.Receiving as Receiving;
-ghost use Rattle.rdm_ep.specs.Verdicts as Verdicts;
-ghost use Rattle.rdm_ep.specs.Verdicts.{VerdictAs, verdict_effect, waits_in, currents_with, peers_with, owed_with};
+ghost use Rattle.rdm_ep.specs.Entering.{entered_by};
+ghost use Rattle.rdm_ep.specs.Handling as Handling;
+ghost use Rattle.rdm_ep.specs.Verdicts.{VerdictAs, verdict_effect, waits_in, is_next_in, currents_with, peers_with, owed_with};
 
 use crate::answer::HandleAnswer;
 use crate::current::current_of;
 use crate::endpoint::Endpoint;
-use crate::going::complete;
+use crate::holding::take_following;
+use crate::meeting::arrive_all;
 use crate::peers::{peer_of, write_peer};
-use crate::receiving::{completion_of, kept_bytes, place_of_posted, write_region};
-use crate::state::{Heard, Inbound, Peer, Posted};
+use crate::receiving::place_of_posted;
+use crate::state::{Inbound, Peer};
 use rdm_model::Entered;
 use rdm_num::{Life, NoMemory};
 use std::alloc::Global;
 
 impl Endpoint {
-    /// Takes a message: a receive takes it, or it waits.
+    /// Takes a message, unless it would wait and as many wait as may: where it is next it arrives, and so do
+    /// the held ones that follow it; else it is held.
     pub(crate) fn take_message(&mut self, alloc: Global, inbound: Inbound) -> HandleAnswer
         ensures { VerdictAs self.old self.new inbound.life (Message inbound) result }
     {
-        let Some(at) = place_of_posted(&self.posted, &inbound) else {
-            return self.take_waiting(inbound);
-        };
-        let first = inbound.no;
-        match self.land(alloc, inbound, at) {
-            Ok(()) => HandleAnswer::Took(Some(Entered { first, count: 1 })),
-            Err(_) => HandleAnswer::Memory,
-        }
-    }
-
-    /// Lets a message wait, unless as many wait as may.
-    fn take_waiting(&mut self, inbound: Inbound) -> HandleAnswer
-        requires { find (λ p. Receiving.takes p inbound) self.old.posted ≡ None }
-        ensures { VerdictAs self.old self.new inbound.life (Message inbound) result }
-    {
-        if self.early_is_full() {
+        if self.waits(&inbound) {
             return HandleAnswer::AgainEarly;
         }
-        let first = inbound.no;
-        match self.keep(inbound) {
-            Ok(()) => HandleAnswer::Took(Some(Entered { first, count: 1 })),
+        let taken = if self.is_next(&inbound) {
+            self.take_next(alloc, inbound)
+        } else {
+            self.take_ahead(inbound)
+        };
+        match taken {
+            Ok(entered) => HandleAnswer::Took(entered),
             Err(_) => HandleAnswer::Memory,
         }
     }
 
     /// The message would wait, and as many wait as may.
-    #[tactic(auto, unfolding(crate::specs::Verdicts::waits_in, crate::specs::Handling::is_met_in))]
+    #[tactic(auto, unfolding(crate::specs::Verdicts::waits_in, crate::specs::Handling::enters_at_once, crate::specs::Handling::early_is_full, crate::specs::Handling::is_met_in))]
     pub(crate) fn waits(&self, inbound: &Inbound) -> bool
         ensures { result ≡ waits_in self.now inbound.now }
     {
-        place_of_posted(&self.posted, inbound).is_none() && self.early_is_full()
+        let enters = self.is_next(inbound) && place_of_posted(&self.posted, inbound).is_some();
+        !enters && self.early_is_full()
     }
 
-    /// As many messages wait as may.
-    #[tactic(auto, unfolding(crate::specs::Verdicts::early_is_full))]
+    /// As many messages wait, for a receive or for those before them, as may.
+    #[tactic(auto, unfolding(crate::specs::Handling::early_is_full))]
     fn early_is_full(&self) -> bool
-        ensures { result ≡ Verdicts.early_is_full self.now }
+        ensures { result ≡ Handling.early_is_full self.now }
     {
-        self.limits.early as usize <= self.arrived.len()
+        self.limits.early as usize <= self.arrived.len() + self.held.len()
     }
 
-    /// Lets a message wait for its receive.
-    fn keep(&mut self, inbound: Inbound) -> Result<(), NoMemory>
-        requires { find (λ p. Receiving.takes p inbound) self.old.posted ≡ None }
+    /// The message is the next one of its life.
+    fn is_next(&self, inbound: &Inbound) -> bool
+        ensures { result ≡ is_next_in self.now inbound.now }
+    {
+        self.limits.first <= inbound.no.0
+            && (inbound.no.0 - self.limits.first) as u64
+                == peer_of(&self.peers, inbound.life).entered
+    }
+
+    /// Takes a message that is next: it arrives, and so do the held ones that follow it.
+    fn take_next(&mut self, alloc: Global, inbound: Inbound) -> Result<Option<Entered>, NoMemory>
+        requires next { is_next_in self.old inbound ≡ true }
+        ensures answer { IfOk result (λ e. e ≡ entered_by true inbound self.old.held) }
+        ensures ok { OnOk result (self.new ≡ verdict_effect inbound.life (Message inbound) self.old) }
+        ensures err { OnErr result (self.new ≡ self.old) }
+    {
+        let most = self.held.len() + 1;
+        let mut entering = Vec::with_capacity(alloc, most)?;
+        self.currents.reserve(1)?;
+        self.peers.reserve(2)?;
+        self.owed.reserve(1)?;
+        self.arrived.reserve(most)?;
+        let (life, first) = (inbound.life, inbound.no);
+        entering.push_reserved(inbound);
+        let next = take_following(&mut self.held, &mut entering, life, first.0 as u64 + 1);
+        welcome(&mut self.currents, &mut self.peers, &mut self.owed, life);
+        let peer = peer_of(&self.peers, life);
+        write_peer(
+            &mut self.peers,
+            life,
+            Peer {
+                entered: next - self.limits.first as u64,
+                ..peer
+            },
+        );
+        arrive_all(
+            &mut self.regions,
+            &mut self.posted,
+            &mut self.arrived,
+            &mut self.completions,
+            entering,
+        );
+        Ok(Some(Entered {
+            first,
+            count: next - first.0 as u64,
+        }))
+    }
+
+    /// Takes a message that comes before it is next: it is held.
+    fn take_ahead(&mut self, inbound: Inbound) -> Result<Option<Entered>, NoMemory>
+        requires next { is_next_in self.old inbound ≡ false }
+        ensures answer { IfOk result (λ e. e ≡ entered_by false inbound self.old.held) }
         ensures ok { OnOk result (self.new ≡ verdict_effect inbound.life (Message inbound) self.old) }
         ensures err { OnErr result (self.new ≡ self.old) }
     {
         self.currents.reserve(1)?;
         self.peers.reserve(1)?;
         self.owed.reserve(1)?;
-        self.heard.reserve(1)?;
-        self.arrived.reserve(1)?;
-        let life = inbound.life;
-        welcome(&mut self.currents, &mut self.peers, &mut self.owed, life);
-        self.heard.push_reserved(Heard {
-            life,
-            no: inbound.no,
-        });
-        self.arrived.push_reserved(inbound);
-        Ok(())
-    }
-
-    /// Completes a receive with a message.
-    fn land(&mut self, alloc: Global, inbound: Inbound, at: usize) -> Result<(), NoMemory>
-        requires { IsPlaced (λ p. Receiving.takes p inbound) self.old.posted at }
-        ensures ok { OnOk result (self.new ≡ verdict_effect inbound.life (Message inbound) self.old) }
-        ensures err { OnErr result (self.new ≡ self.old) }
-    {
-        self.currents.reserve(1)?;
-        self.peers.reserve(1)?;
-        self.owed.reserve(1)?;
-        self.heard.reserve(1)?;
-        let posted = self.posted[at];
-        let completion = completion_of(alloc, &posted, &inbound)?;
-        let life = inbound.life;
-        welcome(&mut self.currents, &mut self.peers, &mut self.owed, life);
-        self.heard.push_reserved(Heard {
-            life,
-            no: inbound.no,
-        });
-        let kept = kept_bytes(inbound.bytes.as_slice(), posted.req.len);
-        write_region(&mut self.regions, posted.req.region, posted.req.at, kept);
-        complete(&mut self.completions, completion);
-        take_out(&mut self.posted, at);
-        Ok(())
+        self.held.reserve(1)?;
+        welcome(
+            &mut self.currents,
+            &mut self.peers,
+            &mut self.owed,
+            inbound.life,
+        );
+        self.held.push_reserved(inbound);
+        Ok(None)
     }
 
     /// Takes the features of a life.
@@ -160,12 +174,4 @@ fn welcome(currents: &mut Vec<Life>, peers: &mut Vec<Peer>, owed: &mut Vec<Life>
         },
     );
     owed.push_reserved(from);
-}
-
-/// Takes out a receive.
-fn take_out(posted: &mut Vec<Posted>, at: usize)
-    requires { at < vec_len posted.old }
-    ensures { posted.new.items ≡ remove posted.old.items at }
-{
-    posted.remove(at);
 }

@@ -19,6 +19,13 @@ fn hello_from(connid: u8) -> [u8; 57] {
     hello
 }
 
+/// The message of port 0 and the identifier 5 with this number.
+fn hello_numbered(number: u8) -> [u8; 57] {
+    let mut hello = hello_from(5);
+    hello[4] = number;
+    hello
+}
+
 /// The end of send 3, from the life with the identifier 5.
 const END: [u8; 16] = [7, 4, 0, 0x80, 3, 0, 0, 0, 0, 0, 0, 0, 5, 0, 0, 0];
 
@@ -138,6 +145,37 @@ fn each_datagram_gets_its_answer(rt: HostRuntime) -> Result<(), Fail> {
 }
 
 #[test]
+fn messages_enter_in_their_order(rt: HostRuntime) -> Result<(), Fail> {
+    let alloc = rt.alloc();
+    let zeroth = packet(alloc, 5, 7, &hello_numbered(0))?;
+    let first = packet(alloc, 5, 7, &hello_numbered(1))?;
+    let second = packet(alloc, 5, 7, &hello_numbered(2))?;
+    let both = Some(Entered {
+        first: MsgNo(0),
+        count: 2,
+    });
+    let mut endpoint = Endpoint::start(
+        alloc,
+        life(1, 7),
+        4,
+        &EpLimits {
+            early: 2,
+            ..limits()
+        },
+    )?;
+    assert!(rt; endpoint.handle(alloc, &first) == took(None));
+    assert!(rt; endpoint.handle(alloc, &first) == HandleAnswer::Dropped(Class::Overlap));
+    assert!(rt; endpoint.waits_early(alloc, &zeroth) == Ok(false));
+    assert!(rt; endpoint.handle(alloc, &zeroth) == took(both));
+    assert!(rt; endpoint.handle(alloc, &zeroth) == HandleAnswer::Dropped(Class::Overlap));
+    assert!(rt; endpoint.handle(alloc, &first) == HandleAnswer::Dropped(Class::Overlap));
+    assert!(rt; endpoint.waits_early(alloc, &second) == Ok(true));
+    assert!(rt; endpoint.handle(alloc, &second) == HandleAnswer::AgainEarly);
+    endpoint.close();
+    Ok(())
+}
+
+#[test]
 #[tactic(auto, unfolding(crate::specs::View::new_endpoint, crate::specs::Sending::after_reg))]
 fn a_receive_takes_its_message(rt: HostRuntime) -> Result<(), Fail> {
     let alloc = rt.alloc();
@@ -155,7 +193,7 @@ fn a_receive_takes_its_message(rt: HostRuntime) -> Result<(), Fail> {
     };
     assert!(rt; region.0 == 0);
     assert!(rt; !endpoint.waits_recv(&req));
-    match endpoint.recv(alloc, &req) {
+    match endpoint.recv(&req) {
         RecvAnswer::Did(number) => assert!(rt; number.0 == 0),
         _ => assert!(rt; false),
     }

@@ -6,14 +6,18 @@ ghost use Rattle.rdm_model.specs.Deeds.{Spelled, item_of};
 ghost use Rattle.rdm_model.specs.Heads as Heads;
 ghost use Rattle.rdm_model.specs.Heads.{same_head};
 ghost use Rattle.rdm_model.specs.Sources as Sources;
+ghost use Rattle.rdm_ep.specs.Entering as Entering;
+ghost use Rattle.rdm_ep.specs.Entering.{next_in};
 ghost use Rattle.rdm_ep.specs.Handling as Handling;
 ghost use Rattle.rdm_ep.specs.Handling.{rtm_class, inbound_head};
 ghost use Rattle.rdm_ep.specs.Verdicts.{verdict_in, known_verdict, verdict_of};
 
 use crate::current::{current_of, is_same_life};
 use crate::endpoint::Endpoint;
+use crate::holding::is_message;
 use crate::peers::peer_of;
 use crate::state::{Inbound, Verdict};
+use crate::twin::TwinBytes;
 use rdm_hdr::Opt;
 use rdm_model::Class;
 use rdm_num::{Connid, Life, MsgNo, NoMemory};
@@ -50,7 +54,7 @@ impl Endpoint {
         let is_known = current_of(&self.currents, from.port).is_some();
         match load {
             Load::Packet(bytes) => match Packet::read(alloc, bytes.as_slice())? {
-                Some(packet) => Ok(self.packet_verdict(from, packet)),
+                Some(packet) => self.packet_verdict(from, packet),
                 None => Ok(Verdict::Refuse(Class::Malformed)),
             },
             Load::Ask(_) if is_known => Ok(Verdict::Refuse(Class::BadKey)),
@@ -61,25 +65,25 @@ impl Endpoint {
 
     /// Decides on a packet.
     #[tactic(auto, unfolding(crate::specs::Verdicts::verdict_of, crate::specs::Verdicts::accepted_of, crate::specs::Verdicts::known_verdict, crate::specs::Verdicts::known_class, crate::specs::Handling::load_class, crate::specs::View::current_in, rdm_num::specs::Lists::first_case, rdm_model::specs::Sources::is_malformed))]
-    fn packet_verdict(&self, from: Life, packet: Packet) -> Verdict
-        ensures { result ≡ known_verdict self.now from (Spelled packet) }
+    fn packet_verdict(&self, from: Life, packet: Packet) -> Result<Verdict, NoMemory>
+        ensures { IfOk result (λ r. r ≡ known_verdict self.now from (Spelled packet)) }
     {
         if !names_source(from, &packet) {
-            return Verdict::Refuse(Class::Malformed);
+            return Ok(Verdict::Refuse(Class::Malformed));
         }
         if current_of(&self.currents, from.port).is_none() && !has_raw(&packet) {
-            return Verdict::Refuse(Class::Unknown);
+            return Ok(Verdict::Refuse(Class::Unknown));
         }
         match packet {
             Packet::Rtm { no, tag, opt, form } => self.opening_verdict(from, no, tag, opt, form),
             Packet::Handshake { words, connid: _ } => {
                 if peer_of(&self.peers, from).known.is_some() {
-                    return Verdict::Refuse(Class::Mismatch);
+                    return Ok(Verdict::Refuse(Class::Mismatch));
                 }
-                Verdict::Features(words.as_slice().first().copied())
+                Ok(Verdict::Features(words.as_slice().first().copied()))
             }
-            Packet::CtsData { bytes: _bytes, .. } => Verdict::Refuse(Class::NoOp),
-            Packet::Cts { .. } | Packet::Eor { .. } => Verdict::Refuse(Class::NoOp),
+            Packet::CtsData { bytes: _bytes, .. } => Ok(Verdict::Refuse(Class::NoOp)),
+            Packet::Cts { .. } | Packet::Eor { .. } => Ok(Verdict::Refuse(Class::NoOp)),
         }
     }
 
@@ -92,64 +96,71 @@ impl Endpoint {
         tag: Option<u64>,
         opt: Opt,
         form: Form,
-    ) -> Verdict
-        ensures { result ≡ verdict_of from (Spelled (Rtm no tag opt form)) (rtm_class self.now from no.0 (head_of tag opt form) form) }
+    ) -> Result<Verdict, NoMemory>
+        ensures { IfOk result (λ r. r ≡ verdict_of from (Spelled (Rtm no tag opt form)) (rtm_class self.now from no.0 (head_of tag opt form) form)) }
     {
-        if self.has_other_head(from, no, tag, &opt, &form) {
-            return Verdict::Refuse(Class::Mismatch);
+        if is_other_message(&self.arrived, from, no, tag, &opt, &form)
+            || is_other_message(&self.held, from, no, tag, &opt, &form)
+        {
+            return Ok(Verdict::Refuse(Class::Mismatch));
         }
-        if no.0 < self.limits.first || self.is_heard(from, no) {
-            return Verdict::Refuse(Class::Overlap);
-        }
-        if no.0 != self.limits.first {
-            return Verdict::Refuse(Class::Malformed);
+        if self.has_entered(from, no) || self.is_held(from, no) {
+            return Ok(Verdict::Refuse(Class::Overlap));
         }
         match form {
-            Form::Eager { bytes } => Verdict::Message(Inbound {
+            Form::Eager { bytes } => Ok(Verdict::Message(Inbound {
                 life: from,
                 no,
                 tag,
                 cq_data: opt.cq_data,
-                bytes,
-            }),
+                bytes: TwinBytes::copied(bytes)?,
+            })),
             Form::Medium { bytes: _bytes, .. } | Form::LongCts { bytes: _bytes, .. } => {
-                Verdict::Refuse(Class::Malformed)
+                Ok(Verdict::Refuse(Class::Malformed))
             }
-            Form::LongRead { iov: _iov, .. } => Verdict::Refuse(Class::Malformed),
+            Form::LongRead { iov: _iov, .. } => Ok(Verdict::Refuse(Class::Malformed)),
             Form::Runt {
                 iov: _iov,
                 bytes: _bytes,
                 ..
-            } => Verdict::Refuse(Class::Malformed),
+            } => Ok(Verdict::Refuse(Class::Malformed)),
         }
     }
 
-    /// The message was heard of.
-    #[tactic(auto, unfolding(crate::specs::Handling::is_heard_in))]
-    fn is_heard(&self, from: Life, no: MsgNo) -> bool
-        ensures { result ≡ Handling.is_heard_in self.now from no.0 }
+    /// The number has entered, or is below the first one.
+    fn has_entered(&self, from: Life, no: MsgNo) -> bool
+        ensures { result ≡ nat_lt no.0 (next_in self.now from) }
     {
-        self.heard.iter().any(|heard| is_same_life(heard.life, from) && heard.no.0 == no.0)
+        no.0 < self.limits.first
+            || ((no.0 - self.limits.first) as u64) < peer_of(&self.peers, from).entered
     }
 
-    /// The message waits, and its packet said something else of it.
-    #[tactic(auto, unfolding(crate::specs::Handling::has_other_head))]
-    fn has_other_head(
-        &self,
-        from: Life,
-        no: MsgNo,
-        tag: Option<u64>,
-        opt: &Opt,
-        form: &Form,
-    ) -> bool
-        ensures { result ≡ Handling.has_other_head self.now from no.0 (head_of tag opt.now form.now) }
+    /// The message is held for those before it.
+    #[tactic(auto, unfolding(crate::specs::Entering::is_held_in))]
+    fn is_held(&self, from: Life, no: MsgNo) -> bool
+        ensures { result ≡ Entering.is_held_in self.now from no.0 }
     {
-        self.arrived.iter().any(|inbound| {
-            is_same_life(inbound.life, from)
-                && inbound.no.0 == no.0
-                && !has_head(inbound, tag, opt, form)
-        })
+        self.held
+            .iter()
+            .any(|inbound| is_message(inbound, from, no.0 as u64))
     }
+}
+
+/// The message is one of these, and its packet said something else of it.
+#[tactic(auto, unfolding(crate::specs::Handling::is_other_message))]
+fn is_other_message(
+    messages: &[Inbound],
+    from: Life,
+    no: MsgNo,
+    tag: Option<u64>,
+    opt: &Opt,
+    form: &Form,
+) -> bool
+    ensures { result ≡ Handling.is_other_message messages.now from no.0 (head_of tag opt.now form.now) }
+{
+    messages.iter().any(|inbound| {
+        is_message(inbound, from, no.0 as u64) && !has_head(inbound, tag, opt, form)
+    })
 }
 
 /// A message that waits is what the packet says of it.

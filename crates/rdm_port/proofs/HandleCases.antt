@@ -3,6 +3,7 @@ use Rattle.std.proofs.Common.{◌≡◌, Bool, true, false, cond, Option, Some, 
 use Rattle.rdm_num.specs.Lives.{life}
 use Rattle.rdm_num.specs.declared.numbers.Life.{Life}
 use Rattle.rdm_pkt.specs.declared.Packet.TheVariants.{Rtm}
+use Rattle.rdm_pkt.specs.declared.Form.TheVariants.{Eager}
 use Rattle.rdm_wire.specs.declared.Body.{Body}
 use Rattle.rdm_wire.specs.declared.Body.TheVariants.{Note, Between}
 use Rattle.rdm_wire.specs.declared.Datagram.{Datagram}
@@ -42,16 +43,16 @@ is_given Memory = false
 is_given _ = true
 
 -- what is taken is so answered
-taken_given : (item : Item) → is_given (taken_in item) ≡ true
+taken_given : (e : EndpointView) (from : Life) (item : Item) → is_given (taken_in e from item) ≡ true
 unfolding is_given taken_in
-taken_given (Spelled (Rtm number tag opt form)) = refl
-taken_given _ = refl
+taken_given e from (Spelled (Rtm number tag opt (Eager bytes))) = refl
+taken_given e from _ = refl
 
 -- so is what has a class or none
 class_given : (e : EndpointView) (from : Life) (item : Item) (o : Option Class) → is_given (class_answer_in e from item o) ≡ true
 unfolding is_given class_answer_in
 class_given e from item (Some class') = refl
-class_given e from item None = elim (needs_place_in e from item) as (λ b. is_given (cond b AgainEarly (taken_in item)) ≡ true) [ true ↦ refl | false ↦ taken_given item ]
+class_given e from item None = elim (needs_place_in e from item) as (λ b. is_given (cond b AgainEarly (taken_in e from item)) ≡ true) [ true ↦ refl | false ↦ taken_given e from item ]
 
 -- the endpoint gives no other answer
 body_given : (e : EndpointView) (d : Datagram) (body : Body) → is_given (body_answer e d body) ≡ true

@@ -1,6 +1,6 @@
 -- What the handling of a datagram leaves of an endpoint: what it began with, and its counts.
-use Rattle.std.proofs.Common.{◌≡◌, true, false, cond, ◌∷◌, [], ◌++◌, Option, Some, None, refl, ap, ◌∙◌}
-use Rattle.std.specs.Prelude.{is_none, find}
+use Rattle.std.proofs.Common.{◌≡◌, ℕ, Bool, true, false, cond, ◌∷◌, [], ◌++◌, Option, Some, None, refl, ap, ◌∙◌}
+use Rattle.std.specs.Prelude.{is_none, ◌==◌}
 use Rattle.rdm_num.specs.Lives.{life}
 use Rattle.rdm_num.specs.declared.numbers.Life.{Life}
 use Rattle.rdm_pkt.specs.declared.Packet.TheVariants.{Rtm, Handshake}
@@ -12,13 +12,12 @@ use Rattle.rdm_model.specs.declared.answer.Handled.{Handled}
 use Rattle.rdm_model.specs.declared.answer.Handled.TheVariants as H
 use Rattle.rdm_model.specs.Deeds.{Item, Spelled, item_of}
 use Rattle.rdm_ep.specs.declared.state.Inbound.{Inbound}
-use Rattle.rdm_ep.specs.declared.state.Posted.{Posted}
 use Rattle.rdm_ep.specs.declared.answer.HandleAnswer.{HandleAnswer}
 use Rattle.rdm_ep.specs.declared.answer.HandleAnswer.TheVariants.{Took}
 use Rattle.rdm_ep.specs.View.{EndpointView, current_in, cq_in}
 use Rattle.rdm_ep.specs.Peers.{peer_in, with_peer, greeted_peer}
-use Rattle.rdm_ep.specs.Receiving.{takes, landed, after_arrive}
-use Rattle.rdm_ep.specs.Handling.{inbound, with_source, with_greeting, with_heard, with_message, with_item, after_take, after_answer, body_answer, after_body}
+use Rattle.rdm_ep.specs.Entering.{next_in, with_next, with_ahead, with_message}
+use Rattle.rdm_ep.specs.Handling.{inbound, with_source, with_greeting, with_item, after_take, after_answer, body_answer, after_body}
 use Rattle.rdm_port.specs.Kept.{Kept, places_of}
 use Rattle.rdm_port.specs.Machine.{life_answer, after_life, TakesIn}
 
@@ -55,27 +54,26 @@ greeting_leaves from e =
       | false ↦ record { own = refl; sends = refl; receives = refl; polled = refl }
     ]
 
--- a message that arrives
-arrive_leaves : (i : Inbound) (e : EndpointView) (o : Option Posted) → Leaves e (after_arrive (with_heard i e) i o)
-unfolding after_arrive landed
-arrive_leaves i e None = record { own = refl; sends = refl; receives = refl; polled = refl }
-arrive_leaves i e (Some p) = record { own = refl; sends = refl; receives = refl; polled = refl }
+-- a message that enters, or is held
+message_leaves : (is_next : Bool) (i : Inbound) (e : EndpointView) → Leaves e (with_message is_next i e)
+unfolding with_message with_next with_ahead
+message_leaves true i e = record { own = refl; sends = refl; receives = refl; polled = refl }
+message_leaves false i e = record { own = refl; sends = refl; receives = refl; polled = refl }
 
 -- what was taken
-item_leaves : (from : Life) (item : Item) (e : EndpointView) → Leaves e (with_item from item e)
-unfolding with_item with_message
-item_leaves from (Spelled (Rtm number tag opt (Eager bytes))) e =
-    let i : Inbound = inbound from number.0 tag opt bytes in arrive_leaves i e (find (λ p. takes p i) e.posted)
-item_leaves from (Spelled (Handshake words connid)) e = record { own = refl; sends = refl; receives = refl; polled = refl }
-item_leaves from _ e = same e
+item_leaves : (next : ℕ) (from : Life) (item : Item) (e : EndpointView) → Leaves e (with_item next from item e)
+unfolding with_item
+item_leaves next from (Spelled (Rtm number tag opt (Eager bytes))) e = message_leaves (number.0 == next) (inbound from number.0 tag opt bytes) e
+item_leaves next from (Spelled (Handshake words connid)) e = record { own = refl; sends = refl; receives = refl; polled = refl }
+item_leaves next from _ e = same e
 
 -- a datagram that was taken
 take_leaves : (from : Life) (item : Item) (e : EndpointView) → Leaves e (after_take from item e)
 unfolding after_take
 take_leaves from item e =
-    leaves_both e (with_greeting from (with_source from e)) (with_item from item (with_greeting from (with_source from e)))
+    leaves_both e (with_greeting from (with_source from e)) (with_item (next_in e from) from item (with_greeting from (with_source from e)))
     (leaves_both e (with_source from e) (with_greeting from (with_source from e)) (source_leaves from e) (greeting_leaves from (with_source from e)))
-    (item_leaves from item (with_greeting from (with_source from e)))
+    (item_leaves (next_in e from) from item (with_greeting from (with_source from e)))
 
 -- any answer
 answer_leaves : (answer : HandleAnswer) (from : Life) (item : Item) (e : EndpointView) → Leaves e (after_answer answer from item e)

@@ -55,7 +55,7 @@ impl State {
             Instr::Insert { life } => self.insert(*life),
             Instr::Reg { content } => self.register(alloc, content.as_slice()),
             Instr::Send(req) => self.send(alloc, req),
-            Instr::Recv(req) => self.receive(alloc, req),
+            Instr::Recv(req) => self.receive(req),
             Instr::Note { to, what } => self.note(*to, *what),
             _ => Ok(()),
         }
@@ -129,7 +129,7 @@ impl State {
         }
     }
 
-    fn receive(&mut self, alloc: Global, req: &RecvReq) -> Result<(), NoMemory>
+    fn receive(&mut self, req: &RecvReq) -> Result<(), NoMemory>
         ensures ok { OnOk result (self.new ≡ record self.old { endpoint = option_map (λ e. after_recv e req.now) self.old.endpoint }) }
         ensures err { OnErr result (self.new ≡ self.old) }
     {
@@ -139,7 +139,7 @@ impl State {
                 if 4_294_967_295 <= endpoint.receive_count() {
                     return Err(AllocError);
                 }
-                match endpoint.recv(alloc, req) {
+                match endpoint.recv(req) {
                     RecvAnswer::Did(_) => Ok(()),
                     _ => Err(AllocError),
                 }

@@ -1,5 +1,5 @@
 //! The port.
-ghost use Rattle.std.specs.Prelude.{◌≡◌, ◌<◌, ◌≤◌, ◌↔◌, IfOk, IsTrue, true, length, is_none, slice_get};
+ghost use Rattle.std.specs.Prelude.{◌≡◌, ◌<◌, ◌≤◌, IfOk, true, length, is_none, slice_get};
 ghost use Rattle.rdm_model.specs.Owns.{port_count};
 ghost use Rattle.rdm_port.specs.Views.{new_port, IsSamePort};
 ghost use Rattle.rdm_model.specs.Steps.{count, is_next};
@@ -97,13 +97,6 @@ impl Port {
         ensures { result ≡ length self.now.stash }
     {
         self.stash.len() as u64
-    }
-
-    /// Whether the port has its place among so many ports.
-    pub fn is_among(&self, ports: u32) -> bool
-        ensures { IsTrue result ↔ ((self.now.number < ports) × (self.now.ports ≡ ports)) }
-    {
-        self.number < ports && self.ports == ports
     }
 
     /// Whether no instruction is left.

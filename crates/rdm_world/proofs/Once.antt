@@ -1,5 +1,5 @@
 -- The worlds of a job that sends once are built.
-use Rattle.std.proofs.Common.{List, IsTrue}
+use Rattle.std.proofs.Common.{List, IsTrue, arith}
 use Rattle.rdm_num.specs.declared.numbers.Life.{Life}
 use Rattle.rdm_num.specs.Lives.{life}
 use Rattle.rdm_pkt.specs.declared.Packet.TheVariants.{Rtm, Handshake}
@@ -23,7 +23,7 @@ use Rattle.rdm_world.specs.Shows.{IsBuiltWorld, StaysBuilt}
 
 -- what the law calls plain is what the endpoint takes
 same_item : (own : Own) (log : List Deed) (from : Life) (item : Item) → Law.IsPlainItem own log from item → IsPlainItem own log from item
-same_item own log from (Spelled (Rtm number tag opt (Eager bytes))) h = h
+same_item own log from (Spelled (Rtm number tag opt (Eager bytes))) h = (let first = h.0 in omega arith, h.1)
 same_item own log from (Spelled (Handshake words connid)) h = h
 same_item own log from _ h = elim h [ ]
 

@@ -1,5 +1,4 @@
-use Rattle.std.proofs.Common.{◌≡◌, ◌+◌, ◌<◌, ◌≤◌, ◌++◌, ◌∷◌, [], ℕ, Vec, Global, map, take, length, get_or, slice_get, Some, refl, sym, ◌∙◌, ap, subst}
-use Rattle.std.proofs.lemmas.Option.{slice_get-get_or}
+use Rattle.std.proofs.Common.{◌≡◌, ◌+◌, ◌<◌, ◌≤◌, ◌++◌, ◌∷◌, [], ℕ, Vec, Global, map, take, length, get_or, refl, sym, ◌∙◌, subst}
 use Rattle.rdm_num.specs.Lists.{without_first}
 use Rattle.rdm_model.specs.Regions.{change_at, put}
 use Rattle.rdm_ep.specs.contracts.endpoint.Endpoint.{the_view}
@@ -24,19 +23,18 @@ invariant_of-self c =
     taken_lies c.args.posted.req.at c.args.posted.req.len (length (get_or (map (λ (r : Vec ℕ Global). r.items) c.self.inside.regions.items) c.args.posted.req.region.0 [])) c.kept_bytes-kept.result.now c.as_slice.result.now kept range.1 in
     record {
       counts = subst (λ (n : ℕ). CountsFit c.self.inside.limits.cq n c.self.inside.sends (c.self.inside.receives + 1) c.self.inside.polled c.self.inside.posted.items c.self.inside.outgoing.items c.complete.new.completions.items) (sym c.complete.ensures.room)
-          (counts_received _ _ _ _ _ c.self.inside.posted.items c.self.inside.outgoing.items c.self.inside.completions.items c.complete.new.completions.items c.in_ok-completion.completion c.complete.ensures.items room few c.self.invariant.counts);
+          (counts_received _ _ _ _ _ c.self.inside.posted.items c.self.inside.outgoing.items c.self.inside.completions.items c.complete.new.completions.items c.completion_of.result c.complete.ensures.items room few c.self.invariant.counts);
       ranges = ranges_put c.args.posted.req.region.0 c.args.posted.req.at c.kept_bytes-kept.result.now _ _ c.self.inside.posted.items c.write_region.ensures lies c.self.invariant.ranges;
       packets = c.self.invariant.packets;
     }
 
-pub returns-clause-ok : goal.returns-clause-ok
-returns-clause-ok c =
+pub returns : goal.returns
+returns c =
+    let i = c.take_out-inbound.result in
     let placed : IsPlaced (takes c.args.posted) c.self.inside.arrived.items c.args.at = subst (λ (v : EndpointView). IsPlaced (takes c.args.posted) v.arrived c.args.at) (sym c.self.view_is) c.requires.placed in
-    let found : slice_get c.self.inside.arrived.items c.args.at ≡ Some c.index-inbound.result.now =
-    slice_get-get_or c.self.inside.arrived.items c.args.at c.index-inbound.result.now placed.within ∙ ap Some (sym c.index-inbound.ensures) in
-    let without : without_first (takes c.args.posted) c.self.inside.arrived.items ≡ c.take_out.new.arrived.items = cc (placed.without, c.take_out.ensures) in
-    let regions : map (λ (r : Vec ℕ Global). r.items) c.write_region.new.regions.items ≡ change_at (put c.args.posted.req.at (take c.args.posted.req.len c.index-inbound.result.now.bytes)) c.args.posted.req.region.0 (map (λ (r : Vec ℕ Global). r.items) c.self.inside.regions.items) =
-    let k : c.kept_bytes-kept.result.now ≡ take c.args.posted.req.len c.index-inbound.result.now.bytes = rw (c.kept_bytes-kept.ensures, c.as_slice.ensures) refl in rw (c.write_region.ensures, k) refl in
-    let completions : c.complete.new.completions.items ≡ c.self.inside.completions.items ++ completion_of c.args.posted c.index-inbound.result.now ∷ [] =
-    cc (c.complete.ensures.items, c.in_ok-completion.ensures) in
-    rw (← c.self.view_is) (receive_met (the_view c.self.inside) c.args.posted c.index-inbound.result.now c.args.at (map (λ (r : Vec ℕ Global). r.items) c.write_region.new.regions.items) c.take_out.new.arrived.items c.complete.new.completions.items found without regions completions)
+    let without : without_first (takes c.args.posted) c.self.inside.arrived.items ≡ c.take_out-inbound.new.messages.items = placed.without ∙ sym c.take_out-inbound.ensures.left in
+    let regions : map (λ (r : Vec ℕ Global). r.items) c.write_region.new.regions.items ≡ change_at (put c.args.posted.req.at (take c.args.posted.req.len i.bytes)) c.args.posted.req.region.0 (map (λ (r : Vec ℕ Global). r.items) c.self.inside.regions.items) =
+    let k : c.kept_bytes-kept.result.now ≡ take c.args.posted.req.len i.bytes = rw (c.kept_bytes-kept.ensures, c.as_slice.ensures) refl in rw (c.write_region.ensures, k) refl in
+    let completions : c.complete.new.completions.items ≡ c.self.inside.completions.items ++ completion_of c.args.posted i ∷ [] =
+    cc (c.complete.ensures.items, c.completion_of.ensures) in
+    rw (← c.self.view_is) (receive_met (the_view c.self.inside) c.args.posted i c.args.at (map (λ (r : Vec ℕ Global). r.items) c.write_region.new.regions.items) c.take_out-inbound.new.messages.items c.complete.new.completions.items c.take_out-inbound.ensures.message without regions completions)
