@@ -8,3 +8,11 @@ pub mod Tiling
 pub mod Ownership
 -- what is true of the fields of a part
 pub mod Inside
+-- what a clause sees of the parts that are at home of a range
+pub mod Tiles
+-- those parts in order
+pub mod Ordered
+-- what is true of the fields of a home
+pub mod Kept
+-- what taking a part out and putting it back come to
+pub mod Homing

@@ -2,6 +2,8 @@
 #![tactic(auto)]
 
 mod block;
+mod home;
+mod ordered;
 mod part;
 mod run;
 #[cfg(test)]
@@ -9,5 +11,6 @@ mod tests;
 mod tiling;
 pub mod uses;
 
+pub use home::{Home, home_law};
 pub use part::{Block, NoMemory, Part, release};
 pub use tiling::tiling_law;

@@ -1,6 +1,8 @@
 // What no clause says: that memory is had, and that two threads write two parts of a block.
+ghost use Rattle.std.specs.Prelude.{◌≡◌, ◌≤◌, length};
+
 use crate::uses::{release_both, write, write_both};
-use crate::{Block, release};
+use crate::{Block, Home, home_law, release};
 use std::test::Fail;
 
 #[test]
@@ -65,5 +67,39 @@ fn an_empty_block(rt: HostRuntime) -> Result<(), Fail> {
     let none = left.len() == 0 && right.bytes().is_empty();
     release_both(left, right);
     assert!(rt; none);
+    Ok(())
+}
+
+/// Takes a part out of what is at home, tells whether its range is at home then, and puts it back.
+fn is_home_while_out(home: &mut Home) -> bool
+    requires { 4 ≤ length home.old.cells }
+    ensures { home.new ≡ home.old }
+{
+    match home.take_out(1, 3) {
+        Ok(Some(part)) => {
+            home_law();
+            let is_home = home.get(1, 3).is_some();
+            home.put_back(part);
+            is_home
+        }
+        Ok(None) => true,
+        Err(_error) => true,
+    }
+}
+
+#[test]
+fn a_part_is_out_and_at_home_again(rt: HostRuntime) -> Result<(), Fail> {
+    let whole = Block::make(rt.alloc(), b"hello")?;
+    match Home::new(rt.alloc(), whole) {
+        Ok(mut home) => {
+            let while_out = home.len() == 5 && is_home_while_out(&mut home);
+            let back = home.get(1, 3).is_some();
+            let whole = home.close();
+            let same = whole.bytes() == b"hello".as_slice();
+            release(whole);
+            assert!(rt; !while_out && back && same);
+        }
+        Err(whole) => release(whole),
+    }
     Ok(())
 }

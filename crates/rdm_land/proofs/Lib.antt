@@ -1,0 +1,16 @@
+-- The proofs on landings.
+
+-- tests that are set over a range, place by place
+mod SetRanges
+-- ranges in order
+mod Order
+-- the places that ranges have, after one is put in or taken out
+mod Changed
+-- what is missing, at home and lent stays in agreement
+mod Agreed
+-- a landing as its calls have it
+mod Kept
+-- what is missing or lent
+mod Waiting
+-- what lending a range and taking it back come to
+pub mod Laws

@@ -1,0 +1,11 @@
+//! A message's bytes so far, parts of which can be lent to be written side by side.
+#![tactic(auto)]
+
+mod landing;
+mod lending;
+mod spans;
+#[cfg(test)]
+mod tests;
+
+pub use landing::{Landing, Placed};
+pub use lending::lending_law;
