@@ -1,0 +1,5 @@
+use Rattle.rdm_regions.proofs.Emptied.{free_in_none}
+use Rattle.rdm_regions.proofs.tests.hold.Goals as goal
+
+pub hold-requires : goal.hold-requires
+hold-requires c = free_in_none c.args.regions.now.held 0 c.requires.0

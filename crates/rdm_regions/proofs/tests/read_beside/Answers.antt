@@ -1,0 +1,9 @@
+use Rattle.rdm_regions.proofs.Emptied.{free_in_none, back_to_none}
+use Rattle.rdm_regions.specs.Ranges.{range}
+use Rattle.rdm_regions.proofs.tests.read_beside.Goals as goal
+
+pub lease_out-requires : goal.lease_out-requires
+lease_out-requires c = free_in_none c.args.regions.now.leased 0 c.requires
+
+pub returns-in-Ok : goal.returns-in-Ok
+returns-in-Ok c = back_to_none c.args.regions.now c.lease_out.new.self c.lease_back.new.self 0 (range 0 5 5) c.in-Ok.part c.requires c.in-Ok.ensures.after c.lease_back.ensures

@@ -1,0 +1,12 @@
+//! The registered regions of an endpoint: the ranges that sends hold and those that receives have out.
+#![tactic(auto)]
+
+mod range;
+mod region;
+mod regions;
+mod rising;
+#[cfg(test)]
+mod tests;
+
+pub use range::RegionRefused;
+pub use regions::Regions;

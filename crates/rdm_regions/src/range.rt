@@ -1,0 +1,34 @@
+//! Ranges of regions, and why a call refuses one.
+use rdm_num::NoMemory;
+
+/// The `len` places from `at` on of a region.
+#[derive(Clone, Copy, Debug, PartialEq, Eq)]
+pub(crate) struct RegionRange {
+    pub(crate) region: u32,
+    pub(crate) at: u64,
+    pub(crate) len: u64,
+}
+
+/// Why a range is refused.
+#[derive(Clone, Copy, Debug, PartialEq, Eq)]
+pub enum RegionRefused {
+    /// No region has that number.
+    NoRegion,
+    /// The range passes the end of the region.
+    Range,
+    /// The range overlaps one that it must not.
+    Busy,
+    /// Want of memory.
+    Memory,
+}
+
+impl From<NoMemory> for RegionRefused {
+    ghost use Rattle.std.specs.Prelude.{◌≡◌};
+    ghost use Rattle.rdm_regions.specs.declared.range.RegionRefused.TheVariants.{Memory};
+
+    ghost from_gives = { λ _ r. r ≡ Memory };
+
+    fn from(_error: NoMemory) -> RegionRefused {
+        RegionRefused::Memory
+    }
+}

@@ -1,0 +1,110 @@
+ghost use Rattle.std.specs.Prelude.{◌≡◌};
+ghost use Rattle.std.specs.FinMap as finite;
+ghost use Rattle.rdm_regions.specs.Registry.{nothing};
+
+use crate::{RegionRefused, Regions};
+use rdm_num::{OpId, RegionNo};
+use std::alloc::Global;
+use std::test::Fail;
+
+const TEN: [u8; 10] = [10, 11, 12, 13, 14, 15, 16, 17, 18, 19];
+
+const ZERO: RegionNo = RegionNo(0);
+
+const ONE: RegionNo = RegionNo(1);
+
+/// Registers ten bytes, and tells whether the region has the number 0.
+fn register(alloc: Global, regions: &mut Regions) -> bool
+    requires { regions.old ≡ nothing }
+    ensures { (regions.new.held ≡ finite.empty) × (regions.new.leased ≡ finite.empty) }
+{
+    match regions.reg(alloc, &TEN) {
+        Ok(region) => region == ZERO,
+        Err(_) => false,
+    }
+}
+
+/// Lets the first send hold a range.
+fn hold(regions: &mut Regions, at: u64, len: u64) -> Result<(), RegionRefused>
+    requires { (regions.old.held ≡ finite.empty) × (regions.old.leased ≡ finite.empty) }
+    ensures { regions.new.leased ≡ finite.empty }
+{
+    match regions.hold(OpId(0), ZERO, at, len) {
+        Ok(()) => Ok(()),
+        Err(why) => Err(why),
+    }
+}
+
+/// Takes a part out and puts it back, and tells how long it is.
+fn out_and_back(
+    regions: &mut Regions,
+    recv: OpId,
+    region: RegionNo,
+    at: u64,
+    len: u64,
+) -> Result<usize, RegionRefused>
+    requires { regions.old.leased ≡ finite.empty }
+    ensures { regions.new.leased ≡ finite.empty }
+{
+    match regions.lease_out(recv, region, at, len) {
+        Ok(part) => {
+            let size = part.len();
+            regions.lease_back(recv, part);
+            Ok(size)
+        }
+        Err(why) => Err(why),
+    }
+}
+
+/// What is read while the last five bytes are out.
+fn read_beside(
+    regions: &mut Regions,
+    to: &mut Vec<u8>,
+) -> Result<[Result<(), RegionRefused>; 3], RegionRefused>
+    requires { regions.old.leased ≡ finite.empty }
+    ensures { regions.new.leased ≡ finite.empty }
+{
+    match regions.lease_out(OpId(0), ZERO, 5, 5) {
+        Ok(part) => {
+            let front = regions.read_range(ZERO, 0, 5, to);
+            let across = regions.read_range(ZERO, 4, 2, to);
+            let empty = regions.read_range(ZERO, 7, 0, to);
+            regions.lease_back(OpId(0), part);
+            Ok([front, across, empty])
+        }
+        Err(why) => Err(why),
+    }
+}
+
+#[test]
+fn held_and_leased_ranges(rt: HostRuntime) -> Result<(), Fail> {
+    let alloc = rt.alloc();
+    let mut to = Vec::new(alloc);
+    let mut regions = Regions::new(alloc);
+    let registered = register(alloc, &mut regions);
+    let held = hold(&mut regions, 0, 5);
+    let across = out_and_back(&mut regions, OpId(0), ZERO, 4, 2);
+    let beside = read_beside(&mut regions, &mut to);
+    let back = out_and_back(&mut regions, OpId(0), ZERO, 5, 5);
+    let no_region = out_and_back(&mut regions, OpId(1), ONE, 0, 1);
+    let range = out_and_back(&mut regions, OpId(1), ZERO, 8, 3);
+    let far = regions.may_hold(ZERO, u64::MAX, u64::MAX);
+    let nothing = regions.may_lease(ZERO, 2, 0);
+    let over = regions.may_lease(ZERO, 4, 1);
+    regions.drop_hold(OpId(0));
+    let all = out_and_back(&mut regions, OpId(1), ZERO, 0, 10);
+    regions.close();
+    assert!(rt; registered);
+    assert!(rt; held == Ok(()));
+    assert!(rt; across == Err(RegionRefused::Busy));
+    assert!(rt; beside == Ok([Ok(()), Err(RegionRefused::Busy), Ok(())]));
+    assert!(rt; to.as_slice() == [10, 11, 12, 13, 14].as_slice());
+    assert!(rt; back == Ok(5));
+    assert!(rt; no_region == Err(RegionRefused::NoRegion));
+    assert!(rt; range == Err(RegionRefused::Range));
+    assert!(rt; !far);
+    assert!(rt; nothing);
+    assert!(rt; !over);
+    assert!(rt; all == Ok(10));
+    Ok(())
+}
