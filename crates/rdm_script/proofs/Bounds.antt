@@ -3,8 +3,8 @@ use Rattle.std.proofs.Common.{◌≡◌, ◌≤◌, ◌<◌, ◌+◌, ℕ, IsTru
 use Rattle.std.proofs.lemmas.Bool.{and_parts, leb-true, ltb-true}
 use Rattle.std.specs.List.{list_all}
 use Rattle.std.specs.Prelude.{nat_lt, ◌^◌}
-use Rattle.rdm_script.specs.declared.first_path.Sender.{Sender}
-use Rattle.rdm_script.specs.declared.first_path.Receiver.{Receiver}
+use Rattle.rdm_script.specs.FirstPath.{Sender}
+use Rattle.rdm_script.specs.FirstPath.{Receiver}
 use Rattle.rdm_script.specs.FirstPath.{fits, in_types}
 
 -- what fitting programs say of their numbers

@@ -6,10 +6,10 @@ use Rattle.std.specs.List.{list_all}
 use Rattle.std.specs.Prelude.{nat_lt, ◌^◌, replicate}
 use Rattle.rdm_model.specs.Jobs.{is_u32, is_within, limits_fit, features_fit, option_fits, want_fits, is_rank, is_rank_or_none, range_fits, instr_fits, needs_life, is_open_after, opened_by, opens_well, lives_fit, rank_fits, choices_fit, is_fair, law_ops}
 use Rattle.rdm_hdr.specs.Fields.{has_bit}
-use Rattle.rdm_script.specs.declared.first_path.Sender.{Sender}
-use Rattle.rdm_script.specs.declared.first_path.Receiver.{Receiver}
+use Rattle.rdm_script.specs.FirstPath.{Sender}
+use Rattle.rdm_script.specs.FirstPath.{Receiver}
 use Rattle.rdm_script.specs.FirstPath.{fits, first_job, sending, receiving}
-use Rattle.rdm_script.specs.Built.{FirstAreFair}
+use Rattle.rdm_script.specs.Laws.{FirstAreFair}
 use Rattle.rdm_script.proofs.Bounds.{Bounds, bounds}
 
 u32 : (n : ℕ) → n ≤ 4294967295 → is_u32 n ≡ true

@@ -1,69 +1,35 @@
--- The scripts that are built: rank 0 sends one tagged message, and rank 1 receives it.
-use Rattle.std.specs.Prelude.{◌≡◌, ℕ, ◌+◌, Bool, IsTrue, ◌&&◌, ◌==◌, nat_le, nat_lt, List, [], ◌∷◌, length, replicate, codes, if◌then◌else◌, Option, Some, None, is_none}
+-- The jobs of one sender and one receiver: rank 0 sends one tagged message, and rank 1 receives it.
+use Rattle.std.specs.Prelude.{◌≡◌, ℕ, ◌+◌, Bool, IsTrue, ◌&&◌, ◌==◌, nat_le, nat_lt, List, [], ◌∷◌, length, replicate, Some, None}
 use Rattle.std.specs.List.{list_all}
-use Rattle.serde_json.specs.Data.{Data}
-use Rattle.serde_json.specs.Find.{get, at}
 use Rattle.rdm_num.specs.declared.limits.EpLimits.{EpLimits}
 use Rattle.rdm_model.specs.declared.job.Job.{Job}
 use Rattle.rdm_model.specs.declared.job.Instr.{Instr}
 use Rattle.rdm_model.specs.declared.job.Instr.TheVariants as I
 use Rattle.rdm_model.specs.Jobs.{len_max, is_u64}
-use Rattle.rdm_script.specs.declared.value.Form.TheVariants.{Script, Rank, Open, Insert, RegText, RegZero, Send, Recv, Wait}
-use Rattle.rdm_script.specs.declared.first_path.Sender.{Sender}
-use Rattle.rdm_script.specs.declared.first_path.Receiver.{Receiver}
-use Rattle.rdm_script.specs.Values.{◌>>=◌, number_at, text_at, keys_known, instruction_at}
 
--- the instructions of one of two ranks, where there are no more than so many: version 1, and no keys but those of the forms
-abbrev pub program : (rank count : ℕ) → Data → Option Data
-program rank count script = do
-  version ← number_at (codes "version") script
-  ranks ← get (codes "ranks") script
-  r ← at rank ranks
-  ops ← get (codes "ops") r
-  if (version == 1) && keys_known Script script && keys_known Rank r && is_none (at 2 ranks) && is_none (at count ops) then Some ops else None
+-- the numbers of the program that sends
+pub record Sender : Type 0 where
+  pub connid : ℕ
+  -- the port and the identifier of the life that it holds as the receiver's
+  pub port : ℕ
+  pub peer : ℕ
+  pub to : ℕ
+  pub region : ℕ
+  pub at : ℕ
+  pub len : ℕ
+  pub tag : ℕ
+  pub count : ℕ
 
--- the numbers of rank 0: open, insert, reg, send, wait
-abbrev pub sender_of : Data → Option Sender
-sender_of script = do
-  ops ← program 0 5 script
-  opens ← instruction_at 0 (codes "open") Open ops
-  inserts ← instruction_at 1 (codes "insert") Insert ops
-  sends ← instruction_at 3 (codes "send") Send ops
-  waits ← instruction_at 4 (codes "wait") Wait ops
-  connid ← number_at (codes "connid") opens
-  port ← number_at (codes "port") inserts
-  peer ← number_at (codes "connid") inserts
-  to ← number_at (codes "to") sends
-  region ← number_at (codes "region") sends
-  place ← number_at (codes "at") sends
-  len ← number_at (codes "len") sends
-  tag ← number_at (codes "tag") sends
-  count ← number_at (codes "count") waits
-  Some (record { connid = connid; port = port; peer = peer; to = to; region = region; at = place; len = len; tag = tag; count = count })
-
--- the text that rank 0 registers
-abbrev pub sent_text : Data → Option (List ℕ)
-sent_text script = do
-  ops ← program 0 5 script
-  reg ← instruction_at 2 (codes "reg") RegText ops
-  text_at (codes "text") reg
-
--- the numbers of rank 1: open, reg, recv, wait
-abbrev pub receiver_of : Data → Option Receiver
-receiver_of script = do
-  ops ← program 1 4 script
-  opens ← instruction_at 0 (codes "open") Open ops
-  reg ← instruction_at 1 (codes "reg") RegZero ops
-  receives ← instruction_at 2 (codes "recv") Recv ops
-  waits ← instruction_at 3 (codes "wait") Wait ops
-  connid ← number_at (codes "connid") opens
-  zeros ← number_at (codes "zero") reg
-  region ← number_at (codes "region") receives
-  place ← number_at (codes "at") receives
-  len ← number_at (codes "len") receives
-  tag ← number_at (codes "tag") receives
-  count ← number_at (codes "count") waits
-  Some (record { connid = connid; zeros = zeros; region = region; at = place; len = len; tag = tag; count = count })
+-- the numbers of the program that receives
+pub record Receiver : Type 0 where
+  pub connid : ℕ
+  -- the length of its region, which is all zeros
+  pub zeros : ℕ
+  pub region : ℕ
+  pub at : ℕ
+  pub len : ℕ
+  pub tag : ℕ
+  pub count : ℕ
 
 -- the numbers have 64 bits, and the text is bytes
 unfoldable pub in_types : Sender → List ℕ → Receiver → Bool

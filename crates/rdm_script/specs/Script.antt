@@ -1,17 +1,24 @@
 -- The job that a script says, or what is wrong with it first.
-use Rattle.std.specs.Prelude.{◌≡◌, ⊤, ℕ, nat_le, List, length, if◌then◌else◌, Option, Some, None, Result, Ok, Err}
+use Rattle.std.specs.Prelude.{ℕ, not, nat_le, List, [], length, codes, if◌then◌else◌, Option, Some, None, Result, Ok, Err}
 use Rattle.std.specs.Str.{is_utf8}
 use Rattle.serde_json.specs.Data.{Data}
+use Rattle.serde_json.specs.Find.{get}
 use Rattle.serde_json.specs.Read.{read}
+use Rattle.rdm_num.specs.declared.limits.EpLimits.{EpLimits}
 use Rattle.rdm_model.specs.declared.job.Job.{Job}
+use Rattle.rdm_model.specs.declared.job.Rank.{Rank}
+use Rattle.rdm_model.specs.declared.job.Choice.{Choice}
 use Rattle.rdm_script.specs.declared.place.Place.TheVariants.{Whole}
 use Rattle.rdm_script.specs.declared.refusal.Reason.{Reason}
-use Rattle.rdm_script.specs.declared.refusal.Reason.TheVariants.{TooLong, NotJson, Unbuilt}
+use Rattle.rdm_script.specs.declared.refusal.Reason.TheVariants.{TooLong, NotJson, TooBig, Unbuilt}
 use Rattle.rdm_script.specs.declared.refusal.BadScript.{BadScript}
-use Rattle.rdm_script.specs.declared.refusal.ScriptRefused.{ScriptRefused}
-use Rattle.rdm_script.specs.declared.refusal.ScriptRefused.TheVariants as refused
-use Rattle.rdm_script.specs.Values.{◌>>=◌}
-use Rattle.rdm_script.specs.FirstPath.{sender_of, sent_text, receiver_of, fits, first_job}
+use Rattle.rdm_script.specs.declared.fields.Protocol.{Protocol}
+use Rattle.rdm_script.specs.declared.fields.PoolSizes.{PoolSizes}
+use Rattle.rdm_script.specs.Results.{◌>>=◌, ◌>>◌, tested, placed}
+use Rattle.rdm_script.specs.Fields.{top_tested, protocol_of, pools_of, ranks_field, choices_field}
+use Rattle.rdm_script.specs.Programs.{ranks_of, is_too_big}
+use Rattle.rdm_script.specs.Choices.{choices_of}
+use Rattle.rdm_script.specs.Built.{is_built}
 
 -- the most bytes of a script
 abbrev pub script_max : ℕ
@@ -21,22 +28,48 @@ script_max = 8388608
 abbrev pub whole : Reason → Result Job BadScript
 whole why = Err (record { place = Whole; why = why })
 
--- the job of a JSON value that has the form that is built
-abbrev pub built_job : Data → Option Job
-built_job script = do
-  sender ← sender_of script
-  text ← sent_text script
-  receiver ← receiver_of script
-  if fits sender text receiver then Some (first_job sender text receiver) else None
+-- the limits of an endpoint
+abbrev pub limits_of : Protocol → PoolSizes → EpLimits
+limits_of p s =
+    record {
+      mtu = p.mtu;
+      medium = p.medium;
+      read_limit = p.read_limit;
+      runt = p.runt;
+      credits = p.credits;
+      first = p.first;
+      tx = s.tx;
+      rx = s.rx;
+      early = s.early;
+      cq = s.cq;
+    }
 
--- the job, or that the script is not built
-abbrev pub if_built : Option Job → Result Job BadScript
-if_built None = whole Unbuilt
-if_built (Some job) = Ok job
+-- the ranks that values say, which are not too big together
+abbrev pub programs_of : List Data → Result (List Rank) BadScript
+programs_of values = do
+  ranks ← ranks_of 0 (length values) values
+  placed Whole (tested TooBig (not (is_too_big ranks)))
+  Ok ranks
 
--- the job that a JSON value says
+-- the job of a well formed script: its version, its fields, its ranks and then its choices
+abbrev pub formed_job : Data → Result Job BadScript
+formed_job script = do
+  top_tested script
+  protocol ← protocol_of script
+  pools ← pools_of (get (codes "pools") script)
+  values ← ranks_field script
+  picks ← choices_field script
+  ranks ← programs_of values
+  choices ← choices_of 0 (length values) picks
+  Ok (record { limits = limits_of protocol pools; inbox = pools.inbox; clock = protocol.clock; ranks = ranks; choices = choices })
+
+-- the job, where it is built
+abbrev pub if_built : Data → Job → Result Job BadScript
+if_built script job = if is_built script job then Ok job else whole Unbuilt
+
+-- the job that a JSON value says, where it is built
 abbrev pub value_job : Data → Result Job BadScript
-value_job script = if_built (built_job script)
+value_job script = formed_job script >>= if_built script
 
 -- the job of a JSON value, where there is one
 abbrev pub read_job : Option Data → Result Job BadScript
@@ -50,13 +83,3 @@ text_job bytes = if is_utf8 bytes then read_job (read bytes) else whole NotJson
 -- the job that bytes say, or what is wrong with them first
 abbrev pub job_in : List ℕ → Result Job BadScript
 job_in bytes = if nat_le (length bytes) script_max then text_job bytes else whole TooLong
-
--- the script was refused for this, or memory ran out
-abbrev pub RefusedFor : ScriptRefused → Result Job BadScript → Type 0
-RefusedFor (refused.Bad bad) said = said ≡ Err bad
-RefusedFor refused.Memory said = ⊤
-
--- a reader gave the job that is said, or what is wrong, unless memory ran out
-abbrev pub Gives : Result Job ScriptRefused → Result Job BadScript → Type 0
-Gives (Ok job) said = said ≡ Ok job
-Gives (Err why) said = RefusedFor why said

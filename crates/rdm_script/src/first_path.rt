@@ -1,227 +1,208 @@
 //! The scripts that are built: rank 0 sends one tagged message, and rank 1 receives it.
-ghost use Rattle.std.specs.Prelude.{◌≡◌, ◌+◌, true, nat_le, IsTrue, IfOk, option_map, length};
+ghost use Rattle.std.specs.Prelude.{◌≡◌, ◌≤◌, ◌<◌, ◌+◌, IsTrue, length, option_map};
+ghost use Rattle.std.specs.List.{list_all};
 ghost use Rattle.serde_json.specs.View.{view};
-ghost use Rattle.rdm_script.specs.FirstPath.{program, sender_of, sent_text, receiver_of, in_types, fits, first_limits, first_job};
+ghost use Rattle.rdm_script.specs.Built.{has_plain_limits, has_plain_counts, has_plain_fields, rank_value, instr_value, has_plain_ranks, has_plain_ops, opens, inserts, makes, waits, has_messages, messages, messages_fit, exchange_fits, is_peer, are_zeros, parts_fit, programs_fit, ranks_fit, is_built};
 
-use crate::value::{Form, instruction_at, keys_known, number_at, text_at};
-use rdm_model::{Choices, Instr, Job, Ops, Rank, Ranks};
-use rdm_num::{Bytes, Connid, EpLimits, LEN_MAX, Life, PortNo, RecvReq, RegionNo, SendReq, Want};
+use crate::messages::messages_fit;
+use crate::value::{found_at, found_in};
+use rdm_model::{Instr, Job, Rank};
+use rdm_num::{Bytes, Life};
 use serde_json::Value;
-use std::alloc::{AllocError, Global};
 
-/// The numbers of the program that sends.
-#[derive(Clone, Copy)]
-pub struct Sender {
-    pub connid: u64,
-    /// The port and the identifier of the life that it holds as the receiver's.
-    pub port: u64,
-    pub peer: u64,
-    pub to: u64,
-    pub region: u64,
-    pub at: u64,
-    pub len: u64,
-    pub tag: u64,
-    pub count: u64,
-}
+/// The most sends of the first rank, and the most receives of the second.
+const MESSAGES_MAX: usize = 1;
 
-/// The numbers of the program that receives.
-#[derive(Clone, Copy)]
-pub struct Receiver {
-    pub connid: u64,
-    /// The length of its region, which is all zeros.
-    pub zeros: u64,
-    pub region: u64,
-    pub at: u64,
-    pub len: u64,
-    pub tag: u64,
-    pub count: u64,
-}
-
-/// The instructions of one of two ranks, where there are no more than so many.
-fn program(script: &Value, rank: usize, count: usize) -> Option<&Value>
-    ensures { option_map (λ v. view v.now) result ≡ program rank count (view script.now) }
+/// The script and its job are of the form that is built.
+pub fn is_built(script: &Value, job: &Job) -> bool
+    ensures { result ≡ is_built (view script.now) job.now }
 {
-    let version = number_at(script, "version")?;
-    let ranks = script.get("ranks")?;
-    let rank = ranks.get(rank)?;
-    let ops = rank.get("ops")?;
-    let is_plain = version == 1 && keys_known(Form::Script, script) && keys_known(Form::Rank, rank);
-    if is_plain && ranks.get(2).is_none() && ops.get(count).is_none() {
-        Some(ops)
-    } else {
-        None
+    has_plain_fields(script)
+        && has_plain_ranks(script)
+        && has_plain_ops(script)
+        && ranks_fit(job.ranks.as_slice())
+}
+
+/// The script names no limit of an endpoint's messages.
+fn has_plain_limits(script: &Value) -> bool
+    ensures { result ≡ has_plain_limits (view script.now) }
+{
+    script.get("mtu").is_none()
+        && script.get("medium").is_none()
+        && script.get("read").is_none()
+        && script.get("runt").is_none()
+}
+
+/// It names no other number.
+fn has_plain_counts(script: &Value) -> bool
+    ensures { result ≡ has_plain_counts (view script.now) }
+{
+    script.get("credits").is_none()
+        && script.get("first").is_none()
+        && script.get("clock").is_none()
+        && script.get("pools").is_none()
+}
+
+/// The outermost object has its version and its ranks, and no other key.
+fn has_plain_fields(script: &Value) -> bool
+    ensures { result ≡ has_plain_fields (view script.now) }
+{
+    has_plain_limits(script) && has_plain_counts(script) && script.get("choices").is_none()
+}
+
+/// A rank of a script.
+fn rank_value(script: &Value, rank: usize) -> Option<&Value>
+    ensures { option_map (λ v. view v.now) result ≡ rank_value rank (view script.now) }
+{
+    found_in(script.get("ranks"), rank)
+}
+
+/// An instruction of a script.
+fn instr_value(script: &Value, rank: usize, index: usize) -> Option<&Value>
+    ensures { option_map (λ v. view v.now) result ≡ instr_value rank index (view script.now) }
+{
+    found_in(found_at(rank_value(script, rank), "ops"), index)
+}
+
+/// The ranks say no features.
+fn has_plain_ranks(script: &Value) -> bool
+    ensures { result ≡ has_plain_ranks (view script.now) }
+{
+    found_at(rank_value(script, 0), "features").is_none()
+        && found_at(rank_value(script, 1), "features").is_none()
+}
+
+/// The first region is a text and the second one zeros, and the receive says no ignored bits.
+fn has_plain_ops(script: &Value) -> bool
+    ensures { result ≡ has_plain_ops (view script.now) }
+{
+    found_at(instr_value(script, 0, 2), "text").is_some()
+        && found_at(instr_value(script, 1, 1), "zero").is_some()
+        && found_at(instr_value(script, 1, 2), "ignore").is_none()
+}
+
+/// Two ranks with the default features, whose programs fit each other.
+fn ranks_fit(ranks: &[Rank]) -> bool
+    ensures { result ≡ ranks_fit ranks.now }
+{
+    match ranks {
+        [sender, receiver] => {
+            sender.features == 25
+                && receiver.features == 25
+                && programs_fit(sender.ops.as_slice(), receiver.ops.as_slice()).unwrap_or(false)
+        }
+        _ => false,
     }
 }
 
-pub fn read_sender(script: &Value) -> Option<Sender>
-    ensures { result ≡ sender_of (view script.now) }
+/// The first program opens, inserts the life that the second one opens, makes a region and sends;
+/// the second one opens, makes a region of zeros and receives.
+fn programs_fit(sending: &[Instr], receiving: &[Instr]) -> Option<bool>
+    ensures { result ≡ programs_fit sending.now receiving.now }
 {
-    let ops = program(script, 0, 5)?;
-    let open = instruction_at(ops, 0, "open", Form::Open)?;
-    let insert = instruction_at(ops, 1, "insert", Form::Insert)?;
-    let send = instruction_at(ops, 3, "send", Form::Send)?;
-    let wait = instruction_at(ops, 4, "wait", Form::Wait)?;
-    Some(Sender {
-        connid: number_at(open, "connid")?,
-        port: number_at(insert, "port")?,
-        peer: number_at(insert, "connid")?,
-        to: number_at(send, "to")?,
-        region: number_at(send, "region")?,
-        at: number_at(send, "at")?,
-        len: number_at(send, "len")?,
-        tag: number_at(send, "tag")?,
-        count: number_at(wait, "count")?,
-    })
+    opens(sending.get(0)?)?;
+    let life = inserts(sending.get(1)?)?;
+    let text = makes(sending.get(2)?)?;
+    let peer = opens(receiving.get(0)?)?;
+    let room = makes(receiving.get(1)?)?;
+    Some(parts_fit(life, peer, text, room, sending, receiving))
 }
 
-/// The text that the sender registers.
-pub fn read_text(script: &Value) -> Option<&str>
-    ensures { option_map (λ s. s.now) result ≡ sent_text (view script.now) }
+/// The first program inserts the life that the second one opens, the second one's region is zeros,
+/// and their messages fit.
+fn parts_fit(
+    life: Life,
+    peer: u32,
+    text: &Bytes,
+    room: &Bytes,
+    sending: &[Instr],
+    receiving: &[Instr],
+) -> bool
+    ensures { result ≡ parts_fit life peer text.now room.now sending.now receiving.now }
 {
-    let ops = program(script, 0, 5)?;
-    text_at(instruction_at(ops, 2, "reg", Form::RegText)?, "text")
+    is_peer(life, peer)
+        && are_zeros(room.as_slice())
+        && exchange_fits(text.len() as u64, room.len() as u64, sending, receiving)
 }
 
-pub fn read_receiver(script: &Value) -> Option<Receiver>
-    ensures { result ≡ receiver_of (view script.now) }
+/// The life of the second rank that opens this identifier.
+fn is_peer(life: Life, peer: u32) -> bool
+    ensures { result ≡ is_peer life peer }
 {
-    let ops = program(script, 1, 4)?;
-    let open = instruction_at(ops, 0, "open", Form::Open)?;
-    let reg = instruction_at(ops, 1, "reg", Form::RegZero)?;
-    let recv = instruction_at(ops, 2, "recv", Form::Recv)?;
-    let wait = instruction_at(ops, 3, "wait", Form::Wait)?;
-    Some(Receiver {
-        connid: number_at(open, "connid")?,
-        zeros: number_at(reg, "zero")?,
-        region: number_at(recv, "region")?,
-        at: number_at(recv, "at")?,
-        len: number_at(recv, "len")?,
-        tag: number_at(recv, "tag")?,
-        count: number_at(wait, "count")?,
-    })
+    life.port.0 == 1 && life.connid.0 == peer
 }
 
-/// The range lies in a region of that size.
-fn lies_within(at: u64, len: u64, size: u64) -> bool
-    ensures { result ≡ nat_le (at + len) size }
+fn are_zeros(bytes: &[u8]) -> bool
+    ensures { result ≡ are_zeros bytes.now }
 {
-    at <= size && len <= size - at
+    bytes.iter().all(|b| *b == 0)
 }
 
-/// What the types of the arguments say of them.
-fn in_types(sender: Sender, text: &str, receiver: Receiver)
-    ensures { in_types sender text.now receiver ≡ true }
-{}
-
-/// The numbers are in their ranges, and the two programs are about one message.
-pub fn fits(sender: Sender, text: &str, receiver: Receiver) -> bool
-    ensures { result ≡ fits sender text.now receiver }
+/// The programs have messages, which fit each other.
+fn exchange_fits(text: u64, room: u64, sending: &[Instr], receiving: &[Instr]) -> bool
+    ensures { result ≡ exchange_fits text room sending.now receiving.now }
 {
-    in_types(sender, text, receiver);
-    let size = text.len() as u64;
-    sender.connid <= 4_294_967_295
-        && receiver.connid <= 4_294_967_295
-        && size <= LEN_MAX
-        && receiver.zeros <= LEN_MAX
-        && sender.port == 1
-        && sender.peer == receiver.connid
-        && sender.to == 1
-        && sender.region == 0
-        && lies_within(sender.at, sender.len, size)
-        && sender.len <= 12
-        && receiver.region == 0
-        && lies_within(receiver.at, receiver.len, receiver.zeros)
-        && sender.len <= receiver.len
+    has_messages(sending, 3)
+        && has_messages(receiving, 2)
+        && messages_fit(text, room, messages(sending, 3), messages(receiving, 2))
 }
 
-/// The job of the two programs.
-pub fn first_job(
-    alloc: Global,
-    sender: Sender,
-    text: &str,
-    receiver: Receiver,
-) -> Result<Job, AllocError>
-    requires { IsTrue (fits sender text.now receiver) }
-    ensures { IfOk result (λ job. job ≡ first_job sender text.now receiver) }
+/// The messages of a program: all its instructions but the first ones and the last one.
+fn messages(ops: &[Instr], before: usize) -> &[Instr]
+    requires { before + 1 ≤ length ops.now }
+    ensures { result.now ≡ messages before ops.now }
 {
-    let connid = Connid(receiver.connid as u32);
-    let sends = vec![in alloc;
-        Instr::OpenLife {
-            connid: Connid(sender.connid as u32),
-        },
-        Instr::Insert {
-            life: Life {
-                port: PortNo(1),
-                connid,
-            },
-        },
-        Instr::Reg {
-            content: Bytes::from_slice(alloc, text.as_bytes())?,
-        },
-        Instr::Send(SendReq {
-            to: PortNo(1),
-            region: RegionNo(0),
-            at: sender.at,
-            len: sender.len,
-            tag: Some(sender.tag),
-            cq_data: None,
-        }),
-        Instr::Wait {
-            count: sender.count,
-        },
-    ]?;
-    let receives = vec![in alloc;
-        Instr::OpenLife { connid },
-        Instr::Reg {
-            content: Bytes::from_vec(vec![in alloc; 0; receiver.zeros as usize]?),
-        },
-        Instr::Recv(RecvReq {
-            from: None,
-            region: RegionNo(0),
-            at: receiver.at,
-            len: receiver.len,
-            want: Some(Want {
-                tag: receiver.tag,
-                ignore: 0,
-            }),
-        }),
-        Instr::Wait {
-            count: receiver.count,
-        },
-    ]?;
-    let ranks = vec![in alloc;
-        Rank {
-            features: 25,
-            ops: Ops::from_vec(sends),
-        },
-        Rank {
-            features: 25,
-            ops: Ops::from_vec(receives),
-        },
-    ]?;
-    Ok(Job {
-        limits: first_limits(),
-        inbox: 256,
-        clock: 0,
-        ranks: Ranks::from_vec(ranks),
-        choices: Choices::from_vec(Vec::new(alloc)),
-    })
+    &ops[before..ops.len() - 1]
 }
 
-/// The limits of a script that names none.
-fn first_limits() -> EpLimits
-    ensures { result ≡ first_limits }
+/// Between the first instructions and a wait at the end there are messages, and not too many.
+#[tactic(auto, unfolding(rdm_model::specs::Jobs::is_within))]
+fn has_messages(ops: &[Instr], before: usize) -> bool
+    requires { before < 10 }
+    ensures value { result ≡ has_messages before ops.now }
+    ensures enough { IsTrue result → before + 2 ≤ length ops.now }
 {
-    EpLimits {
-        mtu: 8_192,
-        medium: 65_536,
-        read_limit: 1_048_576,
-        runt: 0,
-        credits: 32,
-        first: 0,
-        tx: 64,
-        rx: 64,
-        early: 64,
-        cq: 128,
+    before + 2 <= ops.len()
+        && ops.len() <= before + 1 + MESSAGES_MAX
+        && waits(&ops[ops.len() - 1]).is_some()
+}
+
+/// The identifier that an instruction opens.
+fn opens(instr: &Instr) -> Option<u32>
+    ensures { result ≡ opens instr.now }
+{
+    match instr {
+        Instr::OpenLife { connid } => Some(connid.0),
+        _ => None,
+    }
+}
+
+/// The life that an instruction inserts.
+fn inserts(instr: &Instr) -> Option<Life>
+    ensures { result ≡ inserts instr.now }
+{
+    match instr {
+        Instr::Insert { life } => Some(*life),
+        _ => None,
+    }
+}
+
+/// The region that an instruction makes.
+fn makes(instr: &Instr) -> Option<&Bytes>
+    ensures { option_map (λ b. b.now) result ≡ makes instr.now }
+{
+    match instr {
+        Instr::Reg { content } => Some(content),
+        _ => None,
+    }
+}
+
+/// The count that an instruction waits for.
+fn waits(instr: &Instr) -> Option<u64>
+    ensures { result ≡ waits instr.now }
+{
+    match instr {
+        Instr::Wait { count } => Some(*count),
+        _ => None,
     }
 }

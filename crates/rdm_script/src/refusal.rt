@@ -1,6 +1,9 @@
 //! Why a script is refused.
+ghost use Rattle.std.specs.Prelude.{◌≡◌};
+ghost use Rattle.rdm_script.specs.Results.{placed};
+
 use crate::Place;
-use std::alloc::AllocError;
+use std::alloc::{AllocError, AllocFailed};
 use std::fmt;
 
 /// What is wrong with a script.
@@ -54,6 +57,38 @@ impl From<AllocError> for ScriptRefused {
 
     fn from(_: AllocError) -> ScriptRefused {
         ScriptRefused::Memory
+    }
+}
+
+impl<T: Drop> From<AllocFailed<T>> for ScriptRefused {
+    ghost use Rattle.std.specs.Prelude.{◌≡◌};
+    ghost use Rattle.rdm_script.specs.declared.refusal.ScriptRefused.TheVariants.{Memory};
+
+    ghost from_gives = { λ _ e. e ≡ Memory };
+
+    fn from(_: AllocFailed<T>) -> ScriptRefused {
+        ScriptRefused::Memory
+    }
+}
+
+impl From<BadScript> for ScriptRefused {
+    ghost use Rattle.std.specs.Prelude.{◌≡◌};
+    ghost use Rattle.rdm_script.specs.declared.refusal.ScriptRefused.TheVariants.{Bad};
+
+    ghost from_gives = { λ bad e. e ≡ Bad bad };
+
+    fn from(bad: BadScript) -> ScriptRefused {
+        ScriptRefused::Bad(bad)
+    }
+}
+
+/// What is wrong is wrong at this place.
+pub fn placed<T>(place: Place, found: Result<T, Reason>) -> Result<T, BadScript>
+    ensures { result ≡ placed place found }
+{
+    match found {
+        Ok(value) => Ok(value),
+        Err(why) => Err(BadScript { place, why }),
     }
 }
 

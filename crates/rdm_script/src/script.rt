@@ -1,12 +1,20 @@
 //! From the bytes of a script to its job.
-ghost use Rattle.std.specs.Prelude.{◌≡◌, IfOk};
+ghost use Rattle.std.specs.Prelude.{◌≡◌, ◌<◌, ◌^◌, length, map};
 ghost use Rattle.serde_json.specs.View.{view};
-ghost use Rattle.rdm_script.specs.Script.{job_in, text_job, value_job, Gives};
+ghost use Rattle.rdm_script.specs.Results.{Gives, GivesAs};
+ghost use Rattle.rdm_script.specs.Script.{job_in, text_job, value_job, formed_job, limits_of, programs_of};
+ghost use Rattle.rdm_script.specs.Drafts.{made_rank};
 
-use crate::first_path::{first_job, fits, read_receiver, read_sender, read_text};
+use crate::choices::choices_of;
+use crate::fields::{
+    PoolSizes, Protocol, choices_field, pools_of, protocol_of, ranks_field, top_tested,
+};
+use crate::first_path::is_built;
+use crate::ranks::{RankDraft, make_ranks, ranks_of};
+use crate::totals::is_too_big;
 use crate::{BadScript, Place, Reason, ScriptRefused};
-use rdm_model::Job;
-use rdm_num::SCRIPT_MAX;
+use rdm_model::{Choices, Job, Ranks};
+use rdm_num::{EpLimits, SCRIPT_MAX};
 use serde_json::Value;
 use std::alloc::Global;
 
@@ -43,18 +51,65 @@ fn whole(why: Reason) -> ScriptRefused
     ScriptRefused::Bad(BadScript { place, why })
 }
 
+/// The job of a JSON value, where it is built.
 fn value_job(alloc: Global, script: &Value) -> Result<Job, ScriptRefused>
     ensures { Gives result (value_job (view script.now)) }
 {
-    let (Some(sender), Some(text), Some(receiver)) = (
-        read_sender(script),
-        read_text(script),
-        read_receiver(script),
-    ) else {
-        return Err(whole(Reason::Unbuilt));
-    };
-    if !fits(sender, text, receiver) {
-        return Err(whole(Reason::Unbuilt));
+    let job = formed_job(alloc, script)?;
+    if is_built(script, &job) {
+        Ok(job)
+    } else {
+        Err(whole(Reason::Unbuilt))
     }
-    Ok(first_job(alloc, sender, text, receiver)?)
+}
+
+/// The job of a well formed script.
+fn formed_job(alloc: Global, script: &Value) -> Result<Job, ScriptRefused>
+    ensures { Gives result (formed_job (view script.now)) }
+{
+    top_tested(script)?;
+    let protocol = protocol_of(script)?;
+    let pools = pools_of(script.get("pools"))?;
+    let values = ranks_field(script)?;
+    let picks = choices_field(script)?;
+    let ranks = programs_of(alloc, values)?;
+    let choices = choices_of(alloc, values.len() as u32, picks)?;
+    Ok(Job {
+        limits: limits_of(protocol, pools),
+        inbox: pools.inbox,
+        clock: protocol.clock,
+        ranks: Ranks::from_vec(make_ranks(alloc, ranks)?),
+        choices: Choices::from_vec(choices),
+    })
+}
+
+/// The limits of an endpoint.
+fn limits_of(protocol: Protocol, pools: PoolSizes) -> EpLimits
+    ensures { result ≡ limits_of protocol pools }
+{
+    EpLimits {
+        mtu: protocol.mtu,
+        medium: protocol.medium,
+        read_limit: protocol.read_limit,
+        runt: protocol.runt,
+        credits: protocol.credits,
+        first: protocol.first,
+        tx: pools.tx,
+        rx: pools.rx,
+        early: pools.early,
+        cq: pools.cq,
+    }
+}
+
+/// The ranks that values say, which are not too big together.
+fn programs_of<'v>(alloc: Global, values: &'v [Value]) -> Result<Vec<RankDraft<'v>>, ScriptRefused>
+    requires { length values.now < 2 ^ 32 }
+    ensures { GivesAs (λ v. map made_rank v.items) result (programs_of (map view values.now)) }
+{
+    let ranks = ranks_of(alloc, values.len() as u32, values)?;
+    if is_too_big(ranks.as_slice()) {
+        Err(whole(Reason::TooBig))
+    } else {
+        Ok(ranks)
+    }
 }

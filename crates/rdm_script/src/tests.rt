@@ -1,10 +1,57 @@
+mod fields;
+mod ops;
+mod totals;
+
 use crate::{BadScript, FieldName, Place, Reason, ScriptRefused, built_jobs, job_of};
 use rdm_model::Instr;
 use rdm_num::{Bytes, Connid, Life, PortNo, RecvReq, RegionNo, SendReq, Want};
+use std::alloc::{AllocError, Global};
 use std::test::Fail;
 
 const HELLO: &str =
     r#"{"version":1,"ranks":[{"ops":[{"op":"open","connid":5},{"op":"insert","port":1,"connid":7},{"op":"reg","text":"hello"},{"op":"send","to":1,"region":0,"at":0,"len":5,"tag":7},{"op":"wait","count":1}]},{"ops":[{"op":"open","connid":7},{"op":"reg","zero":8},{"op":"recv","region":0,"at":0,"len":8,"tag":7},{"op":"wait","count":1}]}]}"#;
+
+const OPEN: &str = r#"{"op":"open","connid":5}"#;
+
+const CLOSE: &str = r#"{"op":"close"}"#;
+
+const WAIT: &str = r#"{"op":"wait","count":0}"#;
+
+/// What is wrong with a script, as it is printed.
+fn said(alloc: Global, script: &[u8]) -> Result<String, AllocError> {
+    match job_of(alloc, script) {
+        Ok(_) => "built".to_string(alloc),
+        Err(ScriptRefused::Bad(bad)) => bad.to_string(alloc),
+        Err(ScriptRefused::Memory) => "no memory".to_string(alloc),
+    }
+}
+
+/// A script with more keys beside its version and one rank with no instruction.
+fn with_keys(alloc: Global, keys: &str) -> Result<String, AllocError> {
+    format!(in alloc; "{{\"version\":1,\"ranks\":[{{\"ops\":[]}}]{keys}}}")
+}
+
+/// A script of these ranks.
+fn of_ranks(alloc: Global, ranks: &str) -> Result<String, AllocError> {
+    format!(in alloc; "{{\"version\":1,\"ranks\":[{ranks}]}}")
+}
+
+/// A script of one rank with these instructions.
+fn of_ops(alloc: Global, ops: &str) -> Result<String, AllocError> {
+    format!(in alloc; "{{\"version\":1,\"ranks\":[{{\"ops\":[{ops}]}}]}}")
+}
+
+/// So many copies, with commas between them.
+fn copies(alloc: Global, piece: &str, count: u32) -> Result<String, AllocError> {
+    let mut all = String::new(alloc);
+    for i in 0..count {
+        if i > 0 {
+            all.push_str(",")?;
+        }
+        all.push_str(piece)?;
+    }
+    Ok(all)
+}
 
 #[test]
 fn a_script_of_one_message_is_built(rt: HostRuntime) -> Result<(), Fail> {
@@ -57,37 +104,114 @@ fn a_script_of_one_message_is_built(rt: HostRuntime) -> Result<(), Fail> {
 }
 
 #[test]
-fn other_scripts_are_refused_as_a_whole(rt: HostRuntime) -> Result<(), Fail> {
+fn other_scripts_are_not_built(rt: HostRuntime) -> Result<(), Fail> {
     let alloc = rt.alloc();
-    let longer = HELLO.replace(alloc, "hello", "hello, world!")?;
-    let too_far = HELLO.replace(alloc, r#""at":0,"len":5"#, r#""at":1,"len":5"#)?;
-    let other_peer = HELLO.replace(alloc, r#""port":1,"connid":7"#, r#""port":1,"connid":8"#)?;
-    let one_more_key = HELLO.replace(alloc, r#""count":1"#, r#""count":1,"x":0"#)?;
-    let with_fraction = HELLO.replace(alloc, r#""tag":7"#, r#""tag":7.0"#)?;
-    let too_long = vec![in alloc; b' '; 8_388_609]?;
-    for (script, why) in [
-        (b"{".as_slice(), Reason::NotJson),
-        (b"\"\xff\"".as_slice(), Reason::NotJson),
-        (b"{}".as_slice(), Reason::Unbuilt),
-        (too_far.as_bytes(), Reason::Unbuilt),
-        (other_peer.as_bytes(), Reason::Unbuilt),
-        (one_more_key.as_bytes(), Reason::Unbuilt),
-        (with_fraction.as_bytes(), Reason::Unbuilt),
-        (too_long.as_slice(), Reason::TooLong),
+    for (old, new, says) in [
+        ("hello", "hello, world!", "built"),
+        (r#""len":8"#, r#""len":5"#, "built"),
+        (r#""len":8"#, r#""len":4"#, "Unbuilt at whole"),
+        (r#""len":8"#, r#""len":9"#, "Unbuilt at whole"),
+        (r#""at":0,"len":5"#, r#""at":1,"len":5"#, "Unbuilt at whole"),
+        (
+            r#""port":1,"connid":7"#,
+            r#""port":1,"connid":8"#,
+            "Unbuilt at whole",
+        ),
+        (
+            r#""port":1,"connid":7"#,
+            r#""port":0,"connid":7"#,
+            "Unbuilt at whole",
+        ),
+        (
+            r#""text":"hello""#,
+            r#""hex":"68656c6c6f""#,
+            "Unbuilt at whole",
+        ),
+        (r#""zero":8"#, r#""fill":[8,0]"#, "Unbuilt at whole"),
+        (
+            r#""len":8,"tag":7"#,
+            r#""len":8,"tag":7,"ignore":0"#,
+            "Unbuilt at whole",
+        ),
+        (
+            r#""len":8,"tag":7"#,
+            r#""len":8,"tag":7,"from":0"#,
+            "Unbuilt at whole",
+        ),
+        (r#""len":8,"tag":7"#, r#""len":8"#, "Unbuilt at whole"),
+        (
+            r#""len":5,"tag":7"#,
+            r#""len":5,"tag":7,"data":1"#,
+            "Unbuilt at whole",
+        ),
+        (r#""len":5,"tag":7"#, r#""len":5"#, "Unbuilt at whole"),
+        (
+            r#"{"version":1"#,
+            r#"{"version":1,"mtu":8192"#,
+            "Unbuilt at whole",
+        ),
+        (
+            r#"{"version":1"#,
+            r#"{"version":1,"choices":[]"#,
+            "Unbuilt at whole",
+        ),
+        (
+            r#"{"version":1"#,
+            r#"{"version":1,"pools":{}"#,
+            "Unbuilt at whole",
+        ),
+        (
+            r#"{"ops":[{"op":"open","connid":7}"#,
+            r#"{"features":25,"ops":[{"op":"open","connid":7}"#,
+            "Unbuilt at whole",
+        ),
+        (
+            r#""count":1}]},"#,
+            r#""count":1},{"op":"close"}]},"#,
+            "Unbuilt at whole",
+        ),
+        (r#"}]}]}"#, r#"}]},{"ops":[]}]}"#, "Unbuilt at whole"),
     ] {
-        let bad = BadScript {
-            place: Place::Whole,
-            why,
-        };
-        match job_of(alloc, script) {
-            Ok(_) => assert!(rt; false, "it is built"),
-            Err(refused) => assert_eq!(rt; refused, ScriptRefused::Bad(bad)),
-        }
+        let script = HELLO.replace(alloc, old, new)?;
+        let told = said(alloc, script.as_bytes())?;
+        assert_eq!(rt; told.as_str(), says, "{new}");
     }
-    assert!(rt;
-        job_of(alloc, longer.as_bytes()).is_ok(),
-        "a longer region is built"
-    );
+    let longer = HELLO.replace(alloc, "hello", "hello, world!")?;
+    for (len, says) in [("12", "built"), ("13", "Unbuilt at whole")] {
+        let sent = format!(in alloc; "\"len\":{len},\"tag\":7")?;
+        let script = longer
+            .as_str()
+            .replace(alloc, r#""len":5,"tag":7"#, sent.as_str())?;
+        let script = script
+            .as_str()
+            .replace(alloc, r#""zero":8"#, r#""zero":13"#)?;
+        let script = script.as_str().replace(alloc, r#""len":8"#, r#""len":13"#)?;
+        assert_eq!(rt; said(alloc, script.as_bytes())?.as_str(), says, "{len}");
+    }
+    Ok(())
+}
+
+#[test]
+fn bytes_are_a_text_of_json(rt: HostRuntime) -> Result<(), Fail> {
+    let alloc = rt.alloc();
+    for script in [
+        b"".as_slice(),
+        b"{".as_slice(),
+        b"{} x".as_slice(),
+        b"\xef\xbb\xbf{}".as_slice(),
+        b"\"\xff\"".as_slice(),
+        br#""\ud800""#.as_slice(),
+        b"1e400".as_slice(),
+    ] {
+        assert_eq!(rt; said(alloc, script)?.as_str(), "NotJson at whole");
+    }
+    for (count, says) in [
+        (8_388_608, "NotJson at whole"),
+        (8_388_609, "TooLong at whole"),
+    ] {
+        let spaces = vec![in alloc; b' '; count]?;
+        assert_eq!(rt; said(alloc, spaces.as_slice())?.as_str(), says);
+    }
     Ok(())
 }
 

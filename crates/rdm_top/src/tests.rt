@@ -85,7 +85,12 @@ fn a_program_that_waits_for_too_much_is_stuck(rt: HostRuntime) -> Result<(), Fai
 fn a_script_that_is_not_built_is_refused(rt: HostRuntime) -> Result<(), Fail> {
     let alloc = rt.alloc();
     for (script, why, line) in [
-        ("{}", Reason::Unbuilt, "bad script: Unbuilt at whole"),
+        (
+            r#"{"version":1,"ranks":[{"ops":[]}]}"#,
+            Reason::Unbuilt,
+            "bad script: Unbuilt at whole",
+        ),
+        ("{}", Reason::Shape, "bad script: Shape at whole"),
         ("{", Reason::NotJson, "bad script: NotJson at whole"),
         ("", Reason::NotJson, "bad script: NotJson at whole"),
     ] {

@@ -1,0 +1,8 @@
+use Rattle.std.proofs.Common.{◌≡◌, map, take}
+use Rattle.std.specs.Prelude.{sum_by}
+use Rattle.rdm_script.specs.Programs.{made_length}
+use Rattle.rdm_script.specs.Drafts.{made, capped}
+use Rattle.rdm_script.proofs.totals.made_total.Given as goal
+
+abbrev pub invariant-loop-draft : goal.invariant-loop-draft
+invariant-loop-draft l = l.total ≡ capped (sum_by made_length (map made (take l.draft-index l.drafts)))

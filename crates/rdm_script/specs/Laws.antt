@@ -1,0 +1,19 @@
+-- What is known of every job, as statements.
+use Rattle.std.specs.Prelude.{◌≡◌, ℕ, IsTrue, List, Ok}
+use Rattle.serde_json.specs.Data.{Data}
+use Rattle.rdm_model.specs.declared.job.Job.{Job}
+use Rattle.rdm_model.specs.Jobs.{is_fair, law_ops}
+use Rattle.rdm_script.specs.FirstPath.{IsFirstPath}
+use Rattle.rdm_script.specs.Script.{formed_job, job_in}
+
+-- every job of a well formed script is fair, whether it is built or not
+abbrev pub FormedAreFair : Type 0
+FormedAreFair = (script : Data) (job : Job) → formed_job script ≡ Ok job → IsTrue (is_fair law_ops job)
+
+-- every job that comes of a script is of one sender and one receiver
+abbrev pub BuiltAreFirst : Type 0
+BuiltAreFirst = (bytes : List ℕ) (job : Job) → job_in bytes ≡ Ok job → IsFirstPath job
+
+-- every job of one sender and one receiver is fair
+abbrev pub FirstAreFair : Type 0
+FirstAreFair = (job : Job) → IsFirstPath job → IsTrue (is_fair law_ops job)

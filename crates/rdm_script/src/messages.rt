@@ -1,0 +1,102 @@
+//! The messages of programs that fit each other.
+ghost use Rattle.std.specs.Prelude.{◌≡◌};
+ghost use Rattle.std.specs.List.{list_all};
+ghost use Rattle.rdm_script.specs.Built.{lies_within, is_exact, send_fits, recv_fits, has_room, have_rooms, messages_fit};
+
+use rdm_model::Instr;
+use rdm_num::Want;
+
+/// The most bytes of a send.
+const MESSAGE_MAX: u64 = 12;
+
+/// Each send fits the text, each receive fits the room, and each receive is as long as each send.
+pub fn messages_fit(text: u64, room: u64, sends: &[Instr], receives: &[Instr]) -> bool
+    ensures { result ≡ messages_fit text room sends.now receives.now }
+{
+    sends_fit(text, sends) && receives_fit(room, receives) && have_rooms(sends, receives)
+}
+
+fn sends_fit(text: u64, sends: &[Instr]) -> bool
+    ensures { result ≡ list_all (send_fits text) sends.now }
+{
+    sends.iter().all(|send| send_fits(send, text))
+}
+
+fn receives_fit(room: u64, receives: &[Instr]) -> bool
+    ensures { result ≡ list_all (recv_fits room) receives.now }
+{
+    receives.iter().all(|recv| recv_fits(recv, room))
+}
+
+/// Each receive is as long as each send.
+fn have_rooms(sends: &[Instr], receives: &[Instr]) -> bool
+    ensures { result ≡ have_rooms sends.now receives.now }
+{
+    receives.iter().all(|recv| has_rooms(recv, sends))
+}
+
+/// The receive is as long as each send.
+fn has_rooms(recv: &Instr, sends: &[Instr]) -> bool
+    ensures { result ≡ list_all (has_room recv.now) sends.now }
+{
+    sends.iter().all(|send| has_room(recv, send))
+}
+
+/// The range lies in a region of that size.
+fn lies_within(size: u64, at: u64, len: u64) -> bool
+    ensures { result ≡ lies_within size at len }
+{
+    at <= size && len <= size - at
+}
+
+/// A tag without ignored bits.
+fn is_exact(want: Option<Want>) -> bool
+    ensures { result ≡ is_exact want }
+{
+    match want {
+        Some(want) => want.ignore == 0,
+        None => false,
+    }
+}
+
+/// A send of a part of the region to the second rank, with a tag and without data.
+fn send_fits(instr: &Instr, size: u64) -> bool
+    ensures { result ≡ send_fits size instr.now }
+{
+    match instr {
+        Instr::Send(req) => {
+            req.to.0 == 1
+                && req.region.0 == 0
+                && lies_within(size, req.at, req.len)
+                && req.len <= MESSAGE_MAX
+                && req.tag.is_some()
+                && req.cq_data.is_none()
+        }
+        _ => false,
+    }
+}
+
+/// A receive of the exact tag into a part of the region, from any source.
+fn recv_fits(instr: &Instr, size: u64) -> bool
+    ensures { result ≡ recv_fits size instr.now }
+{
+    match instr {
+        Instr::Recv(req) => {
+            req.from.is_none()
+                && req.region.0 == 0
+                && lies_within(size, req.at, req.len)
+                && is_exact(req.want)
+        }
+        _ => false,
+    }
+}
+
+/// The receive is as long as the send.
+fn has_room(recv: &Instr, send: &Instr) -> bool
+    ensures { result ≡ has_room recv.now send.now }
+{
+    match (recv, send) {
+        (Instr::Recv(recv), Instr::Send(send)) => send.len <= recv.len,
+        _ => false,
+    }
+}
