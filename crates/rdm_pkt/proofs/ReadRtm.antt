@@ -18,7 +18,8 @@ use Rattle.rdm_pkt.specs.declared.Packet.TheVariants.{Rtm, Cts, CtsData, Eor, Ha
 use Rattle.rdm_pkt.specs.declared.Form.{Form}
 use Rattle.rdm_pkt.specs.declared.Form.TheVariants.{Eager, Medium, LongCts, LongRead, Runt}
 use Rattle.rdm_pkt.specs.Grammar.{type_of, form_fields, entry_fields, last_fields, tag_fields, rtm_flags, head_fields, layout, packet_fits, form_fits, iov_fits, opt_fits, fits, spelling, Spells}
-use Rattle.rdm_pkt.specs.Reading.{Row, row_of, iov_at, header_size, form_at, rtm_at, values_at, if_spelled, packet_in}
+use Rattle.rdm_pkt.specs.Reading.{Row, row_of, iov_at, header_size, form_at, rtm_at, values_at, if_spelled, packet_in, IsReadAs}
+use Rattle.rdm_pkt.specs.Laws.{OneSpelling, OnePacket}
 use Rattle.rdm_pkt.proofs.ReadFields.{At, at_number, at_data, at_place}
 use Rattle.rdm_pkt.proofs.ReadFixed.{at_layout, packet_fit, after_head, read_by, cts_is_read, cts_data_is_read, eor_is_read, handshake_is_read}
 use Rattle.rdm_pkt.proofs.ReadOpenings.{form_row, row_of_type, Flags, flags_tell, after_number, opt_back}
@@ -149,7 +150,7 @@ packet_is_read (Eor send recv connid) bytes s = eor_is_read send recv connid byt
 packet_is_read (Handshake words connid) bytes s = handshake_is_read words connid bytes s
 
 -- bytes spell one packet at most
-pub one_packet : (p q : Packet) (bytes : List ℕ) → Spells p bytes → Spells q bytes → p ≡ q
+pub one_packet : OnePacket
 one_packet p q bytes a b = let x = packet_is_read p bytes a in let y = packet_is_read q bytes b in cc
 
 -- what passes the test was spelled
@@ -170,3 +171,12 @@ pub read_is_spelled : (bytes : List ℕ) (p : Packet) → packet_in bytes ≡ So
 unfolding packet_in
 read_is_spelled bytes p h =
     option_and_then_some (λ row. if_spelled bytes (values_at row bytes)) (row_of (number_at 0 1 bytes)) p h (λ row r k. passed_is_spelled bytes (values_at row bytes) p k)
+
+-- so bytes are read as what they spell, and as nothing where they spell no packet
+pub read_as : (bytes : List ℕ) (r : Option Packet) → r ≡ packet_in bytes → IsReadAs bytes r
+read_as bytes (Some p) is = read_is_spelled bytes p (sym is)
+read_as bytes None is = λ p s. let x = packet_is_read p bytes s in cc
+
+-- a packet has one spelling at most
+pub one_spelling : OneSpelling
+one_spelling p a b s t = s.1 ∙ sym t.1

@@ -5,7 +5,7 @@ ghost use Rattle.rdm_hdr.specs.Fields.{number_at, fields_bytes};
 ghost use Rattle.rdm_hdr.specs.Reading.{begins};
 ghost use Rattle.rdm_pkt.specs.Grammar.{head_fields, opt_fits};
 ghost use Rattle.rdm_pkt.specs.Grammar as Grammar;
-ghost use Rattle.rdm_pkt.specs.Reading.{EagerRow, MediumRow, LongCtsRow, LongReadRow, RuntRow, CtsRow, CtsDataRow, EorRow, HandshakeRow, if_spelled, values_at, rtm_at, packet_in, words_at};
+ghost use Rattle.rdm_pkt.specs.Reading.{IsReadAs, EagerRow, MediumRow, LongCtsRow, LongReadRow, RuntRow, CtsRow, CtsDataRow, EorRow, HandshakeRow, if_spelled, values_at, rtm_at, packet_in, words_at};
 ghost use Rattle.rdm_pkt.specs.Opened.{opening_in};
 
 use crate::read_forms::{read_eager, read_long_cts, read_long_read, read_medium, read_runt};
@@ -17,24 +17,33 @@ use std::alloc::Global;
 
 impl Packet {
     /// The packet that the bytes spell, if there is one. What it carries is copied once.
+    #[tactic(auto, using(crate::proofs::ReadRtm::read_as))]
     pub fn read(alloc: Global, bytes: &[u8]) -> Result<Option<Packet>, NoMemory>
-        ensures { IfOk result (λ r. r ≡ packet_in bytes.now) }
+        ensures value { IfOk result (λ r. r ≡ packet_in bytes.now) }
+        ensures spelled { IfOk result (λ r. IsReadAs bytes.now r) }
     {
-        let Some(kind) = bytes.first() else {
-            return Ok(None);
-        };
-        match *kind {
-            3 => Ok(read_cts(bytes)),
-            4 => read_cts_data(alloc, bytes),
-            7 => Ok(read_eor(bytes)),
-            9 => read_handshake(alloc, bytes),
-            64 | 65 => read_eager(alloc, bytes),
-            66 | 67 => read_medium(alloc, bytes),
-            68 | 69 => read_long_cts(alloc, bytes),
-            128 | 129 => Ok(read_long_read(bytes)),
-            192 | 193 => read_runt(alloc, bytes),
-            _ => Ok(None),
-        }
+        read_packet(alloc, bytes)
+    }
+}
+
+/// The packet by its first byte, which is its type.
+fn read_packet(alloc: Global, bytes: &[u8]) -> Result<Option<Packet>, NoMemory>
+    ensures { IfOk result (λ r. r ≡ packet_in bytes.now) }
+{
+    let Some(kind) = bytes.first() else {
+        return Ok(None);
+    };
+    match *kind {
+        3 => Ok(read_cts(bytes)),
+        4 => read_cts_data(alloc, bytes),
+        7 => Ok(read_eor(bytes)),
+        9 => read_handshake(alloc, bytes),
+        64 | 65 => read_eager(alloc, bytes),
+        66 | 67 => read_medium(alloc, bytes),
+        68 | 69 => read_long_cts(alloc, bytes),
+        128 | 129 => Ok(read_long_read(bytes)),
+        192 | 193 => read_runt(alloc, bytes),
+        _ => Ok(None),
     }
 }
 

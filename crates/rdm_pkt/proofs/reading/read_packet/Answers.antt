@@ -3,8 +3,8 @@ use Rattle.std.specs.Prelude.{IfOk}
 use Rattle.rdm_pkt.specs.declared.Packet.{Packet}
 use Rattle.rdm_pkt.specs.Reading.{CtsRow, CtsDataRow, EorRow, HandshakeRow}
 use Rattle.rdm_pkt.proofs.FirstByte.{empty-none, of-row, row-3, row-4, row-7, row-9, of-eager, of-medium, of-long_cts, of-long_read, of-runt, of-low, of-middle, of-upper, of-high}
-use Rattle.rdm_pkt.proofs.Packet.read.Goals as goal
-use Rattle.rdm_pkt.proofs.Packet.read.Goals.{in_default-kind-via-then-kind-lt64, in_default-kind-via-else-kind-lt64+else-kind-lt66+else-kind-lt68+else-kind-lt70+then-kind-lt128, in_default-kind-via-else-kind-lt64+else-kind-lt66+else-kind-lt68+else-kind-lt70+else-kind-lt128+else-kind-lt130+then-kind-lt192, in_default-kind-via-else-kind-lt64+else-kind-lt66+else-kind-lt68+else-kind-lt70+else-kind-lt128+else-kind-lt130+else-kind-lt192+else-kind-lt194}
+use Rattle.rdm_pkt.proofs.reading.read_packet.Goals as goal
+use Rattle.rdm_pkt.proofs.reading.read_packet.Goals.{in_default-kind-via-then-kind-lt64, in_default-kind-via-else-kind-lt64+else-kind-lt66+else-kind-lt68+else-kind-lt70+then-kind-lt128, in_default-kind-via-else-kind-lt64+else-kind-lt66+else-kind-lt68+else-kind-lt70+else-kind-lt128+else-kind-lt130+then-kind-lt192, in_default-kind-via-else-kind-lt64+else-kind-lt66+else-kind-lt68+else-kind-lt70+else-kind-lt128+else-kind-lt130+else-kind-lt192+else-kind-lt194}
 
 pub returns-in_default : goal.returns-in_default
 returns-in_default c = let first = c.in_default.ensures in sym (empty-none c.args.bytes.now first.value)
