@@ -29,21 +29,20 @@ use Rattle.rdm_model.specs.Scenes.{deeds_at}
 use Rattle.rdm_model.specs.Local.{Local}
 use Rattle.rdm_model.proofs.Members.{slice_get-member}
 use Rattle.rdm_law.proofs.Lives.{at_of_life}
-use Rattle.rdm_law.proofs.OpCounts.{send_count, did_as, did_within}
+use Rattle.rdm_law.proofs.OpCounts.{did_as, did_within}
 use Rattle.rdm_law.proofs.PlainDeeds.{IsPlainOp, IsPlainPacket, IsPlainLoad, OpensNone, IsWithPeer, AreWithPeer}
 
--- the program of a life that opens once, sends once at most, and has to do with one other life alone
+-- the program of a life that opens once, and has to do with one other life alone
 pub record PlainRank (own : Own) (peer : Life) (ops : List Instr) : Type 0 where
   pub plain : (instr : Instr) → Member instr ops → IsPlainOp own peer instr
   pub opens : (c : Connid) → Member (OpenLife c) ops → c ≡ own.life.connid
   pub one_open : sum_by open_count ops ≤ 1
-  pub one_send : sum_by send_count ops ≤ 1
 
 -- a datagram goes from one of the lives to the other
 abbrev pub IsBetween : (i j from to : Life) → Type 0
 IsBetween i j from to = ((from ≡ i) × (to ≡ j)) ⊎ ((from ≡ j) × (to ≡ i))
 
--- a note, or the first message of one of the lives to the other in one packet, or a handshake of it
+-- a note, or a message of one of the lives to the other in one packet, or a handshake of it
 abbrev pub IsPlainBody : (i j : Life) (first : ℕ) → Datagram → Body → Type 0
 IsPlainBody i j first d (Note note) = Unit {0}
 IsPlainBody i j first d (Between from to (PacketLoad bytes)) =

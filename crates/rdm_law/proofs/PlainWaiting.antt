@@ -28,7 +28,7 @@ use Rattle.rdm_law.proofs.PlainDeeds.{IsPlainPacket, IsPlainItem}
 use Rattle.rdm_law.proofs.PlainPorts.{IsPlainBody}
 use Rattle.rdm_law.proofs.PlainWorlds.{PlainJob, swapped, swapped_body, swapped_handles}
 use Rattle.rdm_law.proofs.PlainPlayed.{PlainWorld}
-use Rattle.rdm_law.proofs.FirstOnce.{HasMessage, waits_unheard}
+use Rattle.rdm_law.proofs.MessageOnce.{HasMessage, waits_unheard}
 
 -- a note, or an item that is built after those deeds
 abbrev pub IsBuiltBody : Own → List Deed → Datagram → Body → Type 0
@@ -46,15 +46,15 @@ swapped_world job i j w p = record {
 }
 
 -- what the open life of a port has not heard of
-open_unheard : (job : Job) (i j : Life) (w : World) (port n : ℕ) (d : Datagram) (o : Option Connid) → IsTrue (is_fair law_ops job) → PlainJob job i j → PlainWorld job i j w
-    → Member d (waiting_in w port) → HasMessage i d → is_heard (of_open_life o (deeds_at job port (w.logs port))) i n ≡ false
+open_unheard : (job : Job) (i j : Life) (w : World) (port : ℕ) (number : MsgNo) (d : Datagram) (o : Option Connid) → IsTrue (is_fair law_ops job) → PlainJob job i j → PlainWorld job i j w
+    → Member d (waiting_in w port) → HasMessage i number d → is_heard (of_open_life o (deeds_at job port (w.logs port))) i number.0 ≡ false
 unfolding of_open_life is_heard heard_head
-open_unheard job i j w port n d None fair plain p m has = refl
-open_unheard job i j w port n d (Some c) fair plain p m has = waits_unheard job i j w port c d n fair plain p m has
+open_unheard job i j w port number d None fair plain p m has = refl
+open_unheard job i j w port number d (Some c) fair plain p m has = waits_unheard job i j w port c d number fair plain p m has
 
 -- a packet that opens a message of a life is one
 has_message : (i : Life) (d : Datagram) (from to : Connid) (bytes : List ℕ) (number : MsgNo) (tag : Option ℕ) (opt : Opt) (form : Form) → d.body ≡ Between from to (PacketLoad bytes)
-    → life d.src from ≡ i → packet_in bytes ≡ Some (Rtm number tag opt form) → HasMessage i d
+    → life d.src from ≡ i → packet_in bytes ≡ Some (Rtm number tag opt form) → HasMessage i number d
 unfolding item_of packet_item
 has_message i d from to bytes number tag opt form body is packet =
     let connid : from ≡ i.connid = ap (λ (l : Life). l.connid) is in
@@ -63,7 +63,6 @@ has_message i d from to bytes number tag opt form body is packet =
       load = PacketLoad bytes;
       src_is = ap (λ (l : Life). l.port) is;
       body_is = body ∙ ap (λ (c : Connid). Between c to (PacketLoad bytes)) connid;
-      number = number;
       tag = tag;
       opt = opt;
       form = form;
@@ -76,7 +75,7 @@ packet_built : (job : Job) (i j : Life) (w : World) (port : ℕ) (d : Datagram) 
     → IsPlainPacket job.limits.first p → IsPlainItem (own_of job (life_at port o)) (of_open_life o (deeds_at job port (w.logs port))) (life d.src from) (Spelled p)
 unfolding own_of
 packet_built job i j w port d from to bytes (Rtm number tag opt (Eager data')) o fair plain world m body is packet h =
-    let unheard = open_unheard job i j w port number.0 d o fair plain world m (has_message i d from to bytes number tag opt (Eager data') body is packet) in
+    let unheard = open_unheard job i j w port number d o fair plain world m (has_message i d from to bytes number tag opt (Eager data') body is packet) in
     (h, subst (λ (l : Life). is_heard (of_open_life o (deeds_at job port (w.logs port))) l number.0 ≡ false) (sym is) unheard)
 packet_built job i j w port d from to bytes (Handshake words connid) o fair plain world m body is packet h = tt
 packet_built job i j w port d from to bytes (Rtm number tag opt (Medium size offset data')) o fair plain world m body is packet h = h

@@ -1,5 +1,5 @@
--- Two plain ranks: every world that is reached has plain lives, and between them go their first messages and handshakes alone.
-use Rattle.std.proofs.Common.{◌≡◌, ℕ, List, [], ◌∷◌, Some, None, IsTrue, refl, arith, inl, inr, sym, ◌∙◌, ap, subst}
+-- Two plain ranks: every world that is reached has plain lives, and between them go messages in one packet and handshakes alone.
+use Rattle.std.proofs.Common.{◌≡◌, ℕ, List, [], ◌∷◌, Some, None, IsTrue, refl, inl, inr, sym, ◌∙◌, ap, subst}
 use Rattle.std.proofs.lemmas.Bool.{cases_eq}
 use Rattle.rdm_num.specs.Lists.{Member}
 use Rattle.rdm_num.specs.Lives.{life}
@@ -32,10 +32,9 @@ use Rattle.rdm_law.proofs.RegionsFit.{MessagesFit}
 use Rattle.rdm_law.proofs.SentFits.{SentFits, sent_fits}
 use Rattle.rdm_law.proofs.FairJobs.{JobFits, fair_job}
 use Rattle.rdm_law.proofs.GoesWell.{life_fits, life_goes, closed_goes, none_opens, goes_well}
-use Rattle.rdm_law.proofs.OpCounts.{send_count, did_as, did_within, life_within}
 use Rattle.rdm_law.proofs.PlainDeeds.{IsPlainLoad}
 use Rattle.rdm_law.proofs.PlainTurns.{IsPlainGoing}
-use Rattle.rdm_law.proofs.PlainGoes.{plain_turn, sends_by_deeds}
+use Rattle.rdm_law.proofs.PlainGoes.{plain_turn}
 use Rattle.rdm_law.proofs.PlainPorts.{PlainRank, IsBetween, IsPlainBody, IsPlainHandle, ArePlainHandles, open_is, life_with_peer}
 
 -- two ranks whose programs are plain, and no others
@@ -88,11 +87,7 @@ goes_of_life job i j log to item fair plain l fit h is goes =
     let ms = heard_by own.limits.first mine in
     let bytes : MessagesFit ms = λ source k. bytes_by_fit own.limits.first mine source k fits.taken in
     let sent : (s : Sent) → Member s (sends own ms mine) → SentFits own s = sent_fits (port_count job) own ms mine bytes fits.deeds_fit in
-    let a = sends_by_deeds own ms mine in
-    let b = life_within (did_as send_count) i.connid port_log in
-    let c = did_within job i.port.0 send_count log l in
-    let d = plain.rank_i.one_send in
-    plain_turn own j ms mine t.0 to item peers refl sent (omega arith) t.1 t.2
+    plain_turn own j ms mine t.0 to item peers refl sent t.1 t.2
 
 -- the datagram that goes
 plain_load : (i j : Life) (first : ℕ) (d : Datagram) (from to : Connid) (item : Item) → IsBetween i j (life d.src from) (life d.dst to) → IsPlainLoad first item → CanGo item

@@ -10,7 +10,7 @@ use Rattle.rdm_script.specs.declared.refusal.Reason.TheVariants.{TooLong}
 use Rattle.rdm_script.specs.Script.{job_in, text_job, whole, script_max}
 use Rattle.rdm_top.specs.Reads.{IsRead}
 use Rattle.rdm_top.specs.Promise.{Plays}
-use Rattle.rdm_top.proofs.Once.{is_fair-job_in}
+use Rattle.rdm_top.proofs.FirstPath.{is_fair-job_in}
 use Rattle.rdm_law.proofs.PlaysRight.{plays_right}
 use Rattle.rdm_law.proofs.Bounded.{is_bounded}
 use Rattle.rdm_law.proofs.TheLaw.{the_headline}

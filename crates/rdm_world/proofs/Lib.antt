@@ -20,6 +20,6 @@ pub mod GatheredOrder
 pub mod GatheredLogs
 pub mod Gathered
 pub mod OwnLogs
-pub mod Once
+pub mod PlainStays
 pub mod Playing
 pub mod Entering

@@ -1,5 +1,5 @@
--- The worlds of a job that sends once are built.
-use Rattle.std.proofs.Common.{List, IsTrue, arith}
+-- The worlds of a job of two plain ranks are built.
+use Rattle.std.proofs.Common.{List, IsTrue}
 use Rattle.rdm_num.specs.declared.numbers.Life.{Life}
 use Rattle.rdm_num.specs.Lives.{life}
 use Rattle.rdm_pkt.specs.declared.Packet.TheVariants.{Rtm, Handshake}
@@ -15,7 +15,8 @@ use Rattle.rdm_model.specs.Worlds.{World, new_world, scene_in, after_choices}
 use Rattle.rdm_law.proofs.PlainDeeds as Law
 use Rattle.rdm_law.proofs.PlainWaiting.{waiting_built}
 use Rattle.rdm_law.proofs.PlainWaiting as Waiting
-use Rattle.rdm_law.proofs.PlainPlayed.{PlainWorld, SendsOnce, sender_life, receiver_life, sends_once_plain, new_plain_world, plain_keeps}
+use Rattle.rdm_law.proofs.PlainWorlds.{PlainJob}
+use Rattle.rdm_law.proofs.PlainPlayed.{PlainWorld, new_plain_world, plain_keeps}
 use Rattle.rdm_law.proofs.PlayedSteps.{choices_keep}
 use Rattle.rdm_ep.specs.Plain.{IsPlainItem}
 use Rattle.rdm_port.specs.Built.{IsBuiltBody}
@@ -23,7 +24,7 @@ use Rattle.rdm_world.specs.Shows.{IsBuiltWorld, StaysBuilt}
 
 -- what the law calls plain is what the endpoint takes
 same_item : (own : Own) (log : List Deed) (from : Life) (item : Item) → Law.IsPlainItem own log from item → IsPlainItem own log from item
-same_item own log from (Spelled (Rtm number tag opt (Eager bytes))) h = (let first = h.0 in omega arith, h.1)
+same_item own log from (Spelled (Rtm number tag opt (Eager bytes))) h = h
 same_item own log from (Spelled (Handshake words connid)) h = h
 same_item own log from _ h = elim h [ ]
 
@@ -33,15 +34,12 @@ same_body own log d (Note note) h = h
 same_body own log d (Between from to load) h = same_item own log (life d.src from) (item_of load) h
 
 -- a plain world is built
-plain_built : (job : Job) (f : SendsOnce job) (w : World) → IsTrue (is_fair law_ops job) → PlainWorld job (sender_life f) (receiver_life f) w → IsBuiltWorld job w
-plain_built job f w fair p port d m =
-    same_body (scene_in job w port).own (scene_in job w port).log d d.body
-    (waiting_built job (sender_life f) (receiver_life f) w port d fair (sends_once_plain job f) p m)
+plain_built : (job : Job) (i j : Life) (w : World) → IsTrue (is_fair law_ops job) → PlainJob job i j → PlainWorld job i j w → IsBuiltWorld job w
+plain_built job i j w fair plain p port d m =
+    same_body (scene_in job w port).own (scene_in job w port).log d d.body (waiting_built job i j w port d fair plain p m)
 
 -- each world of such a job that choices reach is built
-pub once_stays_built : (job : Job) → IsTrue (is_fair law_ops job) → SendsOnce job → StaysBuilt job new_world
-once_stays_built job fair f cs ranks =
-    let i = sender_life f in
-    let j = receiver_life f in
-    plain_built job f (after_choices job new_world cs) fair
-    (choices_keep job (PlainWorld job i j) (plain_keeps job i j fair (sends_once_plain job f)) cs new_world ranks (new_plain_world job i j))
+pub plain_stays_built : (job : Job) (i j : Life) → IsTrue (is_fair law_ops job) → PlainJob job i j → StaysBuilt job new_world
+plain_stays_built job i j fair plain cs ranks =
+    plain_built job i j (after_choices job new_world cs) fair plain
+    (choices_keep job (PlainWorld job i j) (plain_keeps job i j fair plain) cs new_world ranks (new_plain_world job i j))
