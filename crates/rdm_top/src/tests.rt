@@ -1,3 +1,5 @@
+mod order;
+
 ghost use Rattle.std.specs.Prelude.{◌≤◌};
 
 use crate::{Status, job};

@@ -1,0 +1,30 @@
+//! Messages that come out of order.
+use super::replayed;
+use crate::Status;
+use std::test::Fail;
+
+/// Rank 0 sends `he` and `llo` with one tag. The choices let the second one come first.
+const REORDERED: &str =
+    r#"{"version":1,"ranks":[{"ops":[{"op":"open","connid":5},{"op":"insert","port":1,"connid":7},{"op":"reg","text":"hello"},{"op":"send","to":1,"region":0,"at":0,"len":2,"tag":7},{"op":"send","to":1,"region":0,"at":2,"len":3,"tag":7},{"op":"wait","count":2}]},{"ops":[{"op":"open","connid":7},{"op":"reg","zero":6},{"op":"recv","region":0,"at":0,"len":3,"tag":7},{"op":"recv","region":0,"at":3,"len":3,"tag":7},{"op":"wait","count":2}]}],"choices":[["next",0],["push",0],["next",1],["push",1],["handle",1,0],["handle",0,0],["next",0],["next",0],["next",0],["next",0],["push",0],["push",0],["next",1],["next",1],["next",1],["handle",1,1],["handle",1,0]]}"#;
+
+/// The report has the line.
+fn has_line(report: &str, line: &str) -> bool {
+    report.lines().any(|l| l == line)
+}
+
+#[test]
+fn messages_enter_by_their_numbers(rt: HostRuntime) -> Result<(), Fail> {
+    let alloc = rt.alloc();
+    let (status, out) = replayed(alloc, REORDERED, 512, Vec::new(alloc), Vec::new(alloc))?;
+    assert_eq!(rt; status, Status::Done);
+    let report = str::from_utf8(out.given())?;
+    for line in [
+        "10 1 handle 0 2 took",
+        "11 1 handle 0 1 took enters 0 2",
+        "13 1 poll recv 0 ok from 0.5 tag 7 data - length 2 6865",
+        "14 1 poll recv 1 ok from 0.5 tag 7 data - length 3 6c6c6f",
+    ] {
+        assert!(rt; has_line(report, line), "{line}");
+    }
+    Ok(())
+}
