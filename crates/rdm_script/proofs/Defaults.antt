@@ -1,5 +1,5 @@
 -- A script that names no field has the defaults.
-use Rattle.std.proofs.Common.{◌≡◌, Bool, true, ◌&&◌, List, [], codes, Option, Some, None, Result, Ok, refl}
+use Rattle.std.proofs.Common.{◌≡◌, Bool, true, codes, Option, Some, None, Result, Ok, refl}
 use Rattle.std.specs.Prelude.{is_none}
 use Rattle.std.proofs.lemmas.Bool.{and_parts}
 use Rattle.serde_json.specs.Data.{Data}
@@ -7,7 +7,7 @@ use Rattle.serde_json.specs.Find.{get}
 use Rattle.rdm_model.specs.Jobs.{is_within}
 use Rattle.rdm_script.specs.declared.fields.Protocol.{Protocol}
 use Rattle.rdm_script.specs.declared.fields.PoolSizes.{PoolSizes}
-use Rattle.rdm_script.specs.Fields.{protocol_of, pools_of, choices_field}
+use Rattle.rdm_script.specs.Fields.{protocol_of, pools_of}
 use Rattle.rdm_script.specs.Built.{has_plain_limits, has_plain_counts, has_plain_fields}
 use Rattle.rdm_script.proofs.Shapes.{none}
 
@@ -23,7 +23,6 @@ first_pools = record { tx = 64; rx = 64; early = 64; cq = 128; inbox = 256 }
 pub record IsPlain (script : Data) : Type 0 where
   pub protocol : protocol_of script ≡ Ok first_protocol
   pub pools : pools_of (get (codes "pools") script) ≡ Ok first_pools
-  pub choices : choices_field script ≡ Ok []
 
 protocol : (script : Data) → has_plain_limits script ≡ true → has_plain_counts script ≡ true → protocol_of script ≡ Ok first_protocol
 unfolding is_within
@@ -51,9 +50,7 @@ pools found h = rw h
 pub plain : (script : Data) → has_plain_fields script ≡ true → IsPlain script
 plain script h =
     let a = and_parts _ _ h in
-    let b = and_parts _ _ a.0 in
     record {
-      protocol = protocol script b.0 b.1;
-      pools = pools (get (codes "pools") script) (none (get (codes "pools") script) (and_parts _ _ b.1).1);
-      choices = rw (none (get (codes "choices") script) a.1);
+      protocol = protocol script a.0 a.1;
+      pools = pools (get (codes "pools") script) (none (get (codes "pools") script) (and_parts _ _ a.1).1);
     }

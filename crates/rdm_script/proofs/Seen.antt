@@ -1,13 +1,17 @@
 -- JSON values as they are seen.
-use Rattle.std.proofs.Common.{◌≡◌, ◌<◌, ◌+◌, ℕ, suc, true, List, [], ◌∷◌, length, map, get_or, drop, slice_index_or, Fits, w8, Result, Ok, Err, refl, ap, arith, add-one}
+use Rattle.std.proofs.Common.{◌≡◌, ◌<◌, ◌+◌, ℕ, suc, true, List, [], ◌∷◌, length, map, get_or, drop, slice_index_or, Fits, w8, Result, Ok, Err, refl, ap, arith, add-one, codes, ◌&&◌}
+use Rattle.std.specs.Prelude.{is_none}
+use Rattle.std.specs.List.{list_all}
 use Rattle.std.proofs.Math.Seq.{drop-cons}
 use Rattle.std.proofs.lemmas.Bool.{and_from, lt-ltb}
+use Rattle.serde_json.specs.Find.{get}
 use Rattle.serde_json.specs.View.{view, items_view}
 use Rattle.serde_json.specs.declared.value.Value.{Value}
 use Rattle.rdm_script.specs.declared.place.Place.{Place}
 use Rattle.rdm_script.specs.declared.refusal.Reason.{Reason}
 use Rattle.rdm_script.specs.Results.{placed, result_map}
 use Rattle.rdm_script.specs.Values.{list_of, are_bytes}
+use Rattle.rdm_script.specs.Built.{none_ignores}
 
 -- the elements of an array are those of its view
 pub list_of-items_view : (vs : List Value) → list_of (items_view vs) ≡ map view vs
@@ -31,3 +35,8 @@ pub placed-seen : {A B : Type 0} (see : A → B) (place : Place) (r : Result A R
     → result_map see r ≡ said → Ok x ≡ placed place r → placed place said ≡ Ok (see x)
 placed-seen see place (Ok y) said x is e = let same : x ≡ y = cc in rw (← is, same)
 placed-seen see place (Err why) said x is e = cc
+
+-- no value says ignored bits, where none does as it is seen
+pub none_ignores-view : (vs : List Value) → none_ignores (map view vs) ≡ list_all (λ v. is_none (get (codes "ignore") (view v))) vs
+none_ignores-view [] = refl
+none_ignores-view (v ∷ vs) = ap (λ b. is_none (get (codes "ignore") (view v)) && b) (none_ignores-view vs)

@@ -1,8 +1,9 @@
 -- Which of the well formed scripts are built: of two ranks, the first of which sends to the second.
-use Rattle.std.specs.Prelude.{ℕ, ◌+◌, ◌-◌, Bool, false, ◌&&◌, ◌==◌, nat_le, List, [], ◌∷◌, length, slice_get, slice_range, codes, Option, Some, None, is_some, is_none, unwrap_or}
-use Rattle.std.specs.List.{list_all}
+use Rattle.std.specs.Prelude.{ℕ, ◌+◌, ◌-◌, Bool, true, false, not, ◌&&◌, ◌==◌, nat_le, List, [], ◌∷◌, length, slice_get, slice_range, codes, Option, Some, None, is_some, is_none, unwrap_or, option_map, option_and_then}
+use Rattle.std.specs.List.{list_all, list_any}
 use Rattle.serde_json.specs.Data.{Data}
-use Rattle.serde_json.specs.Find.{get}
+use Rattle.serde_json.specs.Find.{get, as_array}
+use Rattle.rdm_num.specs.Pieces.{overlaps}
 use Rattle.rdm_num.specs.declared.numbers.Life.{Life}
 use Rattle.rdm_num.specs.declared.request.Want.{Want}
 use Rattle.rdm_num.specs.declared.request.SendReq.{SendReq}
@@ -12,15 +13,15 @@ use Rattle.rdm_model.specs.declared.job.Rank.{Rank}
 use Rattle.rdm_model.specs.declared.job.Instr.{Instr}
 use Rattle.rdm_model.specs.declared.job.Instr.TheVariants.{OpenLife, Insert, Reg, Send, Recv, Wait}
 use Rattle.rdm_model.specs.Jobs.{is_within}
-use Rattle.rdm_script.specs.Values.{found_at, found_in}
+use Rattle.rdm_script.specs.Values.{list_of, found_at, found_in}
 
 -- the most sends of the first rank, and the most receives of the second
 abbrev pub messages_max : ℕ
-messages_max = 1
+messages_max = 16
 
 -- the most bytes of a send
 abbrev pub message_max : ℕ
-message_max = 12
+message_max = 8140
 
 -- the script names no limit of an endpoint's messages
 abbrev pub has_plain_limits : Data → Bool
@@ -32,9 +33,9 @@ abbrev pub has_plain_counts : Data → Bool
 has_plain_counts script =
     is_none (get (codes "credits") script) && is_none (get (codes "first") script) && is_none (get (codes "clock") script) && is_none (get (codes "pools") script)
 
--- the outermost object has its version and its ranks, and no other key
+-- the outermost object has its version, its ranks and choices, and no other key
 abbrev pub has_plain_fields : Data → Bool
-has_plain_fields script = has_plain_limits script && has_plain_counts script && is_none (get (codes "choices") script)
+has_plain_fields script = has_plain_limits script && has_plain_counts script
 
 -- a rank of a script
 abbrev pub rank_value : ℕ → Data → Option Data
@@ -48,11 +49,19 @@ instr_value rank index script = found_in index (found_at (codes "ops") (rank_val
 abbrev pub has_plain_ranks : Data → Bool
 has_plain_ranks script = is_none (found_at (codes "features") (rank_value 0 script)) && is_none (found_at (codes "features") (rank_value 1 script))
 
--- the first region is a text and the second one zeros, and the receive says no ignored bits
+-- the elements of an array that may be absent
+abbrev pub elements : Option Data → List Data
+elements found = unwrap_or (option_map list_of (option_and_then as_array found)) []
+
+-- no receive says ignored bits
+abbrev pub none_ignores : List Data → Bool
+none_ignores ops = list_all (λ op. is_none (get (codes "ignore") op)) ops
+
+-- the first region is a text and the second one zeros, and no receive says ignored bits
 abbrev pub has_plain_ops : Data → Bool
 has_plain_ops script =
     is_some (found_at (codes "text") (instr_value 0 2 script)) && is_some (found_at (codes "zero") (instr_value 1 1 script))
-    && is_none (found_at (codes "ignore") (instr_value 1 2 script))
+    && none_ignores (elements (found_at (codes "ops") (rank_value 1 script)))
 
 -- the range lies in a region of that size
 abbrev pub lies_within : (size at len : ℕ) → Bool
@@ -122,9 +131,20 @@ messages before ops = slice_range ops before (length ops - 1)
 abbrev pub have_rooms : (sends receives : List Instr) → Bool
 have_rooms sends receives = list_all (λ r. list_all (has_room r) sends) receives
 
--- each send fits the text, each receive fits the room, and each receive is as long as each send
+-- both receives have a byte in common; they are into one region
+abbrev pub meet : (a b : Instr) → Bool
+meet (Recv a) (Recv b) = overlaps a.at a.len b.at b.len
+meet _ _ = false
+
+-- no two receives have a byte in common
+abbrev pub are_apart : List Instr → Bool
+are_apart [] = true
+are_apart (recv ∷ others) = not (list_any (meet recv) others) && are_apart others
+
+-- each send fits the text, each receive fits the room and is as long as each send, and the receives are apart
 abbrev pub messages_fit : (text room : ℕ) → (sends receives : List Instr) → Bool
-messages_fit text room sends receives = list_all (send_fits text) sends && list_all (recv_fits room) receives && have_rooms sends receives
+messages_fit text room sends receives =
+    list_all (send_fits text) sends && list_all (recv_fits room) receives && have_rooms sends receives && are_apart receives
 
 -- the programs have messages, which fit each other
 abbrev pub exchange_fits : (text room : ℕ) → (sending receiving : List Instr) → Bool

@@ -10,10 +10,10 @@ use Rattle.rdm_script.specs.Script.{formed_job, job_in}
 abbrev pub FormedAreFair : Type 0
 FormedAreFair = (script : Data) (job : Job) → formed_job script ≡ Ok job → IsTrue (is_fair law_ops job)
 
+-- every job that comes of a script is fair
+abbrev pub BuiltAreFair : Type 0
+BuiltAreFair = (bytes : List ℕ) (job : Job) → job_in bytes ≡ Ok job → IsTrue (is_fair law_ops job)
+
 -- every job that comes of a script is of one sender and one receiver
 abbrev pub BuiltAreFirst : Type 0
 BuiltAreFirst = (bytes : List ℕ) (job : Job) → job_in bytes ≡ Ok job → IsFirstPath job
-
--- every job of one sender and one receiver is fair
-abbrev pub FirstAreFair : Type 0
-FirstAreFair = (job : Job) → IsFirstPath job → IsTrue (is_fair law_ops job)

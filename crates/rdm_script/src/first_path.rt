@@ -1,8 +1,9 @@
-//! The scripts that are built: rank 0 sends one tagged message, and rank 1 receives it.
-ghost use Rattle.std.specs.Prelude.{◌≡◌, ◌≤◌, ◌<◌, ◌+◌, IsTrue, length, option_map};
+//! The scripts that are built: rank 0 sends tagged messages, and rank 1 receives.
+ghost use Rattle.std.specs.Prelude.{◌≡◌, ◌≤◌, ◌<◌, ◌+◌, IsTrue, length, map, option_map, is_none, codes};
 ghost use Rattle.std.specs.List.{list_all};
+ghost use Rattle.serde_json.specs.Find.{get};
 ghost use Rattle.serde_json.specs.View.{view};
-ghost use Rattle.rdm_script.specs.Built.{has_plain_limits, has_plain_counts, has_plain_fields, rank_value, instr_value, has_plain_ranks, has_plain_ops, opens, inserts, makes, waits, has_messages, messages, messages_fit, exchange_fits, is_peer, are_zeros, parts_fit, programs_fit, ranks_fit, is_built};
+ghost use Rattle.rdm_script.specs.Built.{has_plain_limits, has_plain_counts, has_plain_fields, rank_value, instr_value, has_plain_ranks, elements, none_ignores, has_plain_ops, opens, inserts, makes, waits, has_messages, messages, messages_fit, exchange_fits, is_peer, are_zeros, parts_fit, programs_fit, ranks_fit, is_built};
 
 use crate::messages::messages_fit;
 use crate::value::{found_at, found_in};
@@ -11,7 +12,7 @@ use rdm_num::{Bytes, Life};
 use serde_json::Value;
 
 /// The most sends of the first rank, and the most receives of the second.
-const MESSAGES_MAX: usize = 1;
+const MESSAGES_MAX: usize = 16;
 
 /// The script and its job are of the form that is built.
 pub fn is_built(script: &Value, job: &Job) -> bool
@@ -43,11 +44,11 @@ fn has_plain_counts(script: &Value) -> bool
         && script.get("pools").is_none()
 }
 
-/// The outermost object has its version and its ranks, and no other key.
+/// The outermost object has its version, its ranks and choices, and no other key.
 fn has_plain_fields(script: &Value) -> bool
     ensures { result ≡ has_plain_fields (view script.now) }
 {
-    has_plain_limits(script) && has_plain_counts(script) && script.get("choices").is_none()
+    has_plain_limits(script) && has_plain_counts(script)
 }
 
 /// A rank of a script.
@@ -72,13 +73,46 @@ fn has_plain_ranks(script: &Value) -> bool
         && found_at(rank_value(script, 1), "features").is_none()
 }
 
-/// The first region is a text and the second one zeros, and the receive says no ignored bits.
+/// The elements of an array that may be absent.
+fn elements(found: Option<&Value>) -> &[Value]
+    ensures { map view result.now ≡ elements (option_map (λ v. view v.now) found.entry) }
+{
+    let Some(value) = found else {
+        return &[];
+    };
+    match value.as_array() {
+        Some(values) => values.as_slice(),
+        None => &[],
+    }
+}
+
+/// No receive says ignored bits.
+fn none_ignores(ops: &[Value]) -> bool
+    ensures { result ≡ none_ignores (map view ops.now) }
+{
+    each_plain(ops)
+}
+
+fn each_plain(ops: &[Value]) -> bool
+    ensures { result ≡ list_all (λ v. is_none (get (codes "ignore") (view v))) ops.now }
+{
+    ops.iter().all(|op| is_plain_op(op))
+}
+
+/// The instruction says no ignored bits.
+fn is_plain_op(op: &Value) -> bool
+    ensures { result ≡ is_none (get (codes "ignore") (view op.now)) }
+{
+    op.get("ignore").is_none()
+}
+
+/// The first region is a text and the second one zeros, and no receive says ignored bits.
 fn has_plain_ops(script: &Value) -> bool
     ensures { result ≡ has_plain_ops (view script.now) }
 {
     found_at(instr_value(script, 0, 2), "text").is_some()
         && found_at(instr_value(script, 1, 1), "zero").is_some()
-        && found_at(instr_value(script, 1, 2), "ignore").is_none()
+        && none_ignores(elements(found_at(rank_value(script, 1), "ops")))
 }
 
 /// Two ranks with the default features, whose programs fit each other.

@@ -1,19 +1,24 @@
 //! The messages of programs that fit each other.
 ghost use Rattle.std.specs.Prelude.{◌≡◌};
-ghost use Rattle.std.specs.List.{list_all};
-ghost use Rattle.rdm_script.specs.Built.{lies_within, is_exact, send_fits, recv_fits, has_room, have_rooms, messages_fit};
+ghost use Rattle.std.specs.List.{list_all, list_any};
+ghost use Rattle.rdm_num.specs.Pieces as Pieces;
+ghost use Rattle.rdm_script.specs.Built.{lies_within, is_exact, send_fits, recv_fits, has_room, have_rooms, meet, are_apart, messages_fit};
 
 use rdm_model::Instr;
 use rdm_num::Want;
 
 /// The most bytes of a send.
-const MESSAGE_MAX: u64 = 12;
+const MESSAGE_MAX: u64 = 8_140;
 
-/// Each send fits the text, each receive fits the room, and each receive is as long as each send.
+/// Each send fits the text, each receive fits the room and is as long as each send, and the receives
+/// are apart.
 pub fn messages_fit(text: u64, room: u64, sends: &[Instr], receives: &[Instr]) -> bool
     ensures { result ≡ messages_fit text room sends.now receives.now }
 {
-    sends_fit(text, sends) && receives_fit(room, receives) && have_rooms(sends, receives)
+    sends_fit(text, sends)
+        && receives_fit(room, receives)
+        && have_rooms(sends, receives)
+        && are_apart(receives)
 }
 
 fn sends_fit(text: u64, sends: &[Instr]) -> bool
@@ -99,4 +104,42 @@ fn has_room(recv: &Instr, send: &Instr) -> bool
         (Instr::Recv(recv), Instr::Send(send)) => send.len <= recv.len,
         _ => false,
     }
+}
+
+/// No two receives have a byte in common.
+fn are_apart(receives: &[Instr]) -> bool
+    ensures { result ≡ are_apart receives.now }
+{
+    match receives {
+        [recv, others @ ..] => !meets_any(recv, others) && are_apart(others),
+        [] => true,
+    }
+}
+
+/// The receive has a byte in common with one of the others.
+fn meets_any(recv: &Instr, others: &[Instr]) -> bool
+    ensures { result ≡ list_any (meet recv.now) others.now }
+{
+    others.iter().any(|other| meet(recv, other))
+}
+
+/// Both receives have a byte in common; they are into one region.
+fn meet(a: &Instr, b: &Instr) -> bool
+    ensures { result ≡ meet a.now b.now }
+{
+    match (a, b) {
+        (Instr::Recv(a), Instr::Recv(b)) => overlap(a.at, a.len, b.at, b.len),
+        _ => false,
+    }
+}
+
+/// Two ranges share a place; an empty range shares none.
+#[tactic(auto, unfolding(rdm_num::specs::Pieces::overlaps))]
+fn overlap(at: u64, len: u64, other_at: u64, other_len: u64) -> bool
+    ensures { result ≡ Pieces.overlaps at len other_at other_len }
+{
+    0 < len
+        && 0 < other_len
+        && u128::from(at) < u128::from(other_at) + u128::from(other_len)
+        && u128::from(other_at) < u128::from(at) + u128::from(len)
 }
