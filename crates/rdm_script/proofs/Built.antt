@@ -1,27 +1,26 @@
 -- Every job that comes of a script is fair, and of one sender and one receiver.
 use Rattle.std.proofs.Common.{◌≡◌, ℕ, Bool, true, false, ◌&&◌, ◌==◌, List, [], ◌∷◌, length, codes, Option, Some, None, Ok, Err, Result, refl, ap, sym, subst, ◌∙◌, if◌then◌else◌}
-use Rattle.std.specs.Prelude.{nat_le, unwrap_or, IsTrue}
+use Rattle.std.specs.Prelude.{nat_le, unwrap_or}
 use Rattle.std.specs.Str.{is_utf8}
 use Rattle.std.proofs.lemmas.Bool.{and_parts, eqb-true}
 use Rattle.serde_json.specs.Data.{Data}
 use Rattle.serde_json.specs.Find.{get}
 use Rattle.serde_json.specs.Read.{read}
+use Rattle.rdm_num.specs.declared.limits.EpLimits.{EpLimits}
 use Rattle.rdm_model.specs.declared.job.Job.{Job}
 use Rattle.rdm_model.specs.declared.job.Rank.{Rank}
 use Rattle.rdm_model.specs.declared.job.Instr.{Instr}
 use Rattle.rdm_script.specs.declared.refusal.BadScript.{BadScript}
 use Rattle.rdm_script.specs.declared.fields.Protocol.{Protocol}
-use Rattle.rdm_script.specs.declared.fields.PoolSizes.{PoolSizes}
-use Rattle.rdm_script.specs.Results.{◌>>=◌}
-use Rattle.rdm_script.specs.Built.{has_plain_fields, has_plain_ranks, has_plain_ops, programs_fit, ranks_fit, is_built}
+use Rattle.rdm_script.specs.Built.{message_max, has_plain_limits, has_plain_counts, has_plain_pools, has_plain_fields, has_plain_ranks, has_plain_ops, programs_fit, ranks_fit, is_built}
 use Rattle.rdm_script.specs.FirstPath.{first_limits, IsFirstPath}
 use Rattle.rdm_script.specs.Fields.{top_tested, protocol_of, pools_of, ranks_field, choices_field}
 use Rattle.rdm_script.specs.Choices.{choices_of}
 use Rattle.rdm_script.specs.Script.{limits_of, programs_of, formed_job, if_built, value_job, read_job, text_job, job_in, script_max}
 use Rattle.rdm_script.specs.Laws.{BuiltAreFair, BuiltAreFirst}
 use Rattle.rdm_script.proofs.Chains.{gave, passed, given}
-use Rattle.rdm_script.proofs.Defaults.{plain, first_protocol, first_pools}
-use Rattle.rdm_script.proofs.Paths.{Path, programs_fit-is}
+use Rattle.rdm_script.proofs.Defaults as first
+use Rattle.rdm_script.proofs.Paths.{programs_fit-is}
 use Rattle.rdm_script.proofs.Formed.{formed_are_fair}
 
 -- things of the same parts are the same
@@ -33,8 +32,7 @@ rank_is r ops f o = same_2 (λ features ops. record { features = features; ops =
 
 -- what is the same in every job that is built
 record IsPlainJob (job : Job) : Type 0 where
-  limits : job.limits ≡ first_limits
-  inbox : job.inbox ≡ 256
+  limits : job.limits ≡ first_limits job.limits.mtu
   clock : job.clock ≡ 0
 
 some_true : (o : Option Bool) → unwrap_or o false ≡ true → o ≡ Some true
@@ -42,13 +40,14 @@ some_true None h = cc
 some_true (Some b) h = ap Some h
 
 -- the job of ranks that fit is of one sender and one receiver
-of_ranks : (job : Job) (rs : List Rank) → IsPlainJob job → job.ranks ≡ rs → ranks_fit rs ≡ true → IsFirstPath job
+of_ranks : (job : Job) (rs : List Rank) → IsPlainJob job → job.ranks ≡ rs → ranks_fit (message_max job.limits.mtu) rs ≡ true → IsFirstPath job
 of_ranks job [] plain is h = cc
 of_ranks job (a ∷ []) plain is h = cc
 of_ranks job (a ∷ b ∷ []) plain is h =
-    let q = and_parts ((a.features == 25) && (b.features == 25)) (unwrap_or (programs_fit a.ops b.ops) false) h in
+    let most = message_max job.limits.mtu in
+    let q = and_parts ((a.features == 25) && (b.features == 25)) (unwrap_or (programs_fit most a.ops b.ops) false) h in
     let r = and_parts (a.features == 25) (b.features == 25) q.0 in
-    let p = programs_fit-is a.ops b.ops (some_true (programs_fit a.ops b.ops) q.1) in
+    let p = programs_fit-is most a.ops b.ops (some_true (programs_fit most a.ops b.ops) q.1) in
     let first = rank_is a _ (eqb-true _ _ r.0) p.first_is in
     let second = rank_is b _ (eqb-true _ _ r.1) p.second_is in
     record {
@@ -62,13 +61,12 @@ of_ranks job (a ∷ b ∷ []) plain is h =
       received = p.received;
       fit = p.fit;
       limits_are = plain.limits;
-      inbox_is = plain.inbox;
       clock_is = plain.clock;
       ranks_are = is ∙ same_2 (λ (x y : Rank). x ∷ y ∷ []) a _ b _ first second;
     }
 of_ranks job (a ∷ b ∷ c ∷ rs) plain is h = cc
 
--- the job of a script that names no field has the defaults
+-- the job of a script that names no other field has the defaults
 plain_job : (script : Data) (job : Job) → has_plain_fields script ≡ true → formed_job script ≡ Ok job → IsPlainJob job
 plain_job script job names h =
     let (_, h) = passed (top_tested script) _ job h in
@@ -79,18 +77,20 @@ plain_job script job names h =
     let (ranks, _, h) = gave (programs_of values) _ job h in
     let (choices, _, h) = gave (choices_of 0 (length values) picks) _ job h in
     let is = given {E = BadScript} (record { limits = limits_of protocol pools; inbox = pools.inbox; clock = protocol.clock; ranks = ranks; choices = choices }) job h in
-    let said = plain script names in
-    let a = given {E = BadScript} protocol first_protocol (sym p ∙ said.protocol) in
-    let b = given {E = BadScript} pools first_pools (sym s ∙ said.pools) in
+    let fields = and_parts (has_plain_limits script && has_plain_counts script) (has_plain_pools (get (codes "pools") script)) names in
+    let counts = and_parts (has_plain_limits script) (has_plain_counts script) fields.0 in
+    let a = first.protocol script protocol counts.0 counts.1 p in
+    let b = first.pools (get (codes "pools") script) pools fields.1 s in
+    let limits : job.limits ≡ limits_of protocol pools = ap (λ (j : Job). j.limits) (sym is) in
+    let mtu : job.limits.mtu ≡ protocol.mtu = ap (λ (l : EpLimits). l.mtu) limits in
     record {
-      limits = ap (λ (j : Job). j.limits) (sym is) ∙ same_2 limits_of protocol _ pools _ a b;
-      inbox = ap (λ (j : Job). j.inbox) (sym is) ∙ ap (λ (s : PoolSizes). s.inbox) b;
+      limits = limits ∙ same_2 limits_of protocol _ pools _ a b ∙ ap first_limits (sym mtu);
       clock = ap (λ (j : Job). j.clock) (sym is) ∙ ap (λ (p : Protocol). p.clock) a;
     }
 
 of_formed : (script : Data) (job : Job) → formed_job script ≡ Ok job → is_built script job ≡ true → IsFirstPath job
 of_formed script job h built =
-    let a = and_parts (has_plain_fields script && has_plain_ranks script && has_plain_ops script) (ranks_fit job.ranks) built in
+    let a = and_parts (has_plain_fields script && has_plain_ranks script && has_plain_ops script) (ranks_fit (message_max job.limits.mtu) job.ranks) built in
     let b = and_parts (has_plain_fields script && has_plain_ranks script) (has_plain_ops script) a.0 in
     let c = and_parts (has_plain_fields script) (has_plain_ranks script) b.0 in
     of_ranks job job.ranks (plain_job script job c.0 h) refl a.1

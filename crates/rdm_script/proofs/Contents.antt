@@ -1,18 +1,16 @@
 -- The contents that are read are bytes, and no region is too long.
-use Rattle.std.proofs.Common.{◌≡◌, ◌≤◌, ◌<◌, ℕ, zero, suc, ◌+◌, ◌-◌, ◌*◌, ◌/◌, ◌%◌, Bool, true, false, ◌&&◌, List, [], ◌∷◌, length, replicate, codes, Result, Ok, Err, refl, ap, sym, ◌∙◌, arith, if◌then◌else◌}
+use Rattle.std.proofs.Common.{◌≡◌, ◌<◌, ℕ, zero, suc, ◌+◌, ◌*◌, ◌/◌, ◌%◌, Bool, true, false, ◌&&◌, List, [], ◌∷◌, length, replicate, codes, Result, Ok, refl, arith, if◌then◌else◌}
 use Rattle.std.specs.Prelude.{nat_lt, nat_le}
 use Rattle.std.proofs.lemmas.Bool.{and_from, and_parts, lt-ltb, leb-true}
 use Rattle.std.proofs.lemmas.List.{length-replicate}
 use Rattle.serde_json.specs.Data.{Data}
-use Rattle.rdm_model.specs.declared.job.Instr.{Instr}
-use Rattle.rdm_model.specs.declared.job.Instr.TheVariants.{Reg}
-use Rattle.rdm_model.specs.Jobs.{len_max, instr_fits}
+use Rattle.rdm_model.specs.Jobs.{len_max}
 use Rattle.rdm_script.specs.declared.refusal.Reason.{Reason}
 use Rattle.rdm_script.specs.declared.refusal.Reason.TheVariants.{Shape, Limit}
 use Rattle.rdm_script.specs.declared.value.Form.TheVariants.{RegText, RegHex, RegZero, RegFill}
-use Rattle.rdm_script.specs.Results.{◌>>=◌, ◌>>◌, tested}
+use Rattle.rdm_script.specs.Results.{tested}
 use Rattle.rdm_script.specs.Values.{are_bytes, text, number, array, number_of, keys_known}
-use Rattle.rdm_script.specs.Contents.{hex_value, hex_bytes, is_hex, fill_byte, fill_bytes, as_length, text_content, hex_content, zero_content, fill_of, fill_parts, fill_content, content_of}
+use Rattle.rdm_script.specs.Contents.{hex_value, hex_bytes, is_hex, fill_bytes, as_length, text_content, hex_content, zero_content, fill_of, fill_parts, fill_content, content_of}
 use Rattle.rdm_script.proofs.Chains.{gave, passed}
 use Rattle.rdm_script.proofs.Numbers.{text-fits, as_length-fits, as_length-same}
 use Rattle.rdm_script.proofs.Lengths.{length-hex_bytes, length-fill_bytes}

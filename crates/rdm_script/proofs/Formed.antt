@@ -1,31 +1,28 @@
 -- The job of a well formed script is fair.
-use Rattle.std.proofs.Common.{◌≡◌, ◌≤◌, ◌<◌, ℕ, suc, ◌+◌, Bool, true, List, [], ◌∷◌, length, codes, Option, Some, None, Result, Ok, Err, refl, ap, ◌∙◌, arith, if◌then◌else◌}
-use Rattle.std.specs.Prelude.{nat_le, nat_lt, ◌^◌, bytes_eq, IsTrue}
+use Rattle.std.proofs.Common.{◌≡◌, ◌≤◌, ℕ, suc, ◌+◌, true, List, [], ◌∷◌, length, codes, Option, Some, None, Result, Ok, refl, ap, arith}
+use Rattle.std.specs.Prelude.{nat_lt, ◌^◌}
 use Rattle.std.specs.List.{list_all}
 use Rattle.std.proofs.lemmas.Bool.{and_from, and_parts, leb-true, le-leb, lt-ltb}
 use Rattle.serde_json.specs.Data.{Data}
 use Rattle.serde_json.specs.Find.{get}
-use Rattle.rdm_model.specs.declared.job.Job.{Job}
 use Rattle.rdm_model.specs.declared.job.Rank.{Rank}
-use Rattle.rdm_model.specs.declared.job.Choice.{Choice}
-use Rattle.rdm_model.specs.declared.job.Choice.TheVariants as choice
-use Rattle.rdm_model.specs.Jobs.{is_within, is_u32, limits_fit, rank_fits, choice_rank, choices_fit, is_fair, law_ops}
+use Rattle.rdm_model.specs.Jobs.{is_within, is_u32, limits_fit, rank_fits, choices_fit, is_fair, law_ops}
 use Rattle.rdm_script.specs.declared.place.FieldName.{FieldName}
 use Rattle.rdm_script.specs.declared.place.FieldName.TheVariants as field
 use Rattle.rdm_script.specs.declared.place.Place.TheVariants as place
 use Rattle.rdm_script.specs.declared.refusal.BadScript.{BadScript}
 use Rattle.rdm_script.specs.declared.refusal.Reason.{Reason}
-use Rattle.rdm_script.specs.declared.refusal.Reason.TheVariants.{Shape, Limit, NoRank}
+use Rattle.rdm_script.specs.declared.refusal.Reason.TheVariants.{Shape, Limit}
 use Rattle.rdm_script.specs.declared.fields.Protocol.{Protocol}
 use Rattle.rdm_script.specs.declared.fields.PoolSizes.{PoolSizes}
-use Rattle.rdm_script.specs.Results.{◌>>=◌, ◌>>◌, tested, present, placed}
-use Rattle.rdm_script.specs.Values.{array_of, text_of, number_of, found_at}
-use Rattle.rdm_script.specs.Fields.{number_in, number_field, protocol_of, pools_known, pools_of, counted, ranks_field, choices_in, choices_field, top_tested}
-use Rattle.rdm_script.specs.Programs.{rank_of, ranks_of, is_too_big}
+use Rattle.rdm_script.specs.Results.{◌>>=◌, present, placed}
+use Rattle.rdm_script.specs.Values.{array_of, found_at}
+use Rattle.rdm_script.specs.Fields.{number_field, protocol_of, pools_known, pools_of, counted, ranks_field, choices_in, choices_field, top_tested}
+use Rattle.rdm_script.specs.Programs.{rank_of, ranks_of}
 use Rattle.rdm_script.specs.Choices.{choices_of}
-use Rattle.rdm_script.specs.Script.{limits_of, programs_of, formed_job}
+use Rattle.rdm_script.specs.Script.{limits_of, programs_of}
 use Rattle.rdm_script.specs.Laws.{FormedAreFair}
-use Rattle.rdm_script.proofs.Chains.{gave, passed, held, unplaced, tested_value, given}
+use Rattle.rdm_script.proofs.Chains.{gave, passed, unplaced, tested_value, given}
 use Rattle.rdm_script.proofs.Numbers.{number_in-fits}
 use Rattle.rdm_script.proofs.Lives.{rank_of-fits}
 use Rattle.rdm_script.proofs.Picks.{choices_of-fits}

@@ -1,18 +1,17 @@
 -- The instructions that are read fit, where the ports that they name are ranks.
-use Rattle.std.proofs.Common.{◌≡◌, ℕ, Bool, true, List, Option, Some, None, codes, Result, Ok, Err, refl}
+use Rattle.std.proofs.Common.{◌≡◌, ℕ, true, Option, Some, None, codes, Ok, refl}
 use Rattle.std.proofs.lemmas.Bool.{and_from}
 use Rattle.serde_json.specs.Data.{Data}
-use Rattle.rdm_num.specs.declared.numbers.PortNo.{PortNo}
 use Rattle.rdm_num.specs.declared.request.Want.{Want}
 use Rattle.rdm_model.specs.declared.answer.OpName.{OpName}
 use Rattle.rdm_model.specs.declared.answer.OpName.TheVariants as op
 use Rattle.rdm_model.specs.declared.job.Instr.{Instr}
 use Rattle.rdm_model.specs.declared.job.Instr.TheVariants as instr
-use Rattle.rdm_model.specs.Jobs.{is_u32, instr_fits, range_fits, option_fits, want_fits, is_rank_or_none, is_rank}
+use Rattle.rdm_model.specs.Jobs.{instr_fits, range_fits, option_fits, want_fits, is_rank_or_none}
 use Rattle.rdm_script.specs.declared.refusal.Reason.{Reason}
 use Rattle.rdm_script.specs.declared.refusal.Reason.TheVariants.{Shape}
 use Rattle.rdm_script.specs.declared.value.Form.TheVariants as form
-use Rattle.rdm_script.specs.Results.{◌>>=◌, ◌>>◌, present}
+use Rattle.rdm_script.specs.Results.{present}
 use Rattle.rdm_script.specs.Values.{known, number, optional, text}
 use Rattle.rdm_script.specs.Contents.{as_length, content_of}
 use Rattle.rdm_script.specs.Instructions.{as_u32, as_port, open_of, insert_of, reg_of, send_of, want_of, recv_of, cancel_of, note_of, await_of, wait_of, close_of, word_of, said, instr_of}

@@ -1,19 +1,16 @@
 -- The numbers and texts that are read are in their ranges.
-use Rattle.std.proofs.Common.{◌≡◌, ◌≤◌, ◌<◌, ℕ, zero, suc, ◌+◌, ◌*◌, ◌%◌, Bool, true, false, ◌&&◌, List, [], ◌∷◌, length, replicate, Option, Some, None, option_map, Result, Ok, Err, refl, arith, if◌then◌else◌}
-use Rattle.std.specs.Prelude.{nat_lt, nat_le, option_and_then}
-use Rattle.std.specs.List.{list_all}
-use Rattle.std.proofs.lemmas.Bool.{and_from, and_parts, lt-ltb, leb-true}
+use Rattle.std.proofs.Common.{◌≡◌, ℕ, true, List, Option, Some, None, Ok, refl}
+use Rattle.std.specs.Prelude.{nat_le, option_and_then}
 use Rattle.serde_json.specs.Data.{Data}
 use Rattle.serde_json.specs.Find.{get, as_number, as_u64, as_str}
 use Rattle.rdm_model.specs.Jobs.{is_u32, is_u64, is_within, len_max, option_fits}
-use Rattle.rdm_script.specs.declared.refusal.Reason.{Reason}
 use Rattle.rdm_script.specs.declared.refusal.Reason.TheVariants.{Shape, Limit}
-use Rattle.rdm_script.specs.Results.{◌>>=◌, ◌>>◌, tested, present}
+use Rattle.rdm_script.specs.Results.{tested, present}
 use Rattle.rdm_script.specs.Values.{number_of, text_of, are_bytes, value, number, text, optional, number_if_there, number_or}
 use Rattle.rdm_script.specs.Fields.{number_in}
 use Rattle.rdm_script.specs.Contents.{as_length}
 use Rattle.rdm_script.specs.Instructions.{as_u32}
-use Rattle.rdm_script.proofs.Chains.{gave, passed, held, tested_value}
+use Rattle.rdm_script.proofs.Chains.{gave, passed, tested_value}
 
 pub number_of-fits : (d : Data) (n : ℕ) → number_of d ≡ Ok n → is_u64 n ≡ true
 number_of-fits d n h =

@@ -1,12 +1,12 @@
 -- Programs that fit each other are those of one sender and one receiver.
-use Rattle.std.proofs.Common.{◌≡◌, ◌≤◌, ℕ, suc, ◌+◌, ◌-◌, Bool, true, ◌&&◌, List, [], ◌∷◌, ◌++◌, length, drop, replicate, Option, Some, None, refl, ap, sym, ◌∙◌, arith}
+use Rattle.std.proofs.Common.{◌≡◌, ℕ, suc, ◌+◌, ◌-◌, Bool, true, ◌&&◌, List, [], ◌∷◌, ◌++◌, length, drop, Option, Some, None, refl, ap, ◌∙◌, arith}
 use Rattle.std.specs.Prelude.{nat_le, is_some, slice_get}
 use Rattle.std.proofs.lemmas.Bool.{and_parts, leb-true, eqb-true}
 use Rattle.std.proofs.lemmas.List.Folds.{drop_split}
 use Rattle.rdm_num.specs.declared.numbers.Connid.{Connid}
 use Rattle.rdm_num.specs.declared.numbers.Life.{Life}
 use Rattle.rdm_model.specs.declared.job.Instr.{Instr}
-use Rattle.rdm_model.specs.declared.job.Instr.TheVariants.{OpenLife, Insert, Reg, Wait}
+use Rattle.rdm_model.specs.declared.job.Instr.TheVariants.{Reg, Wait}
 use Rattle.rdm_model.specs.Jobs.{is_within}
 use Rattle.rdm_script.specs.Built.{◌>>=◌, messages_max, at_place, opens, inserts, makes, waits, has_messages, messages, messages_fit, exchange_fits, is_peer, are_zeros, parts_fit, programs_fit}
 use Rattle.rdm_script.specs.FirstPath.{sending, receiving}
@@ -18,7 +18,7 @@ and_then None next y h = cc
 and_then (Some x) next y h = (x, refl, h)
 
 -- two programs that fit each other, by their parts
-pub record Path (a b : List Instr) : Type 0 where
+pub record Path (most : ℕ) (a b : List Instr) : Type 0 where
   pub sender : Connid
   pub receiver : Connid
   pub text : List ℕ
@@ -27,7 +27,7 @@ pub record Path (a b : List Instr) : Type 0 where
   pub receives : List Instr
   pub sent : ℕ
   pub received : ℕ
-  pub fit : messages_fit (length text) room sends receives ≡ true
+  pub fit : messages_fit most (length text) room sends receives ≡ true
   pub first_is : a ≡ sending sender (record { port = record { 0 = 1 }; connid = receiver }) text sends sent
   pub second_is : b ≡ receiving receiver room receives received
 
@@ -79,14 +79,14 @@ life_is life peer h =
     both make m m' n n' p q = cc
 
 -- the facts of programs that fit each other, one by one
-of_parts : (a b : List Instr) (connid peer : ℕ) (life : Life) (text room : List ℕ)
+of_parts : (most : ℕ) (a b : List Instr) (connid peer : ℕ) (life : Life) (text room : List ℕ)
     → at_place opens 0 a ≡ Some connid → at_place inserts 1 a ≡ Some life → at_place makes 2 a ≡ Some text
     → at_place opens 0 b ≡ Some peer → at_place makes 1 b ≡ Some room
-    → parts_fit life peer text room a b ≡ true → Path a b
-of_parts a b connid peer life text room opened inserted made peer_opened room_made all =
-    let p = and_parts (is_peer life peer && are_zeros room) (exchange_fits (length text) (length room) a b) all in
+    → parts_fit most life peer text room a b ≡ true → Path most a b
+of_parts most a b connid peer life text room opened inserted made peer_opened room_made all =
+    let p = and_parts (is_peer life peer && are_zeros room) (exchange_fits most (length text) (length room) a b) all in
     let q = and_parts (is_peer life peer) (are_zeros room) p.0 in
-    let r = and_parts (has_messages 3 a && has_messages 2 b) (messages_fit (length text) (length room) (messages 3 a) (messages 2 b)) p.1 in
+    let r = and_parts (has_messages 3 a && has_messages 2 b) (messages_fit most (length text) (length room) (messages 3 a) (messages 2 b)) p.1 in
     let s = and_parts (has_messages 3 a) (has_messages 2 b) r.0 in
     let (sent, a_ends) = ends 3 a s.0 in
     let (received, b_ends) = ends 2 b s.1 in
@@ -108,11 +108,11 @@ of_parts a b connid peer life text room opened inserted made peer_opened room_ma
 value_is : (x : Bool) → Some x ≡ Some true → x ≡ true
 value_is x h = cc
 
-pub programs_fit-is : (a b : List Instr) → programs_fit a b ≡ Some true → Path a b
-programs_fit-is a b h =
+pub programs_fit-is : (most : ℕ) (a b : List Instr) → programs_fit most a b ≡ Some true → Path most a b
+programs_fit-is most a b h =
     let (connid, opened, h) = and_then (at_place opens 0 a) _ true h in
     let (life, inserted, h) = and_then (at_place inserts 1 a) _ true h in
     let (text, made, h) = and_then (at_place makes 2 a) _ true h in
     let (peer, peer_opened, h) = and_then (at_place opens 0 b) _ true h in
     let (room, room_made, h) = and_then (at_place makes 1 b) _ true h in
-    of_parts a b connid peer life text room opened inserted made peer_opened room_made (value_is (parts_fit life peer text room a b) h)
+    of_parts most a b connid peer life text room opened inserted made peer_opened room_made (value_is (parts_fit most life peer text room a b) h)

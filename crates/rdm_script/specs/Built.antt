@@ -6,8 +6,6 @@ use Rattle.serde_json.specs.Find.{get, as_array}
 use Rattle.rdm_num.specs.Pieces.{overlaps}
 use Rattle.rdm_num.specs.declared.numbers.Life.{Life}
 use Rattle.rdm_num.specs.declared.request.Want.{Want}
-use Rattle.rdm_num.specs.declared.request.SendReq.{SendReq}
-use Rattle.rdm_num.specs.declared.request.RecvReq.{RecvReq}
 use Rattle.rdm_model.specs.declared.job.Job.{Job}
 use Rattle.rdm_model.specs.declared.job.Rank.{Rank}
 use Rattle.rdm_model.specs.declared.job.Instr.{Instr}
@@ -19,23 +17,27 @@ use Rattle.rdm_script.specs.Values.{list_of, found_at, found_in}
 abbrev pub messages_max : ℕ
 messages_max = 16
 
--- the most bytes of a send
-abbrev pub message_max : ℕ
-message_max = 8140
+-- the most bytes of a send: what has room in a packet beside a tag and a raw address
+abbrev pub message_max : (mtu : ℕ) → ℕ
+message_max mtu = mtu - 52
 
--- the script names no limit of an endpoint's messages
+-- the script names no limit of an endpoint's messages but the mtu
 abbrev pub has_plain_limits : Data → Bool
 has_plain_limits script =
-    is_none (get (codes "mtu") script) && is_none (get (codes "medium") script) && is_none (get (codes "read") script) && is_none (get (codes "runt") script)
+    is_none (get (codes "medium") script) && is_none (get (codes "read") script) && is_none (get (codes "runt") script)
 
 -- it names no other number
 abbrev pub has_plain_counts : Data → Bool
-has_plain_counts script =
-    is_none (get (codes "credits") script) && is_none (get (codes "first") script) && is_none (get (codes "clock") script) && is_none (get (codes "pools") script)
+has_plain_counts script = is_none (get (codes "credits") script) && is_none (get (codes "first") script) && is_none (get (codes "clock") script)
 
--- the outermost object has its version, its ranks and choices, and no other key
+-- the pools, if they are there, have no size but that of the inboxes
+abbrev pub has_plain_pools : Option Data → Bool
+has_plain_pools pools =
+    is_none (found_at (codes "tx") pools) && is_none (found_at (codes "rx") pools) && is_none (found_at (codes "early") pools) && is_none (found_at (codes "cq") pools)
+
+-- the outermost object has its version, its mtu, its pools of inboxes, its ranks and choices, and no other key
 abbrev pub has_plain_fields : Data → Bool
-has_plain_fields script = has_plain_limits script && has_plain_counts script
+has_plain_fields script = has_plain_limits script && has_plain_counts script && has_plain_pools (get (codes "pools") script)
 
 -- a rank of a script
 abbrev pub rank_value : ℕ → Data → Option Data
@@ -73,10 +75,10 @@ is_exact None = false
 is_exact (Some want) = want.ignore == 0
 
 -- a send of a part of the region to the second rank, with a tag and without data
-abbrev pub send_fits : (size : ℕ) → Instr → Bool
-send_fits size (Send req) =
-    (req.to.0 == 1) && (req.region.0 == 0) && lies_within size req.at req.len && nat_le req.len message_max && is_some req.tag && is_none req.cq_data
-send_fits size _ = false
+abbrev pub send_fits : (most size : ℕ) → Instr → Bool
+send_fits most size (Send req) =
+    (req.to.0 == 1) && (req.region.0 == 0) && lies_within size req.at req.len && nat_le req.len most && is_some req.tag && is_none req.cq_data
+send_fits most size _ = false
 
 -- a receive of the exact tag into a part of the region, from any source
 abbrev pub recv_fits : (size : ℕ) → Instr → Bool
@@ -142,14 +144,14 @@ are_apart [] = true
 are_apart (recv ∷ others) = not (list_any (meet recv) others) && are_apart others
 
 -- each send fits the text, each receive fits the room and is as long as each send, and the receives are apart
-abbrev pub messages_fit : (text room : ℕ) → (sends receives : List Instr) → Bool
-messages_fit text room sends receives =
-    list_all (send_fits text) sends && list_all (recv_fits room) receives && have_rooms sends receives && are_apart receives
+abbrev pub messages_fit : (most text room : ℕ) → (sends receives : List Instr) → Bool
+messages_fit most text room sends receives =
+    list_all (send_fits most text) sends && list_all (recv_fits room) receives && have_rooms sends receives && are_apart receives
 
 -- the programs have messages, which fit each other
-abbrev pub exchange_fits : (text room : ℕ) → (sending receiving : List Instr) → Bool
-exchange_fits text room sending receiving =
-    has_messages 3 sending && has_messages 2 receiving && messages_fit text room (messages 3 sending) (messages 2 receiving)
+abbrev pub exchange_fits : (most text room : ℕ) → (sending receiving : List Instr) → Bool
+exchange_fits most text room sending receiving =
+    has_messages 3 sending && has_messages 2 receiving && messages_fit most text room (messages 3 sending) (messages 2 receiving)
 
 -- the life of the second rank that opens this identifier
 abbrev pub is_peer : Life → (peer : ℕ) → Bool
@@ -160,24 +162,24 @@ abbrev pub are_zeros : List ℕ → Bool
 are_zeros bytes = list_all (λ b. b == 0) bytes
 
 -- the first program inserts the life that the second one opens, the second one's region is zeros, and their messages fit
-abbrev pub parts_fit : Life → (peer : ℕ) → (text room : List ℕ) → (sending receiving : List Instr) → Bool
-parts_fit life peer text room sending receiving = is_peer life peer && are_zeros room && exchange_fits (length text) (length room) sending receiving
+abbrev pub parts_fit : (most : ℕ) → Life → (peer : ℕ) → (text room : List ℕ) → (sending receiving : List Instr) → Bool
+parts_fit most life peer text room sending receiving = is_peer life peer && are_zeros room && exchange_fits most (length text) (length room) sending receiving
 
 -- the first program opens, inserts the life that the second one opens, makes a region and sends; the second one opens, makes a region of zeros and receives
-abbrev pub programs_fit : (sending receiving : List Instr) → Option Bool
-programs_fit sending receiving = do
+abbrev pub programs_fit : (most : ℕ) → (sending receiving : List Instr) → Option Bool
+programs_fit most sending receiving = do
   connid ← at_place opens 0 sending
   life ← at_place inserts 1 sending
   text ← at_place makes 2 sending
   peer ← at_place opens 0 receiving
   room ← at_place makes 1 receiving
-  Some (parts_fit life peer text room sending receiving)
+  Some (parts_fit most life peer text room sending receiving)
 
 -- two ranks with the default features, whose programs fit each other
-abbrev pub ranks_fit : List Rank → Bool
-ranks_fit (a ∷ b ∷ []) = (a.features == 25) && (b.features == 25) && unwrap_or (programs_fit a.ops b.ops) false
-ranks_fit _ = false
+abbrev pub ranks_fit : (most : ℕ) → List Rank → Bool
+ranks_fit most (a ∷ b ∷ []) = (a.features == 25) && (b.features == 25) && unwrap_or (programs_fit most a.ops b.ops) false
+ranks_fit most _ = false
 
 -- the script and its job are of the form that is built
 abbrev pub is_built : Data → Job → Bool
-is_built script job = has_plain_fields script && has_plain_ranks script && has_plain_ops script && ranks_fit job.ranks
+is_built script job = has_plain_fields script && has_plain_ranks script && has_plain_ops script && ranks_fit (message_max job.limits.mtu) job.ranks

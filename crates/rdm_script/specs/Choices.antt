@@ -1,5 +1,5 @@
 -- The choices.
-use Rattle.std.specs.Prelude.{ℕ, ◌+◌, bytes_eq, nat_lt, List, [], ◌∷◌, codes, if◌then◌else◌, Option, Some, None, Result, Ok, Err}
+use Rattle.std.specs.Prelude.{ℕ, ◌+◌, bytes_eq, nat_lt, List, [], ◌∷◌, codes, if◌then◌else◌, Result, Ok, Err}
 use Rattle.serde_json.specs.Data.{Data}
 use Rattle.rdm_model.specs.declared.job.Choice.{Choice}
 use Rattle.rdm_model.specs.declared.job.Choice.TheVariants as choice
@@ -7,7 +7,7 @@ use Rattle.rdm_script.specs.declared.place.Place.TheVariants as place
 use Rattle.rdm_script.specs.declared.refusal.BadScript.{BadScript}
 use Rattle.rdm_script.specs.declared.refusal.Reason.{Reason}
 use Rattle.rdm_script.specs.declared.refusal.Reason.TheVariants.{Shape, NoRank}
-use Rattle.rdm_script.specs.Results.{◌>>=◌, ◌>>◌, tested, present, placed}
+use Rattle.rdm_script.specs.Results.{◌>>=◌, ◌>>◌, tested, placed}
 use Rattle.rdm_script.specs.Values.{number_of, text_of, array_of}
 
 -- the rank is one of so many

@@ -1,13 +1,12 @@
 -- What a region is made with.
-use Rattle.std.specs.Prelude.{ℕ, zero, suc, ◌+◌, ◌-◌, ◌*◌, ◌/◌, ◌%◌, Bool, ◌&&◌, ◌||◌, ◌==◌, nat_le, nat_lt, List, [], ◌∷◌, length, replicate, codes, if◌then◌else◌, Option, Some, None, Result, Ok, Err}
+use Rattle.std.specs.Prelude.{ℕ, zero, suc, ◌+◌, ◌-◌, ◌*◌, ◌/◌, ◌%◌, Bool, ◌&&◌, ◌||◌, ◌==◌, nat_le, nat_lt, List, [], ◌∷◌, length, replicate, codes, if◌then◌else◌, Result, Ok, Err}
 use Rattle.std.specs.List.{list_all}
 use Rattle.serde_json.specs.Data.{Data}
-use Rattle.serde_json.specs.Find.{get}
 use Rattle.rdm_model.specs.Jobs.{len_max}
 use Rattle.rdm_script.specs.declared.refusal.Reason.{Reason}
 use Rattle.rdm_script.specs.declared.refusal.Reason.TheVariants.{Shape, Limit}
 use Rattle.rdm_script.specs.declared.value.Form.TheVariants.{RegText, RegHex, RegZero, RegFill}
-use Rattle.rdm_script.specs.Results.{◌>>=◌, ◌>>◌, tested, present}
+use Rattle.rdm_script.specs.Results.{◌>>=◌, ◌>>◌, tested}
 use Rattle.rdm_script.specs.Values.{keys_known, number_of, number, text, array}
 
 -- a hexadecimal digit, of either case

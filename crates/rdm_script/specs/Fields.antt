@@ -1,5 +1,5 @@
 -- The keys of the outermost object: its version, its numbers with their limits and defaults, its pools, and its two arrays.
-use Rattle.std.specs.Prelude.{ℕ, ⊤, ◌==◌, List, [], length, codes, Option, Some, None, Result, Ok, Err}
+use Rattle.std.specs.Prelude.{ℕ, ⊤, ◌==◌, List, [], length, codes, Option, Some, None, Result, Ok}
 use Rattle.serde_json.specs.Data.{Data}
 use Rattle.serde_json.specs.Find.{get}
 use Rattle.rdm_model.specs.Jobs.{is_within}

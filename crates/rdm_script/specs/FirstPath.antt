@@ -6,11 +6,11 @@ use Rattle.rdm_num.specs.declared.limits.EpLimits.{EpLimits}
 use Rattle.rdm_model.specs.declared.job.Job.{Job}
 use Rattle.rdm_model.specs.declared.job.Instr.{Instr}
 use Rattle.rdm_model.specs.declared.job.Instr.TheVariants.{OpenLife, Insert, Reg, Wait}
-use Rattle.rdm_script.specs.Built.{messages_fit}
+use Rattle.rdm_script.specs.Built.{message_max, messages_fit}
 
--- the limits of a script that names none
-abbrev pub first_limits : EpLimits
-first_limits = record { mtu = 8192; medium = 65536; read_limit = 1048576; runt = 0; credits = 32; first = 0; tx = 64; rx = 64; early = 64; cq = 128 }
+-- the limits of a script that names none but the mtu
+abbrev pub first_limits : (mtu : ℕ) → EpLimits
+first_limits mtu = record { mtu = mtu; medium = 65536; read_limit = 1048576; runt = 0; credits = 32; first = 0; tx = 64; rx = 64; early = 64; cq = 128 }
 
 -- the program of the sender: it opens a life, takes up that of the receiver, makes a region, sends and waits
 abbrev pub sending : Connid → (peer : Life) → (text : List ℕ) → (sends : List Instr) → (count : ℕ) → List Instr
@@ -30,9 +30,8 @@ pub record IsFirstPath (job : Job) : Type 0 where
   pub receives : List Instr
   pub sent : ℕ
   pub received : ℕ
-  pub fit : IsTrue (messages_fit (length text) room sends receives)
-  pub limits_are : job.limits ≡ first_limits
-  pub inbox_is : job.inbox ≡ 256
+  pub fit : IsTrue (messages_fit (message_max job.limits.mtu) (length text) room sends receives)
+  pub limits_are : job.limits ≡ first_limits job.limits.mtu
   pub clock_is : job.clock ≡ 0
   pub ranks_are : job.ranks
       ≡ record { features = 25; ops = sending sender (record { port = record { 0 = 1 }; connid = receiver }) text sends sent }

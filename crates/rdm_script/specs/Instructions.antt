@@ -1,5 +1,5 @@
 -- What each instruction object says.
-use Rattle.std.specs.Prelude.{ℕ, bytes_eq, nat_le, List, codes, if◌then◌else◌, Option, Some, None, Result, Ok, Err}
+use Rattle.std.specs.Prelude.{ℕ, bytes_eq, List, codes, if◌then◌else◌, Option, Some, None, Result, Ok, Err}
 use Rattle.serde_json.specs.Data.{Data}
 use Rattle.rdm_num.specs.declared.numbers.PortNo.{PortNo}
 use Rattle.rdm_num.specs.declared.request.Want.{Want}

@@ -1,5 +1,5 @@
 -- The programs of the ranks.
-use Rattle.std.specs.Prelude.{ℕ, ◌+◌, Bool, false, not, ◌||◌, ◌==◌, nat_le, nat_lt, ⊤, List, [], ◌∷◌, ◌++◌, length, sum_by, codes, Option, Some, None, Result, Ok, Err}
+use Rattle.std.specs.Prelude.{ℕ, ◌+◌, Bool, false, not, ◌||◌, ◌==◌, nat_le, nat_lt, ⊤, List, [], ◌∷◌, ◌++◌, length, sum_by, codes, Option, Some, None, Result, Ok}
 use Rattle.std.specs.List.{list_any}
 use Rattle.serde_json.specs.Data.{Data}
 use Rattle.serde_json.specs.Find.{get}
@@ -11,9 +11,9 @@ use Rattle.rdm_model.specs.Jobs.{is_rank_or_none, needs_life, is_open_after, ope
 use Rattle.rdm_script.specs.declared.place.Place.TheVariants as place
 use Rattle.rdm_script.specs.declared.refusal.BadScript.{BadScript}
 use Rattle.rdm_script.specs.declared.refusal.Reason.{Reason}
-use Rattle.rdm_script.specs.declared.refusal.Reason.TheVariants.{Shape, Limit, NoRank, NoLife, OpenTwice, RepeatConnid}
+use Rattle.rdm_script.specs.declared.refusal.Reason.TheVariants.{Limit, NoRank, NoLife, OpenTwice, RepeatConnid}
 use Rattle.rdm_script.specs.declared.value.Form.TheVariants as form
-use Rattle.rdm_script.specs.Results.{◌>>=◌, ◌>>◌, tested, present, placed}
+use Rattle.rdm_script.specs.Results.{◌>>=◌, ◌>>◌, tested, placed}
 use Rattle.rdm_script.specs.Values.{known, number_or, array}
 use Rattle.rdm_script.specs.Instructions.{instr_of}
 

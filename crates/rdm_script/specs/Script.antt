@@ -1,5 +1,5 @@
 -- The job that a script says, or what is wrong with it first.
-use Rattle.std.specs.Prelude.{ℕ, not, nat_le, List, [], length, codes, if◌then◌else◌, Option, Some, None, Result, Ok, Err}
+use Rattle.std.specs.Prelude.{ℕ, not, nat_le, List, length, codes, if◌then◌else◌, Option, Some, None, Result, Ok, Err}
 use Rattle.std.specs.Str.{is_utf8}
 use Rattle.serde_json.specs.Data.{Data}
 use Rattle.serde_json.specs.Find.{get}
@@ -7,7 +7,6 @@ use Rattle.serde_json.specs.Read.{read}
 use Rattle.rdm_num.specs.declared.limits.EpLimits.{EpLimits}
 use Rattle.rdm_model.specs.declared.job.Job.{Job}
 use Rattle.rdm_model.specs.declared.job.Rank.{Rank}
-use Rattle.rdm_model.specs.declared.job.Choice.{Choice}
 use Rattle.rdm_script.specs.declared.place.Place.TheVariants.{Whole}
 use Rattle.rdm_script.specs.declared.refusal.Reason.{Reason}
 use Rattle.rdm_script.specs.declared.refusal.Reason.TheVariants.{TooLong, NotJson, TooBig, Unbuilt}

@@ -3,7 +3,7 @@ ghost use Rattle.std.specs.Prelude.{◌≡◌, ◌≤◌, ◌<◌, ◌+◌, IsTr
 ghost use Rattle.std.specs.List.{list_all};
 ghost use Rattle.serde_json.specs.Find.{get};
 ghost use Rattle.serde_json.specs.View.{view};
-ghost use Rattle.rdm_script.specs.Built.{has_plain_limits, has_plain_counts, has_plain_fields, rank_value, instr_value, has_plain_ranks, elements, none_ignores, has_plain_ops, opens, inserts, makes, waits, has_messages, messages, messages_fit, exchange_fits, is_peer, are_zeros, parts_fit, programs_fit, ranks_fit, is_built};
+ghost use Rattle.rdm_script.specs.Built.{has_plain_limits, has_plain_counts, has_plain_pools, has_plain_fields, message_max, rank_value, instr_value, has_plain_ranks, elements, none_ignores, has_plain_ops, opens, inserts, makes, waits, has_messages, messages, messages_fit, exchange_fits, is_peer, are_zeros, parts_fit, programs_fit, ranks_fit, is_built};
 
 use crate::messages::messages_fit;
 use crate::value::{found_at, found_in};
@@ -14,6 +14,13 @@ use serde_json::Value;
 /// The most sends of the first rank, and the most receives of the second.
 const MESSAGES_MAX: usize = 16;
 
+/// The most bytes of a send: what has room in a packet beside a tag and a raw address.
+fn message_max(mtu: u32) -> u64
+    ensures { result ≡ message_max mtu }
+{
+    u64::from(mtu.saturating_sub(52))
+}
+
 /// The script and its job are of the form that is built.
 pub fn is_built(script: &Value, job: &Job) -> bool
     ensures { result ≡ is_built (view script.now) job.now }
@@ -21,15 +28,14 @@ pub fn is_built(script: &Value, job: &Job) -> bool
     has_plain_fields(script)
         && has_plain_ranks(script)
         && has_plain_ops(script)
-        && ranks_fit(job.ranks.as_slice())
+        && ranks_fit(job.ranks.as_slice(), message_max(job.limits.mtu))
 }
 
-/// The script names no limit of an endpoint's messages.
+/// The script names no limit of an endpoint's messages but the mtu.
 fn has_plain_limits(script: &Value) -> bool
     ensures { result ≡ has_plain_limits (view script.now) }
 {
-    script.get("mtu").is_none()
-        && script.get("medium").is_none()
+    script.get("medium").is_none()
         && script.get("read").is_none()
         && script.get("runt").is_none()
 }
@@ -41,14 +47,26 @@ fn has_plain_counts(script: &Value) -> bool
     script.get("credits").is_none()
         && script.get("first").is_none()
         && script.get("clock").is_none()
-        && script.get("pools").is_none()
 }
 
-/// The outermost object has its version, its ranks and choices, and no other key.
+/// The pools, if they are there, have no size but that of the inboxes.
+fn has_plain_pools(pools: Option<&Value>) -> bool
+    ensures { result ≡ has_plain_pools (option_map (λ v. view v.now) pools.entry) }
+{
+    found_at(pools, "tx").is_none()
+        && found_at(pools, "rx").is_none()
+        && found_at(pools, "early").is_none()
+        && found_at(pools, "cq").is_none()
+}
+
+/// The outermost object has its version, its mtu, its pools of inboxes, its ranks and choices, and no
+/// other key.
 fn has_plain_fields(script: &Value) -> bool
     ensures { result ≡ has_plain_fields (view script.now) }
 {
-    has_plain_limits(script) && has_plain_counts(script)
+    has_plain_limits(script)
+        && has_plain_counts(script)
+        && has_plain_pools(script.get("pools"))
 }
 
 /// A rank of a script.
@@ -116,14 +134,15 @@ fn has_plain_ops(script: &Value) -> bool
 }
 
 /// Two ranks with the default features, whose programs fit each other.
-fn ranks_fit(ranks: &[Rank]) -> bool
-    ensures { result ≡ ranks_fit ranks.now }
+fn ranks_fit(ranks: &[Rank], most: u64) -> bool
+    ensures { result ≡ ranks_fit most ranks.now }
 {
     match ranks {
         [sender, receiver] => {
             sender.features == 25
                 && receiver.features == 25
-                && programs_fit(sender.ops.as_slice(), receiver.ops.as_slice()).unwrap_or(false)
+                && programs_fit(sender.ops.as_slice(), receiver.ops.as_slice(), most)
+                    .unwrap_or(false)
         }
         _ => false,
     }
@@ -131,15 +150,15 @@ fn ranks_fit(ranks: &[Rank]) -> bool
 
 /// The first program opens, inserts the life that the second one opens, makes a region and sends;
 /// the second one opens, makes a region of zeros and receives.
-fn programs_fit(sending: &[Instr], receiving: &[Instr]) -> Option<bool>
-    ensures { result ≡ programs_fit sending.now receiving.now }
+fn programs_fit(sending: &[Instr], receiving: &[Instr], most: u64) -> Option<bool>
+    ensures { result ≡ programs_fit most sending.now receiving.now }
 {
     opens(sending.get(0)?)?;
     let life = inserts(sending.get(1)?)?;
     let text = makes(sending.get(2)?)?;
     let peer = opens(receiving.get(0)?)?;
     let room = makes(receiving.get(1)?)?;
-    Some(parts_fit(life, peer, text, room, sending, receiving))
+    Some(parts_fit(life, peer, text, room, sending, receiving, most))
 }
 
 /// The first program inserts the life that the second one opens, the second one's region is zeros,
@@ -151,12 +170,13 @@ fn parts_fit(
     room: &Bytes,
     sending: &[Instr],
     receiving: &[Instr],
+    most: u64,
 ) -> bool
-    ensures { result ≡ parts_fit life peer text.now room.now sending.now receiving.now }
+    ensures { result ≡ parts_fit most life peer text.now room.now sending.now receiving.now }
 {
     is_peer(life, peer)
         && are_zeros(room.as_slice())
-        && exchange_fits(text.len() as u64, room.len() as u64, sending, receiving)
+        && exchange_fits(text.len() as u64, room.len() as u64, sending, receiving, most)
 }
 
 /// The life of the second rank that opens this identifier.
@@ -173,12 +193,18 @@ fn are_zeros(bytes: &[u8]) -> bool
 }
 
 /// The programs have messages, which fit each other.
-fn exchange_fits(text: u64, room: u64, sending: &[Instr], receiving: &[Instr]) -> bool
-    ensures { result ≡ exchange_fits text room sending.now receiving.now }
+fn exchange_fits(
+    text: u64,
+    room: u64,
+    sending: &[Instr],
+    receiving: &[Instr],
+    most: u64,
+) -> bool
+    ensures { result ≡ exchange_fits most text room sending.now receiving.now }
 {
     has_messages(sending, 3)
         && has_messages(receiving, 2)
-        && messages_fit(text, room, messages(sending, 3), messages(receiving, 2))
+        && messages_fit(text, room, most, messages(sending, 3), messages(receiving, 2))
 }
 
 /// The messages of a program: all its instructions but the first ones and the last one.

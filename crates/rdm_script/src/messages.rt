@@ -7,24 +7,27 @@ ghost use Rattle.rdm_script.specs.Built.{lies_within, is_exact, send_fits, recv_
 use rdm_model::Instr;
 use rdm_num::Want;
 
-/// The most bytes of a send.
-const MESSAGE_MAX: u64 = 8_140;
-
 /// Each send fits the text, each receive fits the room and is as long as each send, and the receives
 /// are apart.
-pub fn messages_fit(text: u64, room: u64, sends: &[Instr], receives: &[Instr]) -> bool
-    ensures { result ≡ messages_fit text room sends.now receives.now }
+pub fn messages_fit(
+    text: u64,
+    room: u64,
+    most: u64,
+    sends: &[Instr],
+    receives: &[Instr],
+) -> bool
+    ensures { result ≡ messages_fit most text room sends.now receives.now }
 {
-    sends_fit(text, sends)
+    sends_fit(text, most, sends)
         && receives_fit(room, receives)
         && have_rooms(sends, receives)
         && are_apart(receives)
 }
 
-fn sends_fit(text: u64, sends: &[Instr]) -> bool
-    ensures { result ≡ list_all (send_fits text) sends.now }
+fn sends_fit(text: u64, most: u64, sends: &[Instr]) -> bool
+    ensures { result ≡ list_all (send_fits most text) sends.now }
 {
-    sends.iter().all(|send| send_fits(send, text))
+    sends.iter().all(|send| send_fits(send, text, most))
 }
 
 fn receives_fit(room: u64, receives: &[Instr]) -> bool
@@ -65,15 +68,15 @@ fn is_exact(want: Option<Want>) -> bool
 }
 
 /// A send of a part of the region to the second rank, with a tag and without data.
-fn send_fits(instr: &Instr, size: u64) -> bool
-    ensures { result ≡ send_fits size instr.now }
+fn send_fits(instr: &Instr, size: u64, most: u64) -> bool
+    ensures { result ≡ send_fits most size instr.now }
 {
     match instr {
         Instr::Send(req) => {
             req.to.0 == 1
                 && req.region.0 == 0
                 && lies_within(size, req.at, req.len)
-                && req.len <= MESSAGE_MAX
+                && req.len <= most
                 && req.tag.is_some()
                 && req.cq_data.is_none()
         }

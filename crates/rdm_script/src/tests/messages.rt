@@ -175,3 +175,43 @@ fn no_receive_ignores_bits(rt: HostRuntime) -> Result<(), Fail> {
     }
     Ok(())
 }
+
+/// A script of one message of that length, with more keys beside its version.
+fn with_fields(alloc: Global, fields: &str, len: u32) -> Result<String, AllocError> {
+    let script = of_messages(alloc, &[(0, len)], &[(0, 8_141)])?;
+    let keys = format!(in alloc; "{{\"version\":1,{fields}")?;
+    script.as_str().replace(alloc, r#"{"version":1"#, keys.as_str())
+}
+
+#[test]
+fn a_message_has_room_beside_its_headers(rt: HostRuntime) -> Result<(), Fail> {
+    let alloc = rt.alloc();
+    for (mtu, len, says) in [
+        (r#""mtu":256"#, 204, "built"),
+        (r#""mtu":256"#, 205, "Unbuilt at whole"),
+        (r#""mtu":8192"#, 8_140, "built"),
+        (r#""mtu":8191"#, 8_140, "Unbuilt at whole"),
+    ] {
+        let script = with_fields(alloc, mtu, len)?;
+        assert_eq!(rt; said(alloc, script.as_bytes())?.as_str(), says, "{mtu} {len}");
+    }
+    Ok(())
+}
+
+#[test]
+fn the_inboxes_may_have_a_size(rt: HostRuntime) -> Result<(), Fail> {
+    let alloc = rt.alloc();
+    for (pools, says) in [
+        (r#""pools":{}"#, "built"),
+        (r#""pools":{"inbox":1}"#, "built"),
+        (r#""pools":{"inbox":1,"tx":64}"#, "Unbuilt at whole"),
+        (r#""pools":{"rx":64}"#, "Unbuilt at whole"),
+        (r#""pools":{"early":64}"#, "Unbuilt at whole"),
+        (r#""pools":{"cq":128}"#, "Unbuilt at whole"),
+        (r#""credits":32"#, "Unbuilt at whole"),
+    ] {
+        let script = with_fields(alloc, pools, 5)?;
+        assert_eq!(rt; said(alloc, script.as_bytes())?.as_str(), says, "{pools}");
+    }
+    Ok(())
+}
