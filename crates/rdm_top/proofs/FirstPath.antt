@@ -16,7 +16,7 @@ use Rattle.rdm_model.specs.Jobs.{is_fair, law_ops}
 use Rattle.rdm_model.specs.Owns.{Own, own_of}
 use Rattle.rdm_model.specs.Worlds.{new_world}
 use Rattle.rdm_model.proofs.Members.{member-append_cases}
-use Rattle.rdm_law.proofs.Headers.{eager_room_is}
+use Rattle.rdm_law.proofs.Headers.{common_length, eager_room_is}
 use Rattle.rdm_law.proofs.PlainDeeds.{IsPlainOp, OpensNone}
 use Rattle.rdm_law.proofs.PlainPorts.{PlainRank}
 use Rattle.rdm_law.proofs.PlainWorlds.{PlainJob}
@@ -24,7 +24,7 @@ use Rattle.rdm_law.proofs.PlainJobs.{fits_one_packet, opens_and_then, at_port, t
 use Rattle.rdm_world.specs.Shows.{StaysBuilt}
 use Rattle.rdm_world.proofs.PlainStays.{plain_stays_built}
 use Rattle.rdm_script.specs.Built.{send_fits, recv_fits, messages_fit, message_max}
-use Rattle.rdm_script.specs.FirstPath.{IsFirstPath, first_limits, sending, receiving}
+use Rattle.rdm_script.specs.FirstPath.{IsFirstPath, sending, receiving}
 use Rattle.rdm_script.specs.Script.{job_in}
 use Rattle.rdm_script.proofs.Built.{built_are_first, built_are_fair}
 
@@ -32,33 +32,34 @@ use Rattle.rdm_script.proofs.Built.{built_are_first, built_are_fair}
 abbrev IsPlainNext : Own → (peer : Life) → Instr → Type 0
 IsPlainNext own peer instr = IsPlainOp own peer instr × OpensNone instr
 
--- beside a raw address and a tag a packet of the first limits has room for the longest send
-longest_room : eager_room true false true first_limits ≡ message_max
-longest_room = eager_room_is true false true first_limits
+-- beside a tag and a raw address a packet has room for the longest send
+longest_room : (limits : EpLimits) → eager_room true false true limits ≡ message_max limits.mtu
+unfolding common_length
+longest_room limits = eager_room_is true false true limits
 
 -- a send with a tag and without data has that room
-tagged_room : (limits : EpLimits) (tag cq_data : Option ℕ) (len : ℕ) → limits ≡ first_limits → is_some tag ≡ true → is_none cq_data ≡ true → nat_le len message_max ≡ true
+tagged_room : (limits : EpLimits) (tag cq_data : Option ℕ) (len : ℕ) → is_some tag ≡ true → is_none cq_data ≡ true → nat_le len (message_max limits.mtu) ≡ true
     → nat_le len (eager_room (is_some tag) (is_some cq_data) true limits) ≡ true
-tagged_room limits (Some tag) None len is tagged none short = rw (is, longest_room) short
-tagged_room limits None cq_data len is tagged none short = cc
-tagged_room limits (Some tag) (Some data') len is tagged none short = cc
+tagged_room limits (Some tag) None len tagged none short = rw (longest_room limits) short
+tagged_room limits None cq_data len tagged none short = cc
+tagged_room limits (Some tag) (Some data') len tagged none short = cc
 
 -- a send that fits is plain
-plain_send : (own : Own) (peer : Life) (size : ℕ) (instr : Instr) → own.limits ≡ first_limits → send_fits size instr ≡ true → IsPlainNext own peer instr
-plain_send own peer size (Send req) is h =
+plain_send : (own : Own) (peer : Life) (size : ℕ) (instr : Instr) → send_fits (message_max own.limits.mtu) size instr ≡ true → IsPlainNext own peer instr
+plain_send own peer size (Send req) h =
     let a = and_parts _ _ h in
     let b = and_parts _ _ a.0 in
     let c = and_parts _ _ b.0 in
-    (fits_one_packet own req (tagged_room own.limits req.tag req.cq_data req.len is b.1 a.1 c.1), tt)
-plain_send own peer size (OpenLife c) is h = cc
-plain_send own peer size (Insert life) is h = cc
-plain_send own peer size (Reg content) is h = cc
-plain_send own peer size (Recv req) is h = cc
-plain_send own peer size (Cancel recv) is h = cc
-plain_send own peer size (Note to what) is h = cc
-plain_send own peer size (Await from what) is h = cc
-plain_send own peer size (Wait count) is h = cc
-plain_send own peer size CloseLife is h = cc
+    (fits_one_packet own req (tagged_room own.limits req.tag req.cq_data req.len b.1 a.1 c.1), tt)
+plain_send own peer size (OpenLife c) h = cc
+plain_send own peer size (Insert life) h = cc
+plain_send own peer size (Reg content) h = cc
+plain_send own peer size (Recv req) h = cc
+plain_send own peer size (Cancel recv) h = cc
+plain_send own peer size (Note to what) h = cc
+plain_send own peer size (Await from what) h = cc
+plain_send own peer size (Wait count) h = cc
+plain_send own peer size CloseLife h = cc
 
 -- so is a receive that fits
 plain_receive : (own : Own) (peer : Life) (size : ℕ) (instr : Instr) → recv_fits size instr ≡ true → IsPlainNext own peer instr
@@ -89,14 +90,14 @@ with_wait own peer messages count instr h m =
     ]
 
 -- the program of the sender is plain
-sending_plain : (own : Own) (peer : Life) (connid : Connid) (text : List ℕ) (sends : List Instr) (count : ℕ) → own.life.connid ≡ connid → own.limits ≡ first_limits
-    → list_all (send_fits (length text)) sends ≡ true → PlainRank own peer (sending connid peer text sends count)
-sending_plain own peer connid text sends count mine limits fit =
+sending_plain : (own : Own) (peer : Life) (connid : Connid) (text : List ℕ) (sends : List Instr) (count : ℕ) → own.life.connid ≡ connid
+    → list_all (send_fits (message_max own.limits.mtu) (length text)) sends ≡ true → PlainRank own peer (sending connid peer text sends count)
+sending_plain own peer connid text sends count mine fit =
     opens_and_then own peer connid (Insert peer ∷ Reg text ∷ (sends ++ Wait count ∷ [])) mine (λ instr m. elim m [
       | inl a ↦ subst (IsPlainNext own peer) a (refl, tt)
       | inr k ↦ elim k [
         | inl a ↦ subst (IsPlainNext own peer) a (tt, tt)
-        | inr n ↦ with_wait own peer sends count instr (λ x k. plain_send own peer (length text) x limits (passes (send_fits (length text)) sends x fit k)) n
+        | inr n ↦ with_wait own peer sends count instr (λ x k. plain_send own peer (length text) x (passes (send_fits (message_max own.limits.mtu) (length text)) sends x fit k)) n
       ]
     ])
 
@@ -117,9 +118,9 @@ first_path_plain job h =
     let j = at_port 1 h.receiver in
     let a = and_parts _ _ h.fit in
     let b = and_parts _ _ a.0 in
-    let c = and_parts (list_all (send_fits (length h.text)) h.sends) (list_all (recv_fits h.room) h.receives) b.0 in
+    let c = and_parts (list_all (send_fits (message_max job.limits.mtu) (length h.text)) h.sends) (list_all (recv_fits h.room) h.receives) b.0 in
     two_ranks job h.sender h.receiver _ _ h.ranks_are
-    (sending_plain (own_of job i) j h.sender h.text h.sends h.sent refl h.limits_are c.0)
+    (sending_plain (own_of job i) j h.sender h.text h.sends h.sent refl c.0)
     (receiving_plain (own_of job j) i h.receiver h.room h.receives h.received refl c.1)
 
 -- the job of a script is fair

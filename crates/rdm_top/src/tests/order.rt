@@ -28,3 +28,28 @@ fn messages_enter_by_their_numbers(rt: HostRuntime) -> Result<(), Fail> {
     }
     Ok(())
 }
+
+#[test]
+fn an_inbox_of_one_refuses_the_second(rt: HostRuntime) -> Result<(), Fail> {
+    let alloc = rt.alloc();
+    let script = REORDERED.replace(
+        alloc,
+        r#"{"version":1,"#,
+        r#"{"version":1,"pools":{"inbox":1},"#,
+    )?;
+    let (status, out) = replayed(
+        alloc,
+        script.as_str(),
+        512,
+        Vec::new(alloc),
+        Vec::new(alloc),
+    )?;
+    assert_eq!(rt; status, Status::Done);
+    let report = str::from_utf8(out.given())?;
+    assert!(rt; has_line(report, "9 1 handle 0 1 took enters 0 1"), "{report}");
+    let polls = "poll recv 0 ok from 0.5 tag 7 data - length 2 6865";
+    assert!(rt; report.contains(polls), "{report}");
+    let polls = "poll recv 1 ok from 0.5 tag 7 data - length 3 6c6c6f";
+    assert!(rt; report.contains(polls), "{report}");
+    Ok(())
+}
