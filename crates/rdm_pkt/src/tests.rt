@@ -1,3 +1,5 @@
+mod table;
+
 use crate::{Kind, Packet, choose};
 use rdm_num::EpLimits;
 use std::alloc::Global;
