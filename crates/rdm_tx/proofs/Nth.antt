@@ -1,10 +1,10 @@
 -- The piece of a number, without the pieces before it.
-use Rattle.std.proofs.Common.{◌≡◌, ℕ, zero, suc, ◌+◌, ◌-◌, ◌*◌, ◌<◌, ◌≤◌, Bool, true, false, cond, List, [], ◌∷◌, ◌++◌, length, take, drop, Option, Some, None, refl, arith, inl, inr, sym, ◌∙◌, ap, subst}
+use Rattle.std.proofs.Common.{◌≡◌, ℕ, zero, suc, ◌+◌, ◌-◌, ◌*◌, ◌<◌, ◌≤◌, Bool, true, false, List, length, take, drop, Option, Some, None, refl, arith, inl, inr, sym, ◌∙◌, ap}
 use Rattle.std.specs.Prelude.{nat_le, nat_lt, ◌==◌, ◌||◌, slice_get, option_map}
 use Rattle.std.specs.Bool.{then_some}
 use Rattle.std.specs.List.{slice_range}
 use Rattle.std.proofs.Math.Nat.{suc-mul, mul-suc, zero-mul, add_comm}
-use Rattle.std.proofs.lemmas.Bool.{leb-false, leb-true, le-leb, lt-ltb, le-ltb, lt-leb, cases_lt}
+use Rattle.std.proofs.lemmas.Bool.{le-leb, lt-ltb, le-ltb, lt-leb, cases_lt}
 use Rattle.std.proofs.lemmas.Bool.Decides.{nat_tests}
 use Rattle.std.proofs.lemmas.List.{length-drop, take_all, drop-drop}
 use Rattle.rdm_hdr.proofs.Opts.{some-then}

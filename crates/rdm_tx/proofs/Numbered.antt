@@ -1,5 +1,5 @@
 -- The packet of a number among those that open a message, by the message's kind.
-use Rattle.std.proofs.Common.{◌≡◌, ℕ, zero, suc, ◌+◌, ◌-◌, ◌*◌, ◌<◌, ◌≤◌, if◌then◌else◌, List, [], ◌∷◌, length, take, map, Option, Some, None, refl, arith, sym, ap, ◌∙◌, subst}
+use Rattle.std.proofs.Common.{◌≡◌, ℕ, zero, suc, ◌+◌, ◌-◌, ◌*◌, ◌<◌, ◌≤◌, if◌then◌else◌, List, [], ◌∷◌, length, take, Option, Some, None, refl, arith, sym, ap}
 use Rattle.std.specs.Prelude.{is_some, slice_get, option_map}
 use Rattle.std.proofs.lemmas.Option.{slice_get-map, slice_get_past}
 use Rattle.rdm_num.specs.Pieces.{Piece, pieces}
@@ -20,27 +20,21 @@ alone : (p q : Packet) (n : ℕ) → n ≤ 0 → p ≡ q → Some p ≡ slice_ge
 alone p q zero h e = ap Some e
 alone p q (suc n) h e = absurd (omega arith)
 
--- a whole message
-pub eager_first : (limits : EpLimits) (m : Message) (n : ℕ) (bytes : List ℕ) → n ≤ 0 → bytes ≡ m.bytes
-    → Some (rtm m (F.Eager bytes)) ≡ slice_get (openings limits m Eager) n
-unfolding openings
-eager_first limits m n bytes h e = alone (rtm m (F.Eager bytes)) (rtm m (F.Eager m.bytes)) n h (rw e refl)
+-- the packet of a form that stands alone
+packet_alone : (m : Message) (form : Form) (n : ℕ) → option_map (rtm m) (slice_get (form ∷ []) n) ≡ slice_get (rtm m form ∷ []) n
+packet_alone m form zero = refl
+packet_alone m form (suc n) = refl
 
--- a whole message is one packet
-pub eager_alone : (limits : EpLimits) (m : Message) (n : ℕ) → 0 < n → None ≡ slice_get (openings limits m Eager) n
+-- a whole message opens by one packet
+pub eager_opens : (limits : EpLimits) (m : Message) (n : ℕ) → option_map (rtm m) (slice_get (F.Eager m.bytes ∷ []) n) ≡ slice_get (openings limits m Eager) n
 unfolding openings
-eager_alone limits m n h = sym (slice_get_past (rtm m (F.Eager m.bytes) ∷ []) n h)
+eager_opens limits m n = packet_alone m (F.Eager m.bytes) n
 
--- a read
-pub read_first : (limits : EpLimits) (m : Message) (n : ℕ) → n ≤ 0
-    → Some (rtm m (F.LongRead (length m.bytes) m.send m.iov)) ≡ slice_get (openings limits m LongRead) n
+-- a read opens by one packet
+pub read_opens : (limits : EpLimits) (m : Message) (n : ℕ)
+    → option_map (rtm m) (slice_get (F.LongRead (length m.bytes) m.send m.iov ∷ []) n) ≡ slice_get (openings limits m LongRead) n
 unfolding openings
-read_first limits m n h = alone (rtm m (F.LongRead (length m.bytes) m.send m.iov)) _ n h refl
-
--- a read is one packet
-pub read_alone : (limits : EpLimits) (m : Message) (n : ℕ) → 0 < n → None ≡ slice_get (openings limits m LongRead) n
-unfolding openings
-read_alone limits m n h = sym (slice_get_past (rtm m (F.LongRead (length m.bytes) m.send m.iov) ∷ []) n h)
+read_opens limits m n = packet_alone m (F.LongRead (length m.bytes) m.send m.iov) n
 
 -- ---- the room beside the headers
 

@@ -1,7 +1,8 @@
 //! A send's message, and the forms of the packets that open it.
-ghost use Rattle.std.specs.Prelude.{◌≡◌, ◌≤◌, ◌<◌, ◌+◌, ◌-◌, if◌then◌else◌, length, is_some, option_map, IfOk, slice_get};
+ghost use Rattle.std.specs.Prelude.{◌≡◌, ◌≤◌, ◌<◌, ◌+◌, ◌-◌, if◌then◌else◌, [], ◌∷◌, length, is_some, option_map, IfOk, slice_get};
 ghost use Rattle.rdm_hdr.specs.Headers as Headers;
 ghost use Rattle.rdm_pkt.specs.Openings.{rtm, openings};
+ghost use Rattle.rdm_pkt.specs.declared.Form.TheVariants as Forms;
 ghost use Rattle.rdm_pkt.specs.declared.Kind.TheVariants as Kinds;
 ghost use Rattle.rdm_tx.specs.Sends.{opened, packet_after};
 
@@ -34,6 +35,7 @@ const RANGE: usize = 24;
 
 impl Message {
     /// The form of the packet of that number, if there is one.
+    #[tactic(auto, using(crate::proofs::Numbered::eager_opens, crate::proofs::Numbered::read_opens))]
     pub fn form(
         &self,
         alloc: Global,
@@ -46,30 +48,14 @@ impl Message {
         ensures { IfOk result (λ form. option_map (rtm (opened self.now bytes.now)) form ≡ packet_after limits.now self.now bytes.now number) }
     {
         match self.kind {
-            Kind::Eager => self.eager(alloc, limits, bytes, number),
+            Kind::Eager => eager(alloc, bytes, number),
             Kind::Medium => self.segment(alloc, limits, bytes, number),
             Kind::LongCts => self.first_part(alloc, limits, bytes, number),
-            Kind::LongRead => self.read(limits, bytes, number),
+            Kind::LongRead => self.read(bytes, number),
             Kind::Runt { runt_length } => self.runt(alloc, limits, bytes, runt_length, number),
         }
     }
 
-    /// The whole message in one packet.
-    fn eager(
-        &self,
-        alloc: Global,
-        limits: &EpLimits,
-        bytes: &[u8],
-        number: usize,
-    ) -> Result<Option<Form>, NoMemory>
-        ensures { IfOk result (λ form. option_map (rtm (opened self.now bytes.now)) form ≡ slice_get (openings limits.now (opened self.now bytes.now) Kinds.Eager) number) }
-    {
-        if number > 0 {
-            return Ok(None);
-        }
-        let bytes = Bytes::from_slice(alloc, bytes)?;
-        Ok(Some(Form::Eager { bytes }))
-    }
     /// A segment as full as the limits allow.
     fn segment(
         &self,
@@ -117,8 +103,8 @@ impl Message {
     }
 
     /// The read list alone.
-    fn read(&self, limits: &EpLimits, bytes: &[u8], number: usize) -> Result<Option<Form>, NoMemory>
-        ensures { IfOk result (λ form. option_map (rtm (opened self.now bytes.now)) form ≡ slice_get (openings limits.now (opened self.now bytes.now) Kinds.LongRead) number) }
+    fn read(&self, bytes: &[u8], number: usize) -> Result<Option<Form>, NoMemory>
+        ensures { IfOk result (λ form. form ≡ slice_get (Forms.LongRead (length bytes.now) self.now.send_id self.now.iov ∷ []) number) }
     {
         if number > 0 {
             return Ok(None);
@@ -169,4 +155,15 @@ impl Message {
     {
         limits.mtu as usize - (header + size_if(self.tag.is_some(), 8) + opt_size(&self.opt))
     }
+}
+
+/// The whole message in one packet.
+fn eager(alloc: Global, bytes: &[u8], number: usize) -> Result<Option<Form>, NoMemory>
+    ensures { IfOk result (λ form. form ≡ slice_get (Forms.Eager bytes.now ∷ []) number) }
+{
+    if number > 0 {
+        return Ok(None);
+    }
+    let bytes = Bytes::from_slice(alloc, bytes)?;
+    Ok(Some(Form::Eager { bytes }))
 }
