@@ -40,8 +40,9 @@ impl Cursor {
         Cursor { given: 0 }
     }
 
-    /// The next packet, if one is left. It copies the bytes of that packet alone. After an error
-    /// the same packet is still the next one.
+    /// The next packet, if one is left. It copies the bytes of that packet alone. Where memory runs
+    /// out the same packet is still the next one. The mtu has room for the headers of each packet,
+    /// and a read list has up to four ranges.
     pub fn next(
         &mut self,
         alloc: Global,

@@ -36,7 +36,7 @@ const RANGE: usize = 24;
 impl Message {
     /// The form of the packet of that number, if there is one.
     #[tactic(auto, using(crate::proofs::Numbered::eager_opens, crate::proofs::Numbered::read_opens))]
-    pub fn form(
+    pub(crate) fn form(
         &self,
         alloc: Global,
         limits: &EpLimits,
