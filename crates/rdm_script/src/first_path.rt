@@ -35,9 +35,7 @@ pub fn is_built(script: &Value, job: &Job) -> bool
 fn has_plain_limits(script: &Value) -> bool
     ensures { result ≡ has_plain_limits (view script.now) }
 {
-    script.get("medium").is_none()
-        && script.get("read").is_none()
-        && script.get("runt").is_none()
+    script.get("medium").is_none() && script.get("read").is_none() && script.get("runt").is_none()
 }
 
 /// It names no other number.
@@ -64,9 +62,7 @@ fn has_plain_pools(pools: Option<&Value>) -> bool
 fn has_plain_fields(script: &Value) -> bool
     ensures { result ≡ has_plain_fields (view script.now) }
 {
-    has_plain_limits(script)
-        && has_plain_counts(script)
-        && has_plain_pools(script.get("pools"))
+    has_plain_limits(script) && has_plain_counts(script) && has_plain_pools(script.get("pools"))
 }
 
 /// A rank of a script.
@@ -141,8 +137,9 @@ fn ranks_fit(ranks: &[Rank], most: u64) -> bool
         [sender, receiver] => {
             sender.features == 25
                 && receiver.features == 25
-                && programs_fit(sender.ops.as_slice(), receiver.ops.as_slice(), most)
-                    .unwrap_or(false)
+                && programs_fit(sender.ops.as_slice(), receiver.ops.as_slice(), most).unwrap_or(
+                    false,
+                )
         }
         _ => false,
     }
@@ -176,7 +173,13 @@ fn parts_fit(
 {
     is_peer(life, peer)
         && are_zeros(room.as_slice())
-        && exchange_fits(text.len() as u64, room.len() as u64, sending, receiving, most)
+        && exchange_fits(
+            text.len() as u64,
+            room.len() as u64,
+            sending,
+            receiving,
+            most,
+        )
 }
 
 /// The life of the second rank that opens this identifier.
@@ -193,18 +196,18 @@ fn are_zeros(bytes: &[u8]) -> bool
 }
 
 /// The programs have messages, which fit each other.
-fn exchange_fits(
-    text: u64,
-    room: u64,
-    sending: &[Instr],
-    receiving: &[Instr],
-    most: u64,
-) -> bool
+fn exchange_fits(text: u64, room: u64, sending: &[Instr], receiving: &[Instr], most: u64) -> bool
     ensures { result ≡ exchange_fits most text room sending.now receiving.now }
 {
     has_messages(sending, 3)
         && has_messages(receiving, 2)
-        && messages_fit(text, room, most, messages(sending, 3), messages(receiving, 2))
+        && messages_fit(
+            text,
+            room,
+            most,
+            messages(sending, 3),
+            messages(receiving, 2),
+        )
 }
 
 /// The messages of a program: all its instructions but the first ones and the last one.

@@ -9,13 +9,7 @@ use rdm_num::Want;
 
 /// Each send fits the text, each receive fits the room and is as long as each send, and the receives
 /// are apart.
-pub fn messages_fit(
-    text: u64,
-    room: u64,
-    most: u64,
-    sends: &[Instr],
-    receives: &[Instr],
-) -> bool
+pub fn messages_fit(text: u64, room: u64, most: u64, sends: &[Instr], receives: &[Instr]) -> bool
     ensures { result ≡ messages_fit most text room sends.now receives.now }
 {
     sends_fit(text, most, sends)

@@ -180,7 +180,9 @@ fn no_receive_ignores_bits(rt: HostRuntime) -> Result<(), Fail> {
 fn with_fields(alloc: Global, fields: &str, len: u32) -> Result<String, AllocError> {
     let script = of_messages(alloc, &[(0, len)], &[(0, 8_141)])?;
     let keys = format!(in alloc; "{{\"version\":1,{fields}")?;
-    script.as_str().replace(alloc, r#"{"version":1"#, keys.as_str())
+    script
+        .as_str()
+        .replace(alloc, r#"{"version":1"#, keys.as_str())
 }
 
 #[test]
@@ -193,7 +195,11 @@ fn a_message_has_room_beside_its_headers(rt: HostRuntime) -> Result<(), Fail> {
         (r#""mtu":8191"#, 8_140, "Unbuilt at whole"),
     ] {
         let script = with_fields(alloc, mtu, len)?;
-        assert_eq!(rt; said(alloc, script.as_bytes())?.as_str(), says, "{mtu} {len}");
+        assert_eq!(rt;
+            said(alloc, script.as_bytes())?.as_str(),
+            says,
+            "{mtu} {len}"
+        );
     }
     Ok(())
 }

@@ -46,7 +46,10 @@ fn an_inbox_of_one_refuses_the_second(rt: HostRuntime) -> Result<(), Fail> {
     )?;
     assert_eq!(rt; status, Status::Done);
     let report = str::from_utf8(out.given())?;
-    assert!(rt; has_line(report, "9 1 handle 0 1 took enters 0 1"), "{report}");
+    assert!(rt;
+        has_line(report, "9 1 handle 0 1 took enters 0 1"),
+        "{report}"
+    );
     let polls = "poll recv 0 ok from 0.5 tag 7 data - length 2 6865";
     assert!(rt; report.contains(polls), "{report}");
     let polls = "poll recv 1 ok from 0.5 tag 7 data - length 3 6c6c6f";
