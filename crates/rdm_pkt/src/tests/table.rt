@@ -1,9 +1,11 @@
 //! Packets as they stand in bytes: each type at the edges of its row, and bytes that are just outside it.
+mod combinations;
 mod openings;
 mod others;
 mod reads;
 
 use crate::Packet;
+use combinations::COMBINATIONS;
 use openings::OPENINGS;
 use others::OTHERS;
 use reads::READS;
@@ -68,5 +70,6 @@ fn rows_are_read_and_written(rt: HostRuntime) -> Result<(), Fail> {
     read_rows(&rt, alloc, &OTHERS)?;
     read_rows(&rt, alloc, &OPENINGS)?;
     read_rows(&rt, alloc, &READS)?;
+    read_rows(&rt, alloc, &COMBINATIONS)?;
     Ok(())
 }
