@@ -65,11 +65,25 @@ fn read_rows(rt: &impl Abort, alloc: Global, rows: &[Row]) -> Result<(), AllocEr
 }
 
 #[test]
-fn rows_are_read_and_written(rt: HostRuntime) -> Result<(), Fail> {
-    let alloc = rt.alloc();
-    read_rows(&rt, alloc, &OTHERS)?;
-    read_rows(&rt, alloc, &OPENINGS)?;
-    read_rows(&rt, alloc, &READS)?;
-    read_rows(&rt, alloc, &COMBINATIONS)?;
+fn rows_of_grants_data_ends_and_handshakes(rt: HostRuntime) -> Result<(), Fail> {
+    read_rows(&rt, rt.alloc(), &OTHERS)?;
+    Ok(())
+}
+
+#[test]
+fn rows_of_openings(rt: HostRuntime) -> Result<(), Fail> {
+    read_rows(&rt, rt.alloc(), &OPENINGS)?;
+    Ok(())
+}
+
+#[test]
+fn rows_of_reads(rt: HostRuntime) -> Result<(), Fail> {
+    read_rows(&rt, rt.alloc(), &READS)?;
+    Ok(())
+}
+
+#[test]
+fn rows_of_combinations(rt: HostRuntime) -> Result<(), Fail> {
+    read_rows(&rt, rt.alloc(), &COMBINATIONS)?;
     Ok(())
 }
