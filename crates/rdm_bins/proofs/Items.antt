@@ -1,94 +1,140 @@
--- The items of a shelf, by their numbers.
-use Rattle.std.proofs.Common.{◌≡◌, refl, sym, ap, subst, ◌∙◌, ℕ, ◌<◌, Bool, true, false, List, [], ◌∷◌, ◌++◌, Option, Some, None, arith}
-use Rattle.std.specs.Prelude.{cond, nat_eq, T, is_some, filter}
+-- The items of a shelf, by their places.
+use Rattle.std.proofs.Common.{◌≡◌, refl, sym, ap, subst, ◌∙◌, ℕ, zero, suc, ◌+◌, ◌<◌, ◌≤◌, Bool, true, false, List, [], ◌∷◌, ◌++◌, Option, Some, None, length, get_or, arith}
+use Rattle.std.specs.Prelude.{cond, nat_eq, T, is_some, option_map}
 use Rattle.std.specs.List.{AllByRecursion}
+use Rattle.std.proofs.Math.ListN.{set}
 use Rattle.std.specs.List.Sorted.{IsStrictlySortedBy}
-use Rattle.std.specs.Ordering.{nat_cmp, match_ordering}
-use Rattle.std.specs.declared.cmp.Ordering.TheVariants.{Less, Equal, Greater}
-use Rattle.std.specs.Cmp.{unsigned_tied, nat_cmp_total, eq_by_cmp_equiv}
-use Rattle.std.specs.Map.{keys_of, values_of}
-use Rattle.std.specs.BTreeMap.{is_at, insert_entry}
-use Rattle.std.proofs.lemmas.Map.Entries.{option_filter, lookup-filter-values}
-use Rattle.std.proofs.lemmas.Map.Keys.{IsDistinct-from_sorted}
-use Rattle.std.proofs.lemmas.Cmp.{ranked}
-use Rattle.rdm_bins.specs.Shelf.{item_at, AreBelow}
-use Rattle.rdm_bins.proofs.Places.{by_test, same_number}
+use Rattle.std.specs.Ordering.{nat_cmp}
+use Rattle.std.specs.declared.cmp.Ordering.TheVariants.{Less}
+use Rattle.std.specs.Cmp.{unsigned_tied, nat_cmp_is}
+use Rattle.std.specs.Map.{keys_of, values_of, remove_entry}
+use Rattle.std.specs.BTreeMap.{is_at}
+use Rattle.rdm_bins.specs.Shelf.{item_at, without_at, entries_from, first_passing}
+use Rattle.rdm_bins.proofs.Places.{not_both_ways, itself, apart, apart_turned, both_suc}
 
 -- nothing is both there and not
 pub not_both : {A P : Type 0} (o : Option A) (x : A) → o ≡ None → o ≡ Some x → P
 not_both o x none there = absurd (subst (λ p. T (is_some p)) (sym there ∙ none) tt)
 
 module _ {X : Type 0} where
-  -- the first entry's number finds its item
-  pub head_at : (e : ℕ × X) (es : List (ℕ × X)) → item_at (e ∷ es) e.0 ≡ Some e.1
-  head_at e es = ap (λ t. cond t (Some e.1) (item_at es e.0)) ((eq_by_cmp_equiv nat_cmp_total).refl e.0)
+  all_above : (m n : ℕ) (items : List (Option X)) → m < n → AllByRecursion (λ y. nat_cmp m y ≡ Less) (keys_of (entries_from n items))
+  all_above m n [] less = tt
+  all_above m n (None ∷ items) less = all_above m (suc n) items (omega arith)
+  all_above m n (Some x ∷ items) less = (sym (nat_cmp_is m n Less less), all_above m (suc n) items (omega arith))
 
-  -- where no item stands from a number on, the first one stands below it
-  head_below : (e : ℕ × X) (es : List (ℕ × X)) (next : ℕ) → AreBelow next (e ∷ es) → nat_cmp next e.0 ≡ Greater
-  head_below e es next below =
-      elim (nat_cmp next e.0) as (λ r. nat_cmp next e.0 ≡ r → r ≡ Greater) [
-        | Less ↦ λ h. not_both (item_at (e ∷ es) e.0) e.1 (below e.0 (omega (arith, ranked next e.0 Less (sym h)))) (head_at e es)
-        | Equal ↦ λ h. not_both (item_at (e ∷ es) e.0) e.1 (below e.0 (omega (arith, ranked next e.0 Equal (sym h)))) (head_at e es)
-        | Greater ↦ λ h. refl
-      ] refl
-
-  without_head : (t : Bool) (x : X) (rest : Option X) → cond t (Some x) rest ≡ None → rest ≡ None
-  without_head true x rest h = not_both (Some x) x h refl
-  without_head false x rest h = h
-
-  -- and so do the others
-  tail_below : (e : ℕ × X) (es : List (ℕ × X)) (next : ℕ) → AreBelow next (e ∷ es) → AreBelow next es
-  tail_below e es next below order h = without_head (is_at (nat_cmp order) e.0) e.1 (item_at es order) (below order h)
-
-  -- a new last number stands last
-  pub insert_last : (es : List (ℕ × X)) (next : ℕ) (x : X) → AreBelow next es → insert_entry nat_cmp es next x ≡ es ++ (next, x) ∷ []
-  insert_last [] next x below = refl
-  insert_last (e ∷ es) next x below =
-      ap (λ r. match_ordering r ((next, x) ∷ e ∷ es) ((e.0, x) ∷ es) (e ∷ insert_entry nat_cmp es next x)) (head_below e es next below)
-      ∙ ap (λ l. e ∷ l) (insert_last es next x (tail_below e es next below))
+  -- the places rise
+  pub places_rise : (n : ℕ) (items : List (Option X)) → IsStrictlySortedBy nat_cmp (keys_of (entries_from n items))
+  unfolding IsStrictlySortedBy
+  places_rise n [] = tt
+  places_rise n (None ∷ items) = places_rise (suc n) items
+  places_rise n (Some x ∷ items) = (all_above n (suc n) items (omega arith), places_rise (suc n) items)
 
   -- the last value is the new one
-  pub values_last : (es : List (ℕ × X)) (next : ℕ) (x : X) → values_of (es ++ (next, x) ∷ []) ≡ values_of es ++ x ∷ []
-  values_last [] next x = refl
-  values_last (e ∷ es) next x = ap (λ l. e.1 ∷ l) (values_last es next x)
+  pub values_last : (n : ℕ) (items : List (Option X)) (x : X) → values_of (entries_from n (items ++ Some x ∷ [])) ≡ values_of (entries_from n items) ++ x ∷ []
+  values_last n [] x = refl
+  values_last n (None ∷ items) x = values_last (suc n) items x
+  values_last n (Some y ∷ items) x = ap (λ l. y ∷ l) (values_last (suc n) items x)
 
-  -- after a push
-  pub below_after_push : (es fs : List (ℕ × X)) (next after : ℕ) (x : X) → AreBelow next es → next < after → ((q : ℕ) → item_at fs q ≡ cond (is_at (nat_cmp next) q) (Some x) (item_at es q)) → AreBelow after fs
-  below_after_push es fs next after x below less items order h =
-      by_test (nat_eq next order)
-      (λ e. let same = same_number next order e in absurd (omega arith))
-      (λ e. items order ∙ ap (λ t. cond t (Some x) (item_at es order)) (unsigned_tied next order ∙ e) ∙ below order (omega arith))
+  none_removed : (m n : ℕ) (items : List (Option X)) → m < n → entries_from n items ≡ remove_entry (is_at (nat_cmp m)) (entries_from n items)
+  none_removed m n [] less = refl
+  none_removed m n (None ∷ items) less = none_removed m (suc n) items (omega arith)
+  none_removed m n (Some x ∷ items) less =
+      ap (λ l. (n, x) ∷ l) (none_removed m (suc n) items (omega arith))
+      ∙ sym (ap (λ t. cond t (entries_from (suc n) items) ((n, x) ∷ remove_entry (is_at (nat_cmp m)) (entries_from (suc n) items))) (unsigned_tied m n ∙ apart m n less))
 
-  taken_out : (t : Bool) (o : Option X) → o ≡ None → cond t None o ≡ None
-  taken_out true o h = refl
-  taken_out false o h = h
+  -- the entries without the one of a place
+  pub entries_without : (n k m : ℕ) (items : List (Option X)) → m ≡ n + k → entries_from n (without_at items k) ≡ remove_entry (is_at (nat_cmp m)) (entries_from n items)
+  entries_without n k m [] is = refl
+  entries_without n zero m (None ∷ items) is = none_removed m (suc n) items (omega arith)
+  entries_without n zero m (Some x ∷ items) is =
+      let same : n ≡ m = omega arith in
+      sym (ap (λ t. cond t (entries_from (suc n) items) ((n, x) ∷ remove_entry (is_at (nat_cmp m)) (entries_from (suc n) items))) (unsigned_tied m n ∙ subst (λ p. nat_eq m p ≡ true) (sym same) (itself m)))
+  entries_without n (suc k) m (None ∷ items) is = entries_without (suc n) k m items (omega arith)
+  entries_without n (suc k) m (Some x ∷ items) is =
+      ap (λ l. (n, x) ∷ l) (entries_without (suc n) k m items (omega arith))
+      ∙ sym (ap (λ t. cond t (entries_from (suc n) items) ((n, x) ∷ remove_entry (is_at (nat_cmp m)) (entries_from (suc n) items))) (unsigned_tied m n ∙ apart_turned m n (omega arith)))
 
-  -- after a removal
-  pub below_after_remove : (es fs : List (ℕ × X)) (next gone : ℕ) → AreBelow next es → ((q : ℕ) → item_at fs q ≡ cond (is_at (nat_cmp gone) q) None (item_at es q)) → AreBelow next fs
-  below_after_remove es fs next gone below items order h = items order ∙ taken_out (is_at (nat_cmp gone) order) (item_at es order) (below order h)
+  -- the items are as many without one
+  pub length_without : (items : List (Option X)) (k : ℕ) → length (without_at items k) ≡ length items
+  length_without [] k = refl
+  length_without (o ∷ items) zero = refl
+  length_without (o ∷ items) (suc k) = ap suc (length_without items k)
 
-  -- after items were dropped
-  pub below_after_drop : (es fs : List (ℕ × X)) (next : ℕ) (keep : X → Bool) → AreBelow next es → ((q : ℕ) → item_at fs q ≡ option_filter keep (item_at es q)) → AreBelow next fs
-  below_after_drop es fs next keep below items order h = items order ∙ ap (option_filter keep) (below order h)
+  -- the place that was emptied
+  pub emptied : (items : List (Option X)) (k : ℕ) → item_at (without_at items k) k ≡ None
+  emptied [] k = refl
+  emptied (o ∷ items) zero = refl
+  emptied (o ∷ items) (suc k) = emptied items k
 
-  -- what a filter by the items leaves under a number
-  pub item_at-filter : (keep : X → Bool) (es : List (ℕ × X)) (q : ℕ) → IsStrictlySortedBy nat_cmp (keys_of es) → item_at (filter (λ e. keep e.1) es) q ≡ option_filter keep (item_at es q)
-  item_at-filter keep es q rising = lookup-filter-values (eq_by_cmp_equiv nat_cmp_total) keep q es (IsDistinct-from_sorted nat_cmp (keys_of es) rising)
+  -- the other places stay
+  pub others_stay : (items : List (Option X)) (k n : ℕ) → nat_eq k n ≡ false → item_at (without_at items k) n ≡ item_at items n
+  others_stay [] k n other = refl
+  others_stay (o ∷ items) zero zero other = not_both_ways (nat_eq 0 0) (itself 0) other
+  others_stay (o ∷ items) zero (suc n) other = refl
+  others_stay (o ∷ items) (suc k) zero other = refl
+  others_stay (o ∷ items) (suc k) (suc n) other = others_stay items k n (sym (both_suc k n) ∙ other)
 
-  all_kept : (P : ℕ → Type 0) (keep : X → Bool) (es : List (ℕ × X)) → AllByRecursion P (keys_of es) → AllByRecursion P (keys_of (filter (λ e. keep e.1) es))
-  all_kept P keep [] all = tt
-  all_kept P keep (e ∷ es) all =
-      elim (keep e.1) as (λ b. AllByRecursion P (keys_of (cond b (e ∷ filter (λ e. keep e.1) es) (filter (λ e. keep e.1) es)))) [
-        | true ↦ (all.0, all_kept P keep es all.1)
-        | false ↦ all_kept P keep es all.1
-      ]
+  -- a new last place changes no other one
+  pub item_front : (items : List (Option X)) (o : Option X) (k : ℕ) → k < length items → item_at (items ++ o ∷ []) k ≡ item_at items k
+  item_front [] o k h = absurd (omega arith)
+  item_front (p ∷ items) o zero h = refl
+  item_front (p ∷ items) o (suc k) h = item_front items o k (omega arith)
 
-  -- a filter leaves the numbers rising
-  pub rising_kept : (keep : X → Bool) (es : List (ℕ × X)) → IsStrictlySortedBy nat_cmp (keys_of es) → IsStrictlySortedBy nat_cmp (keys_of (filter (λ e. keep e.1) es))
-  unfolding IsStrictlySortedBy
-  rising_kept keep [] rising = tt
-  rising_kept keep (e ∷ es) rising =
-      elim (keep e.1) as (λ b. IsStrictlySortedBy nat_cmp (keys_of (cond b (e ∷ filter (λ e. keep e.1) es) (filter (λ e. keep e.1) es)))) [
-        | true ↦ (all_kept (λ y. nat_cmp e.0 y ≡ Less) keep es rising.0, rising_kept keep es rising.1)
-        | false ↦ rising_kept keep es rising.1
-      ]
+  -- the new last place
+  pub item_last : (items : List (Option X)) (o : Option X) → item_at (items ++ o ∷ []) (length items) ≡ o
+  item_last [] o = refl
+  item_last (p ∷ items) o = item_last items o
+
+  -- past the places there is nothing
+  pub item_past : (items : List (Option X)) (k : ℕ) → length items ≤ k → item_at items k ≡ None
+  item_past [] k h = refl
+  item_past (p ∷ items) zero h = absurd (omega arith)
+  item_past (p ∷ items) (suc k) h = item_past items k (omega arith)
+
+  -- the place holds an item that passes
+  abbrev pub passes : (X → Bool) → Option X → Bool
+  passes p None = false
+  passes p (Some x) = p x
+
+  -- where no place holds one that passes, none is found
+  pub none_found : (n : ℕ) (p : X → Bool) (items : List (Option X)) → ((k : ℕ) → passes p (item_at items k) ≡ false) → first_passing p (entries_from n items) ≡ None
+  none_found n p [] none = refl
+  none_found n p (None ∷ items) none = none_found (suc n) p items (λ k. none (suc k))
+  none_found n p (Some x ∷ items) none = ap (λ t. cond t (Some (n, x)) (first_passing p (entries_from (suc n) items))) (none 0) ∙ none_found (suc n) p items (λ k. none (suc k))
+
+  -- the first place that holds one that passes is found
+  pub one_found : (n k m : ℕ) (p : X → Bool) (x : X) (items : List (Option X)) → m ≡ n + k → item_at items k ≡ Some x → p x ≡ true → ((j : ℕ) → j < k → passes p (item_at items j) ≡ false) → first_passing p (entries_from n items) ≡ Some (m, x)
+  one_found n k m p x [] is there passed before = not_both None x refl there
+  one_found n zero m p x (None ∷ items) is there passed before = not_both None x refl there
+  one_found n (suc k) m p x (None ∷ items) is there passed before = one_found (suc n) k m p x items (omega arith) there passed (λ j h. before (suc j) (omega arith))
+  one_found n zero m p x (Some y ∷ items) is there passed before =
+      let same : n ≡ m = omega arith in
+      ap (λ t. cond t (Some (n, y)) (first_passing p (entries_from (suc n) items))) (ap (passes p) there ∙ passed)
+      ∙ (λ i. option_map (λ z. (same i, z)) (there i))
+  one_found n (suc k) m p x (Some y ∷ items) is there passed before =
+      ap (λ t. cond t (Some (n, y)) (first_passing p (entries_from (suc n) items))) (before 0 (omega arith))
+      ∙ one_found (suc n) k m p x items (omega arith) there passed (λ j h. before (suc j) (omega arith))
+
+  -- what a read of a place gives
+  pub item_read : (items : List (Option X)) (k : ℕ) (o : Option X) → k < length items → o ≡ get_or items k o → item_at items k ≡ o
+  item_read [] k o h is = absurd (omega arith)
+  item_read (p ∷ items) zero o h is = sym is
+  item_read (p ∷ items) (suc k) o h is = item_read items k o (omega arith) is
+
+  -- a write of none to a place
+  pub set_without : (items : List (Option X)) (k : ℕ) → set items k None ≡ without_at items k
+  set_without [] k = refl
+  set_without (o ∷ items) zero = refl
+  set_without (o ∷ items) (suc k) = ap (λ l. o ∷ l) (set_without items k)
+
+  -- past the places nothing is taken out
+  pub without_past : (items : List (Option X)) (k : ℕ) → length items ≤ k → items ≡ without_at items k
+  without_past [] k h = refl
+  without_past (o ∷ items) zero h = absurd (omega arith)
+  without_past (o ∷ items) (suc k) h = ap (λ l. o ∷ l) (without_past items k (omega arith))
+
+  -- where a place is empty nothing is taken out
+  pub without_none : (items : List (Option X)) (k : ℕ) → item_at items k ≡ None → items ≡ without_at items k
+  without_none [] k none = refl
+  without_none (o ∷ items) zero none = ap (λ p. p ∷ items) none
+  without_none (o ∷ items) (suc k) none = ap (λ l. o ∷ l) (without_none items k none)

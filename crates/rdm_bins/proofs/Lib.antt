@@ -1,7 +1,12 @@
 mod Places
+mod Neighbours
+mod Links
+mod Changes
 mod Items
-mod Index
-mod Listed
+mod Kept
+mod Along
+mod Linked
+mod Unlinked
 mod Taken
 mod Candidates
 pub mod Cancelled

@@ -1,56 +1,64 @@
--- The order of an index: by bin, then by number.
-use Rattle.std.proofs.Common.{◌≡◌, refl, sym, ap, subst, ◌∙◌, ℕ, Bool, true, false, Option, Some, None}
-use Rattle.std.specs.Prelude.{◌&&◌, nat_eq, T}
-use Rattle.std.specs.Option.{option_cmp, option_eq}
-use Rattle.std.specs.Ordering.{nat_cmp, is_eq}
-use Rattle.std.specs.Cmp.{IsTotalOrder, nat_cmp_total, nat_eq_equiv, on_total, then_total, tied_then, unsigned_tied, Equal-is}
-use Rattle.std.specs.Cmp.Lexicographic.{options_total}
-use Rattle.std.specs.BTreeMap.{is_at}
-use Rattle.std.proofs.lemmas.Map.Lookups.{CmpEqualImpliesEq, exact_pairs, exact_unsigned}
-use Rattle.rdm_bins.specs.Shelf.{place_order}
+-- Places by their order, and bins by whether they are the same.
+use Rattle.std.proofs.Common.{◌≡◌, refl, sym, ap, subst, ◌∙◌, ℕ, zero, suc, ◌<◌, ◌≤◌, Bool, true, false, Option, Some, None, arith}
+use Rattle.std.specs.Prelude.{nat_eq, T}
+use Rattle.std.specs.Option.{option_eq}
+use Rattle.std.specs.Ordering.{nat_cmp}
+use Rattle.std.specs.Cmp.{nat_eq_equiv, unsigned_tied, Equal-is}
+use Rattle.std.proofs.lemmas.Map.Lookups.{exact_unsigned}
 
 -- by a test
 pub by_test : {P : Type 0} (b : Bool) → (b ≡ true → P) → (b ≡ false → P) → P
 by_test true on_true on_false = on_true refl
 by_test false on_true on_false = on_false refl
 
+-- nothing is both so and not
+pub not_both_ways : {P : Type 0} (b : Bool) → b ≡ true → b ≡ false → P
+not_both_ways b so not = absurd (subst T (sym so ∙ not) tt)
+
+-- by the order of two numbers
+pub by_order : {P : Type 0} (m n : ℕ) → (m < n → P) → (n ≤ m → P) → P
+by_order zero zero below above = above (omega arith)
+by_order zero (suc n) below above = below (omega arith)
+by_order (suc m) zero below above = above (omega arith)
+by_order (suc m) (suc n) below above = by_order m n (λ h. below (omega arith)) (λ h. above (omega arith))
+
 -- numbers that are tested equal are the same
 pub same_number : (a b : ℕ) → nat_eq a b ≡ true → a ≡ b
 same_number a b h = exact_unsigned a b ((Equal-is (nat_cmp a b)).0 (unsigned_tied a b ∙ h))
 
--- keys are ordered in full
-pub place_total : IsTotalOrder place_order
-place_total = then_total (on_total (λ k. k.0) (options_total nat_cmp_total)) (on_total (λ k. k.1) nat_cmp_total)
+-- a number is tested equal to itself
+pub itself : (a : ℕ) → nat_eq a a ≡ true
+itself a = nat_eq_equiv.refl a
 
--- only a bin ties with itself
-pub exact_options : CmpEqualImpliesEq (option_cmp nat_cmp)
-exact_options None None e = refl
-exact_options None (Some b) e = absurd (subst (λ r. T (is_eq r)) (sym e) tt)
-exact_options (Some a) None e = absurd (subst (λ r. T (is_eq r)) (sym e) tt)
-exact_options (Some a) (Some b) e = ap Some (exact_unsigned a b e)
+-- numbers that differ are tested so
+pub apart : (a b : ℕ) → a < b → nat_eq a b ≡ false
+apart a b less = by_test (nat_eq a b) (λ e. let same = same_number a b e in absurd (omega arith)) (λ e. e)
 
--- only a key ties with itself
-pub place_exact : CmpEqualImpliesEq place_order
-place_exact = exact_pairs (option_cmp nat_cmp) nat_cmp exact_options exact_unsigned
+-- numbers that differ are tested so
+pub apart_turned : (a b : ℕ) → b < a → nat_eq a b ≡ false
+apart_turned a b less = by_test (nat_eq a b) (λ e. let same = same_number a b e in absurd (omega arith)) (λ e. e)
 
--- bins tie where they are the same
-pub bins_tied : (a b : Option ℕ) → is_eq (option_cmp nat_cmp a b) ≡ option_eq nat_eq a b
-bins_tied None None = refl
-bins_tied None (Some b) = refl
-bins_tied (Some a) None = refl
-bins_tied (Some a) (Some b) = unsigned_tied a b
-
--- sameness of bins goes both ways
-pub bins_turned : (a b : Option ℕ) → option_eq nat_eq a b ≡ option_eq nat_eq b a
-bins_turned None None = refl
-bins_turned None (Some b) = refl
-bins_turned (Some a) None = refl
-bins_turned (Some a) (Some b) = nat_eq_equiv.symm a b
+-- the next numbers are tested equal where the numbers are
+pub both_suc : (n k : ℕ) → nat_eq (suc n) (suc k) ≡ nat_eq n k
+both_suc n k =
+    by_test (nat_eq n k)
+    (λ e. subst (λ m. nat_eq (suc n) (suc m) ≡ nat_eq n m) (same_number n k e) (itself (suc n) ∙ sym (itself n)))
+    (λ e.
+    by_test (nat_eq (suc n) (suc k))
+    (λ t.
+    let one : suc n ≡ suc k = same_number (suc n) (suc k) t in
+    let same : n ≡ k = omega arith in
+    not_both_ways (nat_eq n k) (subst (λ m. nat_eq n m ≡ true) same (itself n)) e)
+    (λ f. f ∙ sym e))
 
 -- bins that are tested equal are the same
 pub same_bin : (a b : Option ℕ) → option_eq nat_eq a b ≡ true → a ≡ b
-same_bin a b h = exact_options a b ((Equal-is (option_cmp nat_cmp a b)).0 (bins_tied a b ∙ h))
+same_bin None None h = refl
+same_bin None (Some b) h = absurd (subst T (sym h) tt)
+same_bin (Some a) None h = absurd (subst T (sym h) tt)
+same_bin (Some a) (Some b) h = ap Some (same_number a b h)
 
--- keys tie where bin and number are the same
-pub tied : (k q : Option ℕ × ℕ) → is_at (place_order k) q ≡ (option_eq nat_eq k.0 q.0 && nat_eq k.1 q.1)
-tied k q = sym (tied_then (option_cmp nat_cmp k.0 q.0) (nat_cmp k.1 q.1)) ∙ (λ i. bins_tied k.0 q.0 i && unsigned_tied k.1 q.1 i)
+-- a bin is tested equal to itself
+pub same_as_itself : (a : Option ℕ) → option_eq nat_eq a a ≡ true
+same_as_itself None = refl
+same_as_itself (Some a) = itself a

@@ -16,6 +16,7 @@ use std::alloc::Global;
 use std::marker::Model;
 use waiting::{AcceptedBy, Accepting, ComingFrom, Naming, Numbered};
 
+mod chains;
 mod shelf;
 #[cfg(test)]
 mod tests;
@@ -109,8 +110,10 @@ impl Bins {
     {
         let arrived = self.arrived.passing(alloc, &ComingFrom(life))?;
         let posted = self.posted.passing(alloc, &Naming(life))?;
-        self.arrived.drop_passing(&ComingFrom(life));
-        self.posted.drop_passing(&Naming(life));
+        let other_arrived = self.arrived.without(&ComingFrom(life))?;
+        let other_posted = self.posted.without(&Naming(life))?;
+        self.arrived = other_arrived;
+        self.posted = other_posted;
         Ok(Forgotten {
             arrived: ArrivedList::from_vec(arrived),
             posted: PostedList::from_vec(posted),
@@ -118,9 +121,9 @@ impl Bins {
     }
 }
 
-/// The first message that a receive accepts, with its order number. Only those are looked at that
+/// The first message that a receive accepts, with its place. Only those are looked at that
 /// have the wanted tag, or that come from the wanted port, where one of both is known.
-fn first_message(arrived: &Shelf<Arrived>, r: PostedRecv) -> Option<(u64, Arrived)>
+fn first_message(arrived: &Shelf<Arrived>, r: PostedRecv) -> Option<(usize, Arrived)>
     ensures { result ≡ first_passing (Plain.accepts r) arrived.now }
 {
     let accepted = AcceptedBy(r);
@@ -141,8 +144,8 @@ fn first_message(arrived: &Shelf<Arrived>, r: PostedRecv) -> Option<(u64, Arrive
     }
 }
 
-/// The first receive that accepts a message, with its order number.
-fn first_receive(posted: &Shelf<PostedRecv>, a: Arrived) -> Option<(u64, PostedRecv)>
+/// The first receive that accepts a message, with its place.
+fn first_receive(posted: &Shelf<PostedRecv>, a: Arrived) -> Option<(usize, PostedRecv)>
     ensures { result ≡ first_passing (λ r. Plain.accepts r a) posted.now }
 {
     match a.tag {
@@ -151,9 +154,9 @@ fn first_receive(posted: &Shelf<PostedRecv>, a: Arrived) -> Option<(u64, PostedR
     }
 }
 
-/// The first receive that accepts a tagged message, with its order number: the first of the tag's
+/// The first receive that accepts a tagged message, with its place: the first of the tag's
 /// bin or the first of the others that accepts it, whichever came earlier.
-fn first_tagged(posted: &Shelf<PostedRecv>, a: Arrived, tag: u64) -> Option<(u64, PostedRecv)>
+fn first_tagged(posted: &Shelf<PostedRecv>, a: Arrived, tag: u64) -> Option<(usize, PostedRecv)>
     requires { a.tag ≡ Some tag }
     ensures { result ≡ first_passing (λ r. Plain.accepts r a) posted.now }
 {
@@ -163,19 +166,19 @@ fn first_tagged(posted: &Shelf<PostedRecv>, a: Arrived, tag: u64) -> Option<(u64
     earlier(exact, other)
 }
 
-/// The first receive of a number, with its order number.
-fn first_numbered(posted: &Shelf<PostedRecv>, id: RecvNo) -> Option<(u64, PostedRecv)>
+/// The first receive of a number, with its place.
+fn first_numbered(posted: &Shelf<PostedRecv>, id: RecvNo) -> Option<(usize, PostedRecv)>
     ensures { result ≡ first_passing (Plain.is_recv id.0) posted.now }
 {
     posted.first_in_group(Some(id.0), &Numbered(id))
 }
 
-/// The one of two receives with the lesser order number.
+/// The one of two receives with the lesser place.
 #[tactic(auto, unfolding(crate::specs::Shelf::earlier))]
 fn earlier(
-    one: Option<(u64, PostedRecv)>,
-    other: Option<(u64, PostedRecv)>,
-) -> Option<(u64, PostedRecv)>
+    one: Option<(usize, PostedRecv)>,
+    other: Option<(usize, PostedRecv)>,
+) -> Option<(usize, PostedRecv)>
     ensures { result ≡ Shelves.earlier one other }
 {
     match (one, other) {

@@ -1,7 +1,8 @@
-use Rattle.std.proofs.Common.{◌≡◌}
-use Rattle.rdm_bins.specs.Shelf.{first_passing}
+use Rattle.std.proofs.Common.{◌≡◌, ℕ, ◌<◌, false}
+use Rattle.rdm_bins.specs.Shelf.{item_at}
+use Rattle.rdm_bins.proofs.Items.{passes}
 use Rattle.rdm_bins.proofs.shelf.first_item.Given as goal
 
--- the first of the items that are left is the first of all
-abbrev pub invariant-loop-order : goal.invariant-loop-order
-invariant-loop-order g l = first_passing (g.P.Criterion.test l.test) l.order-iterator ≡ first_passing (g.P.Criterion.test l.test) l.items.entries
+-- no place so far holds an item that passes
+abbrev pub invariant-loop-place : goal.invariant-loop-place
+invariant-loop-place g l = (k : ℕ) → k < l.place → passes (g.P.Criterion.test l.test) (item_at l.items.items k) ≡ false

@@ -1,14 +1,9 @@
-use Rattle.std.proofs.Common.{refl}
-use Rattle.std.specs.List.Sorted.{IsStrictlySortedBy}
-use Rattle.rdm_bins.specs.Shelf.{is_in}
+use Rattle.rdm_bins.proofs.Linked.{chains_new}
 use Rattle.rdm_bins.proofs.shelf.Shelf.new.Goals as goal
 
 pub invariant_of-result : goal.invariant_of-result
-unfolding is_in IsStrictlySortedBy
 invariant_of-result g c =
-    rw (c.new.ensures.empty, c.new-2.ensures.empty, c.new-3.ensures.empty) (record {
-      rising = tt;
-      are_below = λ order h. refl;
-      by_bin = λ b order. refl;
-      by_group = λ b order. refl;
+    rw c.new.ensures.items (record {
+      by_bin = chains_new g.T.Shelved.bin_of c.new-2.result c.new-2.ensures.ends c.new-2.ensures.links;
+      by_group = chains_new g.T.Shelved.group_of c.new-3.result c.new-3.ensures.ends c.new-3.ensures.links;
     })

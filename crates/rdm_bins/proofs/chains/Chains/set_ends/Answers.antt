@@ -1,0 +1,15 @@
+use Rattle.std.proofs.Common.{refl, ap, ◌∙◌, false, Some}
+use Rattle.rdm_bins.specs.Chains.{ends_at}
+use Rattle.rdm_bins.proofs.Places.{not_both_ways}
+use Rattle.rdm_bins.proofs.Changes.{other_set, tagged_set}
+use Rattle.rdm_bins.proofs.chains.Chains.set_ends.Goals as goal
+
+pub unreachable-requires : goal.unreachable-requires
+unfolding ends_at
+unreachable-requires c = not_both_ways false (c.in_default.ensures.succeeds (c.requires (ap (ends_at c.args.self.now) c.in-Some.is ∙ c.in_default.ensures.absent))) refl
+
+pub returns-in-None-clause-ends : goal.returns-in-None-clause-ends
+returns-in-None-clause-ends c = other_set c.args.self.now _ (Some c.args.ends) c.args.bin c.in-None.is refl refl
+
+pub returns-in-Ok-clause-ends : goal.returns-in-Ok-clause-ends
+returns-in-Ok-clause-ends c = tagged_set c.args.self.now _ (Some c.args.ends) c.args.bin c.in-Some.tag c.in-Some.is refl c.in-Ok.ensures.updates.0

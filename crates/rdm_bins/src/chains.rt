@@ -1,0 +1,235 @@
+//! Places in chains: those of a bin follow one another in rising order.
+ghost use Rattle.std.specs.Prelude.{◌≡◌, ℕ, ◌<◌, ◌++◌, [], ◌∷◌, Option, Some, None, cond, nat_eq, length, OnOk};
+ghost use Rattle.std.specs.Option.{option_eq};
+ghost use Rattle.std.specs.HashMap.{spare};
+ghost use Rattle.std.specs.Vec.{vec_len, vec_capacity};
+ghost use Rattle.rdm_bins.specs.Chains.{first_of, last_of, after_at, before_at, ends_at, with_after, with_before, ends_with, ends_without};
+
+use rdm_num::NoMemory;
+use std::alloc::Global;
+use std::collections::HashMap;
+
+/// The first and the last place of a chain.
+#[derive(Clone, Copy)]
+pub struct Ends {
+    first: usize,
+    last: usize,
+}
+
+/// The neighbours of a place in its chain.
+#[derive(Clone, Copy)]
+pub struct Link {
+    before: Option<usize>,
+    after: Option<usize>,
+}
+
+/// A chain for each bin, and a link for each place. The bin without a number has a chain too.
+#[derive(Drop)]
+pub struct Chains {
+    tagged: HashMap<u64, Ends>,
+    other: Option<Ends>,
+    links: Vec<Link>,
+}
+
+impl Chains {
+    pub fn new(alloc: Global) -> Chains
+        ensures ends { (b : Option ℕ) → ends_at result b ≡ None }
+        ensures links { result.links.items ≡ [] }
+    {
+        Chains {
+            tagged: HashMap::new(alloc),
+            other: None,
+            links: Vec::new(alloc),
+        }
+    }
+
+    /// Makes room for one more place.
+    pub fn reserve(&mut self) -> Result<(), NoMemory>
+        ensures ends { (b : Option ℕ) → ends_at self.new b ≡ ends_at self.old b }
+        ensures links { self.new.links.items ≡ self.old.links.items }
+        ensures link_room { OnOk result (vec_len self.new.links < vec_capacity self.new.links) }
+        ensures tag_room { OnOk result (0 < spare self.new.tagged) }
+    {
+        self.links.reserve(1)?;
+        self.tagged.reserve(1)?;
+        Ok(())
+    }
+
+    /// The ends of a bin's chain.
+    #[tactic(auto, unfolding(crate::specs::Chains::ends_at))]
+    fn ends(&self, bin: Option<u64>) -> Option<Ends>
+        ensures { result ≡ ends_at self.now bin }
+    {
+        match bin {
+            None => self.other,
+            Some(tag) => self.tagged.get(&tag).copied(),
+        }
+    }
+
+    /// The first place of a bin's chain.
+    pub fn first(&self, bin: Option<u64>) -> Option<usize>
+        ensures { result ≡ first_of (ends_at self.now bin) }
+    {
+        match self.ends(bin) {
+            None => None,
+            Some(ends) => Some(ends.first),
+        }
+    }
+
+    /// The place behind a place.
+    pub fn after(&self, place: usize) -> Option<usize>
+        ensures { result ≡ after_at self.now.links.items place }
+    {
+        match self.links.get(place) {
+            None => None,
+            Some(link) => link.after,
+        }
+    }
+
+    /// The place before a place.
+    fn before(&self, place: usize) -> Option<usize>
+        ensures { result ≡ before_at self.now.links.items place }
+    {
+        match self.links.get(place) {
+            None => None,
+            Some(link) => link.before,
+        }
+    }
+
+    /// Sets the ends of a bin's chain.
+    fn set_ends(&mut self, bin: Option<u64>, ends: Ends)
+        requires { ends_at self.old bin ≡ None → 0 < spare self.old.tagged }
+        ensures ends { (b : Option ℕ) → ends_at self.new b ≡ cond (option_eq nat_eq bin b) (Some ends) (ends_at self.old b) }
+        ensures links { self.new.links ≡ self.old.links }
+    {
+        match bin {
+            None => self.other = Some(ends),
+            Some(tag) => {
+                let Ok(_old) = self.tagged.insert(tag, ends) else {
+                    unreachable!()
+                };
+            }
+        }
+    }
+
+    /// Ends a bin's chain.
+    fn drop_ends(&mut self, bin: Option<u64>)
+        ensures ends { (b : Option ℕ) → ends_at self.new b ≡ cond (option_eq nat_eq bin b) None (ends_at self.old b) }
+        ensures links { self.new.links ≡ self.old.links }
+    {
+        match bin {
+            None => self.other = None,
+            Some(tag) => {
+                self.tagged.remove(&tag);
+            }
+        }
+    }
+
+    /// Puts the next place at the end of a bin's chain.
+    pub fn append(&mut self, bin: Option<u64>)
+        requires link_room { vec_len self.old.links < vec_capacity self.old.links }
+        requires tag_room { 0 < spare self.old.tagged }
+        ensures ends { (b : Option ℕ) → ends_at self.new b ≡ cond (option_eq nat_eq bin b) (Some (ends_with (ends_at self.old bin) (length self.old.links.items))) (ends_at self.old b) }
+        ensures links { self.new.links.items ≡ with_after self.old.links.items (last_of (ends_at self.old bin)) (Some (length self.old.links.items)) ++ record { before = last_of (ends_at self.old bin); after = None } ∷ [] }
+    {
+        let place = self.links.len();
+        let ends = self.ends(bin);
+        let before = last_place(ends);
+        self.set_ends(bin, ends_up_to(ends, place));
+        set_after(&mut self.links, before, Some(place));
+        self.links.push_reserved(Link {
+            before,
+            after: None,
+        });
+    }
+
+    /// Takes a place out of a bin's chain.
+    pub fn remove(&mut self, bin: Option<u64>, place: usize)
+        ensures ends { (b : Option ℕ) → ends_at self.new b ≡ cond (option_eq nat_eq bin b) (ends_without (ends_at self.old bin) (before_at self.old.links.items place) (after_at self.old.links.items place)) (ends_at self.old b) }
+        ensures links { self.new.links.items ≡ with_before (with_after self.old.links.items (before_at self.old.links.items place) (after_at self.old.links.items place)) (after_at self.old.links.items place) (before_at self.old.links.items place) }
+    {
+        let before = self.before(place);
+        let after = self.after(place);
+        self.close_ends(bin, before, after);
+        set_after(&mut self.links, before, after);
+        set_before(&mut self.links, after, before);
+    }
+
+    /// Moves the ends of a bin's chain to the neighbours of a place that goes.
+    fn close_ends(&mut self, bin: Option<u64>, before: Option<usize>, after: Option<usize>)
+        ensures ends { (b : Option ℕ) → ends_at self.new b ≡ cond (option_eq nat_eq bin b) (ends_without (ends_at self.old bin) before after) (ends_at self.old b) }
+        ensures links { self.new.links ≡ self.old.links }
+    {
+        let Some(ends) = self.ends(bin) else {
+            return;
+        };
+        match (before, after) {
+            (None, None) => self.drop_ends(bin),
+            (None, Some(after)) => {
+                self.set_ends(
+                    bin,
+                    Ends {
+                        first: after,
+                        ..ends
+                    },
+                )
+            }
+            (Some(before), None) => {
+                self.set_ends(
+                    bin,
+                    Ends {
+                        last: before,
+                        ..ends
+                    },
+                )
+            }
+            (Some(_before), Some(_after)) => {}
+        }
+    }
+}
+
+/// The last place of a chain.
+fn last_place(ends: Option<Ends>) -> Option<usize>
+    ensures { result ≡ last_of ends }
+{
+    match ends {
+        None => None,
+        Some(ends) => Some(ends.last),
+    }
+}
+
+/// The ends of a chain with one more place.
+#[tactic(auto, unfolding(crate::specs::Chains::ends_with))]
+fn ends_up_to(ends: Option<Ends>, place: usize) -> Ends
+    ensures { result ≡ ends_with ends place }
+{
+    let first = match ends {
+        None => place,
+        Some(ends) => ends.first,
+    };
+    Ends { first, last: place }
+}
+
+/// Links the place behind another one, if there is one.
+fn set_after(links: &mut Vec<Link>, place: Option<usize>, after: Option<usize>)
+    ensures links { links.new.items ≡ with_after links.old.items place after }
+    ensures len { vec_len links.new ≡ vec_len links.old }
+    ensures capacity { vec_capacity links.new ≡ vec_capacity links.old }
+{
+    if let Some(place) = place {
+        if let Some(link) = links.get_mut(place) {
+            link.after = after;
+        }
+    }
+}
+
+/// Links the place before another one, if there is one.
+fn set_before(links: &mut Vec<Link>, place: Option<usize>, before: Option<usize>)
+    ensures { links.new.items ≡ with_before links.old.items place before }
+{
+    if let Some(place) = place {
+        if let Some(link) = links.get_mut(place) {
+            link.before = before;
+        }
+    }
+}
