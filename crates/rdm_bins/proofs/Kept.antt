@@ -1,6 +1,6 @@
 -- The items that pass, gathered from place to place.
 use Rattle.std.proofs.Common.{◌≡◌, refl, sym, ap, subst, ◌∙◌, ℕ, zero, suc, ◌+◌, ◌≤◌, Bool, true, false, List, [], ◌∷◌, ◌++◌, Option, Some, None, length, drop, append_assoc, arith}
-use Rattle.std.specs.Prelude.{cond, filter, OnErr, Result, Ok, Err}
+use Rattle.std.specs.Prelude.{cond, filter}
 use Rattle.std.specs.Map.{values_of}
 use Rattle.std.proofs.lemmas.List.{append-nil, drop_all}
 use Rattle.rdm_bins.specs.Shelf.{item_at, entries_from}
@@ -76,8 +76,3 @@ module _ {X : Type 0} where
 pub all_stay : {A : Type 0} (xs : List A) → filter (λ x. true) xs ≡ xs
 all_stay [] = refl
 all_stay (x ∷ xs) = ap (λ l. x ∷ l) (all_stay xs)
-
--- what follows from a fact on an error is one too
-pub on_err : {A E P Q : Type 0} (r : Result A E) → (P → Q) → OnErr r P → OnErr r Q
-on_err (Ok a) f h = tt
-on_err (Err e) f h = f h

@@ -72,25 +72,8 @@ impl<T: Shelved> Shelf<T> {
         }
     }
 
-    /// Puts an item behind all others. The items move up first where most places are empty.
+    /// Puts an item at the next place, behind all others.
     pub fn push(&mut self, item: T) -> Result<(), NoMemory>
-        ensures ok { OnOk result (values_of self.new ≡ values_of self.old ++ item ∷ []) }
-        ensures err { OnErr result (values_of self.new ≡ values_of self.old) }
-    {
-        if self.is_sparse() {
-            let renewed = self.without(&Nothing)?;
-            *self = renewed;
-        }
-        self.append(item)
-    }
-
-    /// More than three of four places are empty, and not only a few.
-    fn is_sparse(&self) -> bool {
-        self.items.len() / 4 > self.waiting.saturating_add(16)
-    }
-
-    /// Puts an item at the next place.
-    fn append(&mut self, item: T) -> Result<(), NoMemory>
         ensures ok { OnOk result (values_of self.new ≡ values_of self.old ++ item ∷ []) }
         ensures err { OnErr result (self.new ≡ self.old) }
     {
@@ -142,6 +125,22 @@ impl<T: Shelved> Shelf<T> {
         }
     }
 
+    /// Moves the items up where most places are empty. For want of memory they stay where they are.
+    fn move_up(&mut self)
+        ensures { values_of self.new ≡ values_of self.old }
+    {
+        if self.is_sparse() {
+            if let Ok(renewed) = self.without(&Nothing) {
+                *self = renewed;
+            }
+        }
+    }
+
+    /// More than seven of eight places are empty, and not only a few.
+    fn is_sparse(&self) -> bool {
+        self.items.len() / 8 > self.waiting.saturating_add(8)
+    }
+
     /// Takes out an item that was found, if one was. Of what passes a test it was the first one.
     pub fn take(&mut self, found: Option<(usize, T)>) -> Option<T>
         ensures answer { (p : T → Bool) → found ≡ first_passing p self.old → result ≡ find p (values_of self.old) }
@@ -152,6 +151,7 @@ impl<T: Shelved> Shelf<T> {
             None => None,
             Some(entry) => {
                 self.remove(entry.0);
+                self.move_up();
                 Some(entry.1)
             }
         }
@@ -274,7 +274,7 @@ fn shelf_without<T: Shelved, P: Criterion<T>>(
     for place in 0..items.len() {
         if let Some(item) = items[place] {
             if !test.passes(&item) {
-                shelf.append(item)?;
+                shelf.push(item)?;
             }
         }
     }

@@ -1,22 +1,24 @@
-use Rattle.std.proofs.Common.{◌≡◌, ap, subst, ◌∙◌, ◌++◌, [], ◌∷◌}
-use Rattle.std.specs.Prelude.{OnOk}
+use Rattle.std.proofs.Common.{◌≡◌, ap, ◌∙◌, ◌++◌, [], ◌∷◌, Some, length}
 use Rattle.std.specs.Map.{values_of}
-use Rattle.rdm_bins.proofs.Kept.{all_stay, on_err}
-use Rattle.rdm_bins.proofs.shelf.Shelf.push.Goals.{then-is_sparse+in_ok-renewed, else-is_sparse}
+use Rattle.rdm_bins.specs.Shelf.{entries_from, is_in_at}
+use Rattle.rdm_bins.proofs.Items.{values_last}
+use Rattle.rdm_bins.proofs.Linked.{chains_same, chains_more}
 use Rattle.rdm_bins.proofs.shelf.Shelf.push.Goals as goal
+
+pub invariant_of-self-2 : goal.invariant_of-self-2
+invariant_of-self-2 g c =
+    let old = c.self.inside in
+    let items : c.push_reserved.new.self.items ≡ old.items.items ++ Some c.args.item ∷ [] = c.push_reserved.ensures.items ∙ ap (λ l. l ++ Some c.args.item ∷ []) c.reserve.ensures.items in
+    let bins = chains_same (is_in_at g.T.Shelved.bin_of old.items.items) (length old.items.items) old.bins c.reserve-2.new.self c.reserve-2.ensures.ends c.reserve-2.ensures.links c.self.invariant.by_bin in
+    let groups = chains_same (is_in_at g.T.Shelved.group_of old.items.items) (length old.items.items) old.groups c.reserve-3.new.self c.reserve-3.ensures.ends c.reserve-3.ensures.links c.self.invariant.by_group in
+    record {
+      by_bin = chains_more g.T.Shelved.bin_of old.items.items c.args.item c.reserve-2.new.self bins c.append.new.self c.bin.result _ c.bin.ensures items c.append.ensures.ends c.append.ensures.links;
+      by_group = chains_more g.T.Shelved.group_of old.items.items c.args.item c.reserve-3.new.self groups c.append-2.new.self c.group.result _ c.group.ensures items c.append-2.ensures.ends c.append-2.ensures.links;
+    }
 
 pub returns-clause-ok : goal.returns-clause-ok
 returns-clause-ok g c =
-    let same : values_of c.if-is_sparse.self ≡ values_of c.args.self.now = elim c.if-is_sparse.branch [
-      | then-is_sparse+in_ok-renewed w ↦ ap values_of w.self-is ∙ w.in_ok-renewed.ensures ∙ all_stay (values_of c.args.self.now)
-      | else-is_sparse w ↦ ap values_of w.self-is
-    ] in
-    subst (λ l. OnOk c.append.result (values_of c.append.new.self ≡ l ++ c.args.item ∷ [])) same c.append.ensures.ok
-
-pub returns-clause-err : goal.returns-clause-err
-returns-clause-err g c =
-    let same : values_of c.if-is_sparse.self ≡ values_of c.args.self.now = elim c.if-is_sparse.branch [
-      | then-is_sparse+in_ok-renewed w ↦ ap values_of w.self-is ∙ w.in_ok-renewed.ensures ∙ all_stay (values_of c.args.self.now)
-      | else-is_sparse w ↦ ap values_of w.self-is
-    ] in
-    on_err c.append.result (λ is. ap values_of is ∙ same) c.append.ensures.err
+    let old = c.self.inside.items.items in
+    ap (λ l. values_of (entries_from 0 l)) (c.push_reserved.ensures.items ∙ ap (λ l. l ++ Some c.args.item ∷ []) c.reserve.ensures.items)
+    ∙ values_last 0 old c.args.item
+    ∙ ap (λ es. values_of es ++ c.args.item ∷ []) c.self.view_is

@@ -13,4 +13,4 @@ pub returns-in-Some-clause-answer : goal.returns-in-Some-clause-answer
 returns-in-Some-clause-answer g c = λ p first. sym (find_values p c.args.self.now ∙ ap (option_map (λ e. e.1)) (sym first ∙ c.in-Some.is))
 
 pub returns-in-Some-clause-after : goal.returns-in-Some-clause-after
-returns-in-Some-clause-after g c = λ p first. ap values_of c.remove.ensures.after ∙ first_without p c.args.self.now c.in-Some.entry c.remove.ensures.rising (sym first ∙ c.in-Some.is)
+returns-in-Some-clause-after g c = λ p first. c.move_up.ensures ∙ ap values_of c.remove.ensures.after ∙ first_without p c.args.self.now c.in-Some.entry c.remove.ensures.rising (sym first ∙ c.in-Some.is)
