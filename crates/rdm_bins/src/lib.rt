@@ -24,8 +24,9 @@ mod waiting;
 
 /// The receives and the messages that wait, each in order. A receive from any source with an exact
 /// tag stands in the bin of that tag, each other one in the bin without a tag; a message stands in
-/// the bin of its tag. So a receive and a message of one tag meet in time that does not grow with
-/// what else waits, but for a logarithm.
+/// the bin of its tag. Links chain what waits in a bin, in order. So a receive and a message of one
+/// tag meet, and a receive is taken back, in expected time that does not grow with what waits under
+/// other tags.
 #[derive(Drop)]
 pub struct Bins {
     posted: Shelf<PostedRecv>,
@@ -121,8 +122,8 @@ impl Bins {
     }
 }
 
-/// The first message that a receive accepts, with its place. Only those are looked at that
-/// have the wanted tag, or that come from the wanted port, where one of both is known.
+/// The first message that a receive accepts, with its place. Only those are looked at that have the
+/// wanted tag, or that come from the wanted port, where one of both is known.
 fn first_message(arrived: &Shelf<Arrived>, r: PostedRecv) -> Option<(usize, Arrived)>
     ensures { result ≡ first_passing (Plain.accepts r) arrived.now }
 {
