@@ -1,5 +1,5 @@
 -- What is played of a script: a fair job of one sender and one receiver, which so stays built.
-use Rattle.std.proofs.Common.{◌≡◌, ℕ, IsTrue, true, false, List, [], ◌∷◌, ◌++◌, length, is_some, is_none, not, Option, Some, None, Ok, refl, inl, inr, sym, ap, subst, arith, leb-true, le-leb}
+use Rattle.std.proofs.Common.{◌≡◌, ℕ, IsTrue, Bool, true, false, List, [], ◌∷◌, ◌++◌, length, is_some, is_none, Option, Some, None, Ok, refl, inl, inr, subst}
 use Rattle.std.specs.Prelude.{nat_le, replicate}
 use Rattle.std.specs.List.{list_all}
 use Rattle.std.proofs.lemmas.Bool.{and_parts}
@@ -7,7 +7,6 @@ use Rattle.rdm_num.specs.Lists.{Member}
 use Rattle.rdm_num.specs.declared.limits.EpLimits.{EpLimits}
 use Rattle.rdm_num.specs.declared.numbers.Connid.{Connid}
 use Rattle.rdm_num.specs.declared.numbers.Life.{Life}
-use Rattle.rdm_num.specs.declared.request.SendReq.{SendReq}
 use Rattle.rdm_pkt.specs.Choice.{eager_room}
 use Rattle.rdm_model.specs.declared.job.Job.{Job}
 use Rattle.rdm_model.specs.declared.job.Instr.{Instr}
@@ -23,7 +22,7 @@ use Rattle.rdm_law.proofs.PlainWorlds.{PlainJob}
 use Rattle.rdm_law.proofs.PlainJobs.{fits_one_packet, opens_and_then, at_port, two_ranks}
 use Rattle.rdm_world.specs.Shows.{StaysBuilt}
 use Rattle.rdm_world.proofs.PlainStays.{plain_stays_built}
-use Rattle.rdm_script.specs.Built.{send_fits, recv_fits, messages_fit, message_max}
+use Rattle.rdm_script.specs.Built.{send_fits, recv_fits, message_max}
 use Rattle.rdm_script.specs.FirstPath.{IsFirstPath, sending, receiving}
 use Rattle.rdm_script.specs.Script.{job_in}
 use Rattle.rdm_script.proofs.Built.{built_are_first, built_are_fair}
