@@ -16,7 +16,7 @@ use Rattle.rdm_model.specs.Owns.{Own}
 use Rattle.rdm_ep.specs.Plain.{FitsOnePacket, IsPlain}
 use Rattle.rdm_port.specs.Views.{PortView}
 use Rattle.rdm_port.specs.Kept.{own_at}
-use Rattle.rdm_port.specs.Machine.{has_room}
+use Rattle.rdm_port.specs.Machine.{header_size, has_room}
 use Rattle.rdm_port.specs.Built.{AreBuilt, IsBuiltDeed}
 
 -- identifiers with one number are one
@@ -70,16 +70,10 @@ unopened life (d ∷ before) h =
 pub unopened_has_none : (life : Life) (log : List Deed) → list_any (opens life) log ≡ false → of_life life.connid log ≡ []
 unopened_has_none life log h = (unopened life log h).none
 
--- the headers of a message in one packet have 60 bytes at most
-headers_fit : (tagged cq_data raw : Bool) → 8 + cond tagged 8 0 + cond cq_data 8 0 + cond raw 36 4 ≤ 60
-headers_fit true true true = omega arith
-headers_fit true true false = omega arith
-headers_fit true false true = omega arith
-headers_fit true false false = omega arith
-headers_fit false true true = omega arith
-headers_fit false true false = omega arith
-headers_fit false false true = omega arith
-headers_fit false false false = omega arith
+-- the headers of a message in one packet are longest with a raw address
+headers_fit : (tagged cq_data raw : Bool) → 8 + cond tagged 8 0 + cond cq_data 8 0 + cond raw 36 4 ≤ 44 + cond tagged 8 0 + cond cq_data 8 0
+headers_fit tagged cq_data true = omega arith
+headers_fit tagged cq_data false = omega arith
 
 -- a message that has room fits one packet
 pub room_fits : (v : PortView) (connid : Connid) (req : SendReq) → has_room v req ≡ true → FitsOnePacket (own_at v connid) req
@@ -87,5 +81,5 @@ unfolding own_at eager_room
 room_fits v connid req h = λ raw.
     let size = eager_header_size (is_some req.tag) (is_some req.cq_data) raw in
     let most = headers_fit (is_some req.tag) (is_some req.cq_data) raw in
-    let room : req.len + 60 ≤ v.limits.mtu = leb-true (req.len + 60) v.limits.mtu h in
+    let room : req.len + header_size req ≤ v.limits.mtu = leb-true (req.len + header_size req) v.limits.mtu h in
     le-leb req.len _ (rw size (omega arith))

@@ -2,25 +2,22 @@
 use Rattle.std.proofs.Common.{◌≡◌, ℕ, List, [], ◌∷◌, Option, Some, None, refl, ap, ◌∙◌, sym, subst}
 use Rattle.std.specs.Prelude.{nat_le, slice_get}
 use Rattle.rdm_num.specs.declared.numbers.Connid.{Connid}
-use Rattle.rdm_wire.specs.declared.Datagram.{Datagram}
 use Rattle.rdm_model.specs.declared.job.Job.{Job}
 use Rattle.rdm_model.specs.declared.job.Rank.{Rank}
 use Rattle.rdm_model.specs.declared.entry.Entry.{Entry}
 use Rattle.rdm_model.specs.declared.entry.Act.{Act}
-use Rattle.rdm_model.specs.Deeds.{Deed, deeds, open_life, of_life}
-use Rattle.rdm_model.specs.Owns.{own_of, life_at, rank_of, port_count}
-use Rattle.rdm_model.specs.Scenes.{Scene, deeds_at, scene}
+use Rattle.rdm_model.specs.Deeds.{deeds, open_life, of_life}
+use Rattle.rdm_model.specs.Owns.{own_of, life_at}
+use Rattle.rdm_model.specs.Scenes.{deeds_at}
 use Rattle.rdm_model.specs.Local.{own_scene}
 use Rattle.rdm_model.specs.Steps.{clock, stamp_after, count, is_next}
 use Rattle.rdm_model.specs.Settled.{instruction_left, is_worn}
 use Rattle.rdm_ep.specs.View.{EndpointView}
 use Rattle.rdm_ep.specs.Keeps.{Keeps}
-use Rattle.rdm_ep.specs.Plain.{IsPlain}
 use Rattle.rdm_ep.specs.Answers.{life_scene}
 use Rattle.rdm_ep.proofs.OpenLife.{open_scene}
 use Rattle.rdm_port.specs.Views.{PortView, IsPortOf, scene_at, logged}
 use Rattle.rdm_port.specs.Kept.{Kept, IsKept, IsOpen, KeepsLife, clock_in, deeds_of, own_at, entry_of, with_log}
-use Rattle.rdm_port.specs.Built.{AreBuilt, IsBuiltDeed}
 
 -- the clock
 clock_by : (job : Job) (start : ℕ) (log : List Entry) → start ≡ job.clock → clock job log ≡ clock_in start log

@@ -1,5 +1,5 @@
 -- Notes that are queued one by one.
-use Rattle.std.proofs.Common.{◌≡◌, ℕ, suc, ◌+◌, Bool, true, false, cond, not, List, [], ◌∷◌, ◌++◌, map, refl, sym, ◌∙◌, ap, append_assoc}
+use Rattle.std.proofs.Common.{◌≡◌, ℕ, suc, Bool, true, false, cond, not, List, [], ◌∷◌, ◌++◌, map, refl, ◌∙◌, ap}
 use Rattle.std.specs.Prelude.{filter, ◌==◌}
 use Rattle.std.proofs.lemmas.List.{map-append, append-nil}
 use Rattle.std.proofs.lemmas.List.Elements.{filter-append}
@@ -8,7 +8,7 @@ use Rattle.rdm_num.specs.declared.numbers.Connid.{Connid}
 use Rattle.rdm_wire.specs.declared.NoteBody.TheVariants.{Opened}
 use Rattle.rdm_model.specs.declared.job.Instr.TheVariants.{OpenLife}
 use Rattle.rdm_model.specs.Deeds.{Did}
-use Rattle.rdm_model.specs.Notes.{OwedNote, note_to, notes_by}
+use Rattle.rdm_model.specs.Notes.{note_to, notes_by}
 use Rattle.rdm_port.specs.declared.kept.QueuedNote.{QueuedNote}
 use Rattle.rdm_port.specs.Kept.{queued_of}
 

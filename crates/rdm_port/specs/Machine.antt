@@ -1,5 +1,5 @@
 -- What the code of a port answers and changes, by what it keeps.
-use Rattle.std.specs.Prelude.{◌≡◌, ◌+◌, Bool, false, not, ◌&&◌, ◌||◌, nat_lt, nat_le, if◌then◌else◌, List, [], ◌∷◌, ◌++◌, map, length, drop, Option, Some, None, is_some, option_map, slice_get, max}
+use Rattle.std.specs.Prelude.{◌≡◌, ℕ, ◌+◌, Bool, false, not, ◌&&◌, ◌||◌, nat_lt, nat_le, if◌then◌else◌, List, [], ◌∷◌, ◌++◌, map, length, drop, Option, Some, None, is_some, option_map, slice_get, max}
 use Rattle.rdm_num.specs.Lives.{life}
 use Rattle.rdm_num.specs.declared.numbers.PortNo.{PortNo}
 use Rattle.rdm_num.specs.declared.numbers.Life.{Life}
@@ -54,9 +54,13 @@ abbrev pub with_endpoint : Option EndpointView → (EndpointView → Next) → N
 with_endpoint None answer = Memory
 with_endpoint (Some e) answer = answer e
 
--- a message of that many bytes has room in one packet, whatever its headers, which have 60 bytes at most
+-- how many bytes of headers a message in one packet has beside a raw address, which is the longest
+abbrev pub header_size : SendReq → ℕ
+header_size req = 44 + (if is_some req.tag then 8 else 0) + (if is_some req.cq_data then 8 else 0)
+
+-- the message has room in one packet, whatever its headers
 abbrev pub has_room : PortView → SendReq → Bool
-has_room v req = nat_le (req.len + 60) v.limits.mtu
+has_room v req = nat_le (req.len + header_size req) v.limits.mtu
 
 -- an insert waits for the note that the life was opened; one that would take the place of another life is not built
 unfoldable pub insert_answer_in : Kept → Life → EndpointView → Next

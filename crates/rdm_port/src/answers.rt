@@ -5,7 +5,7 @@ ghost use Rattle.rdm_port.specs.Views.{PortView};
 ghost use Rattle.rdm_port.specs.Kept as KeptWords;
 ghost use Rattle.rdm_port.specs.Kept.{Kept};
 ghost use Rattle.rdm_ep.specs.Answers as EpAnswers;
-ghost use Rattle.rdm_port.specs.Machine.{machine_answer};
+ghost use Rattle.rdm_port.specs.Machine.{header_size, machine_answer};
 
 use crate::kept::{State, Told};
 use rdm_ep::{Endpoint, RecvAnswer, SendAnswer};
@@ -139,9 +139,18 @@ fn answer_in(endpoint: &Endpoint, opened: &[Life], limits: &EpLimits, instr: &In
     }
 }
 
-/// A message of that many bytes has room in one packet, whatever its headers.
+/// The message has room in one packet, whatever its headers.
 fn has_room(limits: &EpLimits, req: &SendReq) -> bool
-    ensures { result ≡ nat_le (req.now.len + 60) limits.now.mtu }
+    ensures { result ≡ nat_le (req.now.len + header_size req.now) limits.now.mtu }
 {
-    u128::from(req.len) + 60 <= u128::from(limits.mtu)
+    u128::from(req.len) + u128::from(header_size(req)) <= u128::from(limits.mtu)
+}
+
+/// How many bytes of headers a message in one packet has beside a raw address, which is the longest.
+fn header_size(req: &SendReq) -> u32
+    ensures { result ≡ header_size req.now }
+{
+    let tag = if req.tag.is_some() { 8 } else { 0 };
+    let cq_data = if req.cq_data.is_some() { 8 } else { 0 };
+    44 + tag + cq_data
 }

@@ -1,7 +1,6 @@
-use Rattle.std.proofs.Common.{◌≡◌, ◌≤◌, ◌+◌, ◌++◌, ◌∷◌, [], List, suc, refl, arith, sym, ◌∙◌, ap, append_assoc, vec_len, vec_capacity}
+use Rattle.std.proofs.Common.{◌≡◌, ◌+◌, ◌∷◌, [], suc, refl, arith, append_assoc}
 use Rattle.std.proofs.lemmas.Bool.{eq-eqb, ne_eqb}
 use Rattle.std.proofs.lemmas.List.{append-nil}
-use Rattle.rdm_port.specs.declared.kept.QueuedNote.{QueuedNote}
 use Rattle.rdm_port.proofs.Queued.{opened_below, opened_none, opened_all, opened_more, opened_note, opened_skips}
 use Rattle.rdm_port.proofs.notes.queue_opened.Goals as goal
 use Rattle.rdm_port.proofs.notes.queue_opened.Goals.{then-port-number, else-port-number}
