@@ -1,5 +1,5 @@
-//! Messages that come out of order.
-use super::replayed;
+//! Messages that come out of order, that find an inbox full, and that fill their packets.
+use super::{HELLO, replayed};
 use crate::Status;
 use std::test::Fail;
 
@@ -53,6 +53,34 @@ fn an_inbox_of_one_refuses_the_second(rt: HostRuntime) -> Result<(), Fail> {
     let polls = "poll recv 0 ok from 0.5 tag 7 data - length 2 6865";
     assert!(rt; report.contains(polls), "{report}");
     let polls = "poll recv 1 ok from 0.5 tag 7 data - length 3 6c6c6f";
+    assert!(rt; report.contains(polls), "{report}");
+    Ok(())
+}
+
+#[test]
+fn a_message_fills_its_packet(rt: HostRuntime) -> Result<(), Fail> {
+    let alloc = rt.alloc();
+    let mut text = String::new(alloc);
+    for _ in 0..204 {
+        text.push('a')?;
+    }
+    let script = HELLO
+        .replace(alloc, r#"{"version":1,"#, r#"{"version":1,"mtu":256,"#)?
+        .replace(alloc, "hello", text.as_str())?
+        .replace(alloc, r#""len":5"#, r#""len":204"#)?
+        .replace(alloc, r#""len":8"#, r#""len":204"#)?
+        .replace(alloc, r#""zero":8"#, r#""zero":204"#)?;
+    let (status, out) = replayed(
+        alloc,
+        script.as_str(),
+        512,
+        Vec::new(alloc),
+        Vec::new(alloc),
+    )?;
+    assert_eq!(rt; status, Status::Done);
+    let report = str::from_utf8(out.given())?;
+    assert!(rt; report.contains("push 1 to 1.7 packet 256 "), "{report}");
+    let polls = "poll recv 0 ok from 0.5 tag 7 data - length 204 ";
     assert!(rt; report.contains(polls), "{report}");
     Ok(())
 }
