@@ -1,11 +1,11 @@
 -- The ends of the chains after those of one bin changed.
-use Rattle.std.proofs.Common.{◌≡◌, refl, sym, ap, subst, ◌∙◌, ℕ, Option, Some, None}
+use Rattle.std.proofs.Common.{◌≡◌, refl, sym, ap, subst, ◌∙◌, ℕ, Bool, true, false, Option, Some, None}
 use Rattle.std.specs.Prelude.{cond, nat_eq}
 use Rattle.std.specs.Option.{option_eq}
 use Rattle.std.specs.HashMap.{get}
 use Rattle.rdm_bins.specs.declared.chains.Ends.{Ends}
 use Rattle.rdm_bins.specs.declared.chains.Chains.{Chains}
-use Rattle.rdm_bins.specs.Chains.{ends_at, ends_without}
+use Rattle.rdm_bins.specs.Chains.{ends_at, ends_with, ends_without}
 use Rattle.rdm_bins.proofs.Places.{by_test, same_bin}
 
 -- the ends of the bin without a number
@@ -45,21 +45,38 @@ unfolding ends_without
 none_left ends p s is = subst (λ o. ends_without o p s ≡ o) (sym is) refl
 
 -- no place is left
-pub last_gone : (ends : Option Ends) (e : Ends) (p s : Option ℕ) → ends ≡ Some e → p ≡ None → s ≡ None → None ≡ ends_without ends p s
+pub last_gone : (ends : Option Ends) (p s : Option ℕ) → p ≡ None → s ≡ None → None ≡ ends_without ends p s
 unfolding ends_without
-last_gone ends e p s is no_p no_s = sym (λ i. ends_without (is i) (no_p i) (no_s i))
+last_gone None p s no_p no_s = refl
+last_gone (Some e) p s no_p no_s = sym (λ i. ends_without (Some e) (no_p i) (no_s i))
 
 -- the first place goes
-pub first_gone : (ends : Option Ends) (e : Ends) (p s : Option ℕ) (a : ℕ) → ends ≡ Some e → p ≡ None → s ≡ Some a → Some (record { first = a; last = e.last }) ≡ ends_without ends p s
+pub first_gone : (ends : Option Ends) (e : Ends) (a : ℕ) → ends ≡ Some e → Some (record { first = a; last = e.last }) ≡ ends_without ends None (Some a)
 unfolding ends_without
-first_gone ends e p s a is no_p is_s = sym (λ i. ends_without (is i) (no_p i) (is_s i))
+first_gone ends e a is = sym (λ i. ends_without (is i) None (Some a))
 
 -- the last place goes
-pub end_gone : (ends : Option Ends) (e : Ends) (p s : Option ℕ) (b : ℕ) → ends ≡ Some e → p ≡ Some b → s ≡ None → Some (record { first = e.first; last = b }) ≡ ends_without ends p s
+pub end_gone : (ends : Option Ends) (e : Ends) (b : ℕ) → ends ≡ Some e → Some (record { first = e.first; last = b }) ≡ ends_without ends (Some b) None
 unfolding ends_without
-end_gone ends e p s b is is_p no_s = sym (λ i. ends_without (is i) (is_p i) (no_s i))
+end_gone ends e b is = sym (λ i. ends_without (is i) (Some b) None)
 
 -- a place between goes
-pub middle_gone : (ends : Option Ends) (e : Ends) (p s : Option ℕ) (b a : ℕ) → ends ≡ Some e → p ≡ Some b → s ≡ Some a → ends_without ends p s ≡ ends
+pub middle_gone : (ends : Option Ends) (p s : Option ℕ) (b a : ℕ) → p ≡ Some b → s ≡ Some a → ends_without ends p s ≡ ends
 unfolding ends_without
-middle_gone ends e p s b a is is_p is_s = (λ i. ends_without (is i) (is_p i) (is_s i)) ∙ sym is
+middle_gone None p s b a is_p is_s = refl
+middle_gone (Some e) p s b a is_p is_s = λ i. ends_without (Some e) (is_p i) (is_s i)
+
+-- the first place comes
+pub first_came : (ends : Option Ends) (n : ℕ) → ends ≡ None → Some (record { first = n; last = n }) ≡ Some (ends_with ends n)
+unfolding ends_with
+first_came ends n is = sym (λ i. Some (ends_with (is i) n))
+
+-- a further place comes
+pub next_came : (ends : Option Ends) (e : Ends) (n : ℕ) → ends ≡ Some e → Some (record { first = e.first; last = n }) ≡ Some (ends_with ends n)
+unfolding ends_with
+next_came ends e n is = sym (λ i. Some (ends_with (is i) n))
+
+-- of two writes the later one counts
+pub written_twice : (t : Bool) (v w old : Option Ends) → cond t w (cond t v old) ≡ cond t w old
+written_twice true v w old = refl
+written_twice false v w old = refl

@@ -96,18 +96,21 @@ impl Chains {
         }
     }
 
-    /// Sets the ends of a bin's chain.
-    fn set_ends(&mut self, bin: Option<u64>, ends: Ends)
+    /// Sets the ends of a bin's chain, and gives those that it had.
+    #[tactic(auto, unfolding(crate::specs::Chains::ends_at))]
+    fn set_ends(&mut self, bin: Option<u64>, ends: Ends) -> Option<Ends>
         requires { ends_at self.old bin ≡ None → 0 < spare self.old.tagged }
+        ensures answer { result ≡ ends_at self.old bin }
         ensures ends { (b : Option ℕ) → ends_at self.new b ≡ cond (option_eq nat_eq bin b) (Some ends) (ends_at self.old b) }
         ensures links { self.new.links ≡ self.old.links }
     {
         match bin {
-            None => self.other = Some(ends),
+            None => self.other.replace(ends),
             Some(tag) => {
-                let Ok(_old) = self.tagged.insert(tag, ends) else {
+                let Ok(old) = self.tagged.insert(tag, ends) else {
                     unreachable!()
                 };
+                old
             }
         }
     }
@@ -133,14 +136,39 @@ impl Chains {
         ensures links { self.new.links.items ≡ with_after self.old.links.items (last_of (ends_at self.old bin)) (Some (length self.old.links.items)) ++ record { before = last_of (ends_at self.old bin); after = None } ∷ [] }
     {
         let place = self.links.len();
-        let ends = self.ends(bin);
-        let before = last_place(ends);
-        self.set_ends(bin, ends_up_to(ends, place));
+        let before = last_place(self.end_with(bin, place));
         set_after(&mut self.links, before, Some(place));
         self.links.push_reserved(Link {
             before,
             after: None,
         });
+    }
+
+    /// Makes a place the last one of a bin's chain, and gives the ends that the chain had. A chain of
+    /// no places, the usual case, costs one step of hashing.
+    fn end_with(&mut self, bin: Option<u64>, place: usize) -> Option<Ends>
+        requires { 0 < spare self.old.tagged }
+        ensures answer { result ≡ ends_at self.old bin }
+        ensures ends { (b : Option ℕ) → ends_at self.new b ≡ cond (option_eq nat_eq bin b) (Some (ends_with (ends_at self.old bin) place)) (ends_at self.old b) }
+        ensures links { self.new.links ≡ self.old.links }
+    {
+        let old = self.set_ends(
+            bin,
+            Ends {
+                first: place,
+                last: place,
+            },
+        );
+        if let Some(ends) = old {
+            self.set_ends(
+                bin,
+                Ends {
+                    last: place,
+                    ..ends
+                },
+            );
+        }
+        old
     }
 
     /// Takes a place out of a bin's chain.
@@ -155,35 +183,37 @@ impl Chains {
         set_before(&mut self.links, after, before);
     }
 
-    /// Moves the ends of a bin's chain to the neighbours of a place that goes.
+    /// Moves the ends of a bin's chain to the neighbours of a place that goes. A place that has both
+    /// neighbours is no end.
     fn close_ends(&mut self, bin: Option<u64>, before: Option<usize>, after: Option<usize>)
         ensures ends { (b : Option ℕ) → ends_at self.new b ≡ cond (option_eq nat_eq bin b) (ends_without (ends_at self.old bin) before after) (ends_at self.old b) }
         ensures links { self.new.links ≡ self.old.links }
     {
-        let Some(ends) = self.ends(bin) else {
-            return;
-        };
         match (before, after) {
             (None, None) => self.drop_ends(bin),
-            (None, Some(after)) => {
-                self.set_ends(
-                    bin,
-                    Ends {
-                        first: after,
-                        ..ends
-                    },
-                )
-            }
-            (Some(before), None) => {
-                self.set_ends(
-                    bin,
-                    Ends {
-                        last: before,
-                        ..ends
-                    },
-                )
-            }
+            (None, Some(first)) => self.set_first(bin, first),
+            (Some(last), None) => self.set_last(bin, last),
             (Some(_before), Some(_after)) => {}
+        }
+    }
+
+    /// Begins a bin's chain at another place.
+    fn set_first(&mut self, bin: Option<u64>, first: usize)
+        ensures ends { (b : Option ℕ) → ends_at self.new b ≡ cond (option_eq nat_eq bin b) (ends_without (ends_at self.old bin) None (Some first)) (ends_at self.old b) }
+        ensures links { self.new.links ≡ self.old.links }
+    {
+        if let Some(ends) = self.ends(bin) {
+            self.set_ends(bin, Ends { first, ..ends });
+        }
+    }
+
+    /// Ends a bin's chain at another place.
+    fn set_last(&mut self, bin: Option<u64>, last: usize)
+        ensures ends { (b : Option ℕ) → ends_at self.new b ≡ cond (option_eq nat_eq bin b) (ends_without (ends_at self.old bin) (Some last) None) (ends_at self.old b) }
+        ensures links { self.new.links ≡ self.old.links }
+    {
+        if let Some(ends) = self.ends(bin) {
+            self.set_ends(bin, Ends { last, ..ends });
         }
     }
 }
@@ -196,18 +226,6 @@ fn last_place(ends: Option<Ends>) -> Option<usize>
         None => None,
         Some(ends) => Some(ends.last),
     }
-}
-
-/// The ends of a chain with one more place.
-#[tactic(auto, unfolding(crate::specs::Chains::ends_with))]
-fn ends_up_to(ends: Option<Ends>, place: usize) -> Ends
-    ensures { result ≡ ends_with ends place }
-{
-    let first = match ends {
-        None => place,
-        Some(ends) => ends.first,
-    };
-    Ends { first, last: place }
 }
 
 /// Links the place behind another one, if there is one.

@@ -8,6 +8,6 @@ use Rattle.rdm_bins.proofs.chains.Chains.append.Goals as goal
 pub returns-clause-ends : goal.returns-clause-ends
 returns-clause-ends c = λ b.
     let place : c.len-place.result ≡ length c.args.self.now.links.items = search rules in
-    ends_same c.set_ends.new.self _ refl (λ q. refl) b
-    ∙ c.set_ends.ensures.ends b
-    ∙ ap (λ w. cond (option_eq nat_eq c.args.bin b) (Some w) (ends_at c.args.self.now b)) (c.ends_up_to.ensures ∙ (λ i. ends_with (c.ends-ends.ensures i) (place i)))
+    ends_same c.end_with.new.self _ refl (λ q. refl) b
+    ∙ c.end_with.ensures.ends b
+    ∙ ap (λ n. cond (option_eq nat_eq c.args.bin b) (Some (ends_with (ends_at c.args.self.now c.args.bin) n)) (ends_at c.args.self.now b)) place

@@ -9,7 +9,7 @@ unfolding ends_at
 unreachable-requires c = not_both_ways false (c.in_default.ensures.succeeds (c.requires (ap (ends_at c.args.self.now) c.in-Some.is ∙ c.in_default.ensures.absent))) refl
 
 pub returns-in-None-clause-ends : goal.returns-in-None-clause-ends
-returns-in-None-clause-ends c = other_set c.args.self.now _ (Some c.args.ends) c.args.bin c.in-None.is refl refl
+returns-in-None-clause-ends c = other_set c.args.self.now _ (Some c.args.ends) c.args.bin c.in-None.is c.replace.ensures.after refl
 
 pub returns-in-Ok-clause-ends : goal.returns-in-Ok-clause-ends
 returns-in-Ok-clause-ends c = tagged_set c.args.self.now _ (Some c.args.ends) c.args.bin c.in-Some.tag c.in-Some.is refl c.in-Ok.ensures.updates.0
