@@ -1,3 +1,4 @@
 mod Places
-mod Cancelled
+pub mod Cancelled
+pub mod Unposted
 mod Law

@@ -2,6 +2,9 @@
 //! posts receives and lets their messages arrive, each of a tag of its own.
 #![tactic(auto)]
 
+ghost use Rattle.std.specs.Prelude.{◌≡◌, ℕ, ◌<◌, false};
+ghost use Rattle.rdm_match.specs.Waiting.{is_posted};
+
 use rdm_bins::Bins;
 use rdm_match::{Arrived, PostedRecv};
 use rdm_num::{Connid, Life, MsgNo, NoMemory, PortNo, RecvNo, Want};
@@ -46,6 +49,7 @@ fn inserts(alloc: Global, count: u64) -> Result<u64, NoMemory> {
 
 /// Posts so many receives. A message arrives once so many further receives are posted; in the end the
 /// others arrive. Gives how many messages met a receive.
+#[tactic(auto, unfolding(rdm_match::specs::Waiting::is_posted))]
 fn meetings(alloc: Global, count: u64, ahead: u64) -> Result<u64, NoMemory> {
     let mut bins = Bins::new(alloc);
     let mut met = 0u64;
@@ -61,12 +65,12 @@ fn meetings(alloc: Global, count: u64, ahead: u64) -> Result<u64, NoMemory> {
     Ok(met)
 }
 
-/// Posts the receive of a number, which the cancel shows to be free.
-#[tactic(auto, using(rdm_bins::proofs::Cancelled::vain_cancel))]
-fn post(bins: &mut Bins, number: u64) -> Result<(), NoMemory> {
-    if bins.cancel(RecvNo(number)) {
-        return Ok(());
-    }
+/// Posts the receive of a number.
+#[tactic(auto, using(rdm_match::proofs::Unposted::free_after_post))]
+fn post(bins: &mut Bins, number: u64) -> Result<(), NoMemory>
+    requires { is_posted bins.old number ≡ false }
+    ensures { (k : ℕ) → number < k → is_posted bins.old k ≡ false → is_posted bins.new k ≡ false }
+{
     let r = PostedRecv {
         id: RecvNo(number),
         from: None,
@@ -80,7 +84,10 @@ fn post(bins: &mut Bins, number: u64) -> Result<(), NoMemory> {
 }
 
 /// Lets the message of a number arrive, and gives 1 if it met a receive.
-fn arrive(bins: &mut Bins, number: u64) -> Result<u64, NoMemory> {
+#[tactic(auto, using(rdm_match::proofs::Unposted::free_after_arrive))]
+fn arrive(bins: &mut Bins, number: u64) -> Result<u64, NoMemory>
+    ensures { (k : ℕ) → is_posted bins.old k ≡ false → is_posted bins.new k ≡ false }
+{
     let a = Arrived {
         life: Life {
             port: PortNo(0),
