@@ -9,4 +9,3 @@ mod Linked
 mod Unlinked
 mod Taken
 mod Candidates
-pub mod Cancelled

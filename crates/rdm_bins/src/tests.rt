@@ -44,7 +44,7 @@ fn message_of(life: Life, no: u32, tag: Option<u64>) -> Arrived {
 }
 
 /// Posts a receive whose number is not posted: a cancel of it finds nothing and changes nothing.
-#[tactic(auto, using(crate::proofs::Cancelled::vain_cancel))]
+#[tactic(auto, using(rdm_match::proofs::Cancelled::vain_cancel))]
 fn post(rt: &impl Abort, bins: &mut Bins, r: PostedRecv) -> Result<Option<Arrived>, NoMemory> {
     let was_posted = bins.cancel(r.id);
     assert!(rt; !was_posted);
@@ -178,7 +178,7 @@ fn any_message(number: u64, no: u32) -> Arrived {
 }
 
 /// Posts in both, and tells whether they answer alike.
-#[tactic(auto, using(crate::proofs::Cancelled::vain_cancel))]
+#[tactic(auto, using(rdm_match::proofs::Cancelled::vain_cancel))]
 fn post_in_both(
     rt: &impl Abort,
     plain: &mut Matcher,
