@@ -115,7 +115,7 @@ impl Chains {
         }
     }
 
-    /// Ends a bin's chain.
+    /// Takes a bin's chain away.
     fn drop_ends(&mut self, bin: Option<u64>)
         ensures ends { (b : Option ℕ) → ends_at self.new b ≡ cond (option_eq nat_eq bin b) None (ends_at self.old b) }
         ensures links { self.new.links ≡ self.old.links }
@@ -197,7 +197,7 @@ impl Chains {
         }
     }
 
-    /// Begins a bin's chain at another place.
+    /// Lets a bin's chain, if there is one, begin at another place.
     fn set_first(&mut self, bin: Option<u64>, first: usize)
         ensures ends { (b : Option ℕ) → ends_at self.new b ≡ cond (option_eq nat_eq bin b) (ends_without (ends_at self.old bin) None (Some first)) (ends_at self.old b) }
         ensures links { self.new.links ≡ self.old.links }
@@ -207,7 +207,7 @@ impl Chains {
         }
     }
 
-    /// Ends a bin's chain at another place.
+    /// Lets a bin's chain, if there is one, end at another place.
     fn set_last(&mut self, bin: Option<u64>, last: usize)
         ensures ends { (b : Option ℕ) → ends_at self.new b ≡ cond (option_eq nat_eq bin b) (ends_without (ends_at self.old bin) (Some last) None) (ends_at self.old b) }
         ensures links { self.new.links ≡ self.old.links }
