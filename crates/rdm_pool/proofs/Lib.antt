@@ -1,4 +1,6 @@
+mod Entries
 mod Search
+mod Live
 mod Kept
 mod Changed
 mod Seen

@@ -1,5 +1,5 @@
 -- Where a number's place is, among places of rising numbers.
-use Rattle.std.proofs.Common.{◌≡◌, ◌≢◌, ℕ, zero, suc, ◌+◌, ◌<◌, ◌≤◌, List, [], ◌∷◌, length, get_or, Some, None, Result, Ok, Err, IfSome, IfNone, refl, sym, inl, inr, arith}
+use Rattle.std.proofs.Common.{◌≡◌, ◌≢◌, ℕ, zero, suc, ◌+◌, ◌<◌, ◌≤◌, List, [], ◌∷◌, length, get_or, None, Result, Ok, Err, IfSome, IfNone, refl, sym, ◌∙◌, inl, inr, arith}
 use Rattle.std.specs.Result.{result_ok}
 use Rattle.std.proofs.lemmas.Bool.{cases_lt}
 use Rattle.std.specs.List.Sorted.{IsSearchInRange, IsBinarySearchResult, IsNonDecreasingBy}
@@ -7,12 +7,14 @@ use Rattle.std.specs.Ordering.{nat_cmp, ordering_index}
 use Rattle.std.proofs.lemmas.Cmp.{ranked}
 use Rattle.std.proofs.lemmas.List.Sorted.{IsNonDecreasingBy-from_default}
 use Rattle.std.proofs.lemmas.Bool.Decides.{nat_tests}
+use Rattle.rdm_pool.specs.Numbered.{value_at}
 use Rattle.rdm_pool.specs.declared.places.Place.{Place}
-use Rattle.rdm_pool.specs.Places.{Rises, IsAt, IsNowhere, key_under}
+use Rattle.rdm_pool.specs.Places.{Rises, IsAt, IsNowhere, live}
+use Rattle.rdm_pool.proofs.Entries.{value-here, value-later}
 
 -- stands where there is no place
 abbrev no_place : Place
-no_place = record { number = 0; key = 0 }
+no_place = record { number = 0; key = None }
 
 -- the number of the place at an index
 abbrev number_at : List Place → ℕ → ℕ
@@ -66,23 +68,35 @@ module _ (places : List Place) (rises : Rises 0 places) (number : ℕ) where
     ]);
   }
 
+-- the place at a number's index has the number
+pub number_here : (places : List Place) (number i : ℕ) (d : Place) → IsAt places number i → (get_or places i d).number ≡ number
+number_here [] number i d is = absurd is
+number_here (place ∷ rest) number zero d is = is
+number_here (place ∷ rest) number (suc i) d is = number_here rest number i d is
+
 -- a number is at least the least one
 pub least_of : (least : ℕ) (places : List Place) (number i : ℕ) → Rises least places → IsAt places number i → least ≤ number
 least_of least [] number i rises is = absurd is
 least_of least (place ∷ rest) number zero rises is = omega (arith, rises.0, is)
 least_of least (place ∷ rest) number (suc i) rises is = omega (arith, rises.0, least_of (place.number + 1) rest number i rises.1 is)
 
--- the key is the one at the number's place
-pub key_at : (least : ℕ) (places : List Place) (number i : ℕ) (d : Place) → Rises least places → IsAt places number i → Some (get_or places i d).key ≡ key_under places number
-unfolding key_under
+-- below the least number nothing is live
+pub none_below : (least : ℕ) (places : List Place) (number : ℕ) → Rises least places → number < least → value_at (live places) number ≡ None
+unfolding value_at live
+none_below least [] number rises below = refl
+none_below least (place ∷ rest) number rises below = value-later place.number place.key (live rest) number (λ same. omega (arith, rises.0)) ∙ none_below (place.number + 1) rest number rises.1 (omega (arith, rises.0))
+
+-- the key at the place of a number
+pub key_at : (least : ℕ) (places : List Place) (number i : ℕ) (d : Place) → Rises least places → IsAt places number i → (get_or places i d).key ≡ value_at (live places) number
+unfolding live
 key_at least [] number i d rises is = absurd is
-key_at least (place ∷ rest) number zero d rises is = grind (arith, nat_tests, is)
+key_at least (place ∷ rest) number zero d rises is = rw (← is) (sym (value-here place.number place.key (live rest) (none_below (place.number + 1) rest place.number rises.1 (omega arith))))
 key_at least (place ∷ rest) number (suc i) d rises is =
     let later = least_of (place.number + 1) rest number i rises.1 is in
-    grind (arith, nat_tests, later, key_at (place.number + 1) rest number i d rises.1 is)
+    key_at (place.number + 1) rest number i d rises.1 is ∙ sym (value-later place.number place.key (live rest) number (λ same. omega arith))
 
 -- a number that is nowhere has no key
-pub no_key : (places : List Place) (number : ℕ) → IsNowhere places number → None ≡ key_under places number
-unfolding key_under
+pub no_key : (places : List Place) (number : ℕ) → IsNowhere places number → value_at (live places) number ≡ None
+unfolding value_at live
 no_key [] number absent = refl
-no_key (place ∷ rest) number absent = grind (arith, nat_tests, absent.0, no_key rest number absent.1)
+no_key (place ∷ rest) number absent = value-later place.number place.key (live rest) number absent.0 ∙ no_key rest number absent.1

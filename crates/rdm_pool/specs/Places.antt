@@ -1,6 +1,7 @@
 -- How a pool keeps its values: each stands in the slab under a key, and a place ties the key to the
--- value's number. No public clause cites this module.
-use Rattle.std.specs.Prelude.{◌≡◌, ◌≢◌, ℕ, zero, suc, ◌+◌, ◌==◌, if◌then◌else◌, ◌<◌, ◌≤◌, List, [], ◌∷◌, length, Option, Some, None, IsSome, vec_capacity}
+-- value's number. A place whose value was taken is gone: it keeps its number and has no key. No
+-- public clause cites this module.
+use Rattle.std.specs.Prelude.{◌≡◌, ◌≢◌, ◌⊎◌, ℕ, zero, suc, ◌+◌, ◌*◌, ◌<◌, ◌≤◌, List, [], ◌∷◌, length, Option, Some, None, IsSome, Vec, vec_len, vec_capacity}
 use Rattle.slab.specs.Slab.{Slab, get, slab_len}
 use Rattle.rdm_pool.specs.Numbered.{Numbered}
 use Rattle.rdm_pool.specs.declared.places.Place.{Place}
@@ -16,6 +17,18 @@ abbrev pub AreBelow : ℕ → List Place → Type 0
 AreBelow bound [] = Unit {0}
 AreBelow bound (place ∷ rest) = (place.number < bound) × AreBelow bound rest
 
+-- where the old places rise, the new ones do
+abbrev pub StayRising : List Place → List Place → Type 0
+StayRising old new = Rises 0 old → Rises 0 new
+
+-- where the old places are below a bound, the new ones are
+abbrev pub StayBelow : List Place → List Place → Type 0
+StayBelow old new = (bound : ℕ) → AreBelow bound old → AreBelow bound new
+
+-- nothing moved, or all the memory was taken and now more than half of it is free
+abbrev pub MovesSeldom : {Z : Type 0} → Vec Place Z → Vec Place Z → Type 0
+MovesSeldom old new = (new ≡ old) ⊎ ((vec_len old ≡ vec_capacity old) × (2 * vec_len new < vec_capacity new))
+
 -- no place has the number
 abbrev pub IsNowhere : List Place → ℕ → Type 0
 IsNowhere [] number = Unit {0}
@@ -27,42 +40,42 @@ IsAt [] number i = ⊥
 IsAt (place ∷ rest) number zero = place.number ≡ number
 IsAt (place ∷ rest) number (suc i) = IsAt rest number i
 
--- the key at the place of the number
-unfoldable pub key_under : List Place → ℕ → Option ℕ
-key_under [] number = None
-key_under (place ∷ rest) number = if place.number == number then Some place.key else key_under rest number
+-- a number with what it has, if anything, before others
+abbrev pub with_entry : {A : Type 0} → ℕ → Option A → List (ℕ × A) → List (ℕ × A)
+with_entry number None rest = rest
+with_entry number (Some item) rest = (number, item) ∷ rest
 
--- no place has the key
-abbrev pub IsFree : List Place → ℕ → Type 0
+-- the numbers and the keys of the places that are not gone
+unfoldable pub live : List Place → List (ℕ × ℕ)
+live [] = []
+live (place ∷ rest) = with_entry place.number place.key (live rest)
+
+-- no number has the key
+abbrev pub IsFree : List (ℕ × ℕ) → ℕ → Type 0
 IsFree [] key = Unit {0}
-IsFree (place ∷ rest) key = (place.key ≢ key) × IsFree rest key
+IsFree (pair ∷ rest) key = (pair.1 ≢ key) × IsFree rest key
 
 module _ {T : Type 0} where
-  -- each place has a value, under a key that no other place has
-  abbrev pub AreHeld : Slab T → List Place → Type 0
+  -- each number has a value, under a key that no other number has
+  abbrev pub AreHeld : Slab T → List (ℕ × ℕ) → Type 0
   AreHeld values [] = Unit {0}
-  AreHeld values (place ∷ rest) = IsSome (get values place.key) × IsFree rest place.key × AreHeld values rest
+  AreHeld values (pair ∷ rest) = IsSome (get values pair.1) × IsFree rest pair.1 × AreHeld values rest
 
-  -- a number with its value, if it has one, before others
-  abbrev pub with_entry : ℕ → Option T → List (ℕ × T) → List (ℕ × T)
-  with_entry number None rest = rest
-  with_entry number (Some value) rest = (number, value) ∷ rest
-
-  -- the numbers and the values of places
-  unfoldable pub listed : Slab T → List Place → List (ℕ × T)
+  -- the numbers with the values under their keys
+  unfoldable pub listed : Slab T → List (ℕ × ℕ) → List (ℕ × T)
   listed values [] = []
-  listed values (place ∷ rest) = with_entry place.number (get values place.key) (listed values rest)
+  listed values (pair ∷ rest) = with_entry pair.0 (get values pair.1) (listed values rest)
 
   -- what a contract sees of a pool
   abbrev pub seen : Inside T → Numbered T
-  seen p = record { list = listed p.values p.places.items; size = p.size; made = p.made }
+  seen p = record { list = listed p.values (live p.places.items); size = p.size; made = p.made }
 
   -- what is true of a pool's fields
   pub record IsKept (p : Inside T) : Type 0 where
-    pub held : AreHeld p.values p.places.items
+    pub held : AreHeld p.values (live p.places.items)
     pub rises : Rises 0 p.places.items
     pub given : AreBelow p.made p.places.items
-    pub counted : slab_len p.values ≡ length p.places.items
-    pub within : length p.places.items ≤ p.size
+    pub counted : slab_len p.values ≡ length (live p.places.items)
+    pub within : slab_len p.values ≤ p.size
     pub has_slots : p.size ≤ p.values.capacity
-    pub has_places : p.size ≤ vec_capacity p.places
+    pub has_places : 2 * p.size ≤ vec_capacity p.places

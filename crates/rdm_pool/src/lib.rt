@@ -10,14 +10,14 @@ ghost use Rattle.rdm_pool.specs.Runs.{NumbersComeOnce};
 
 use rdm_num::{NoMemory, OpId};
 use slab::Slab;
-use std::alloc::Global;
+use std::alloc::{AllocError, Global};
 use std::marker::Model;
 
 mod places;
 #[cfg(test)]
 mod tests;
 
-use places::{Place, key_of, place_of};
+use places::{Place, key_of, make_room, take_key};
 
 /// The pool holds as many values as it may, so this one is given back.
 #[derive(Clone, Debug, PartialEq, Drop)]
@@ -27,7 +27,10 @@ pub struct Full<T>(pub T);
 #[derive(Drop)]
 pub struct Pool<T> {
     values: Slab<T>,
-    // Where the value of each number stands, by rising number.
+    // Where the value of each number stands, by rising number. A take only marks its place as gone,
+    // so it moves no other. There is memory for two places a value: where a put finds all of it
+    // taken, more than half of the places are gone. The put drops those and moves the others up,
+    // fewer than the puts that came since the last time.
     places: Vec<Place>,
     size: usize,
     made: u32,
@@ -49,11 +52,12 @@ impl<T> Pool<T> {
     ghost use Rattle.rdm_pool.specs.Lends.{lends_found};
 
     /// Takes the memory for so many values.
-    #[tactic(auto, unfolding(crate::specs::Places::listed))]
+    #[tactic(auto, unfolding(crate::specs::Places::live, crate::specs::Places::listed))]
     pub fn new(alloc: Global, size: usize) -> Result<Pool<T>, NoMemory>
         ensures { IfOk result (λ p. p ≡ nothing_put size) }
     {
-        let places = Vec::with_capacity(alloc, size)?;
+        let room = size.checked_mul(2).ok_or(AllocError)?;
+        let places = Vec::with_capacity(alloc, room)?;
         let values = Slab::with_capacity(alloc, size)?;
         Ok(Pool {
             values,
@@ -72,9 +76,14 @@ impl<T> Pool<T> {
         if self.is_full() {
             return Err(Full(value));
         }
+        make_room(&mut self.places);
         let number = self.made;
         let key = self.values.insert_reserved(value);
-        self.places.push_reserved(Place { number, key });
+        let place = Place {
+            number,
+            key: Some(key),
+        };
+        self.places.push_reserved(place);
         self.made += 1;
         Ok(OpId(number))
     }
@@ -105,13 +114,8 @@ impl<T> Pool<T> {
         ensures answer { result ≡ found self.old id }
         ensures after { self.new ≡ after_take self.old id }
     {
-        match place_of(&self.places, id) {
-            Some(at) => {
-                let place = self.places.remove(at);
-                Some(self.values.remove(place.key))
-            }
-            None => None,
-        }
+        let key = take_key(&mut self.places, id)?;
+        Some(self.values.remove(key))
     }
 
     /// A put would give its value back.
@@ -119,7 +123,7 @@ impl<T> Pool<T> {
         ensures value { result ≡ Numbered.is_full self.now }
         ensures pool { IsPool self.now }
     {
-        self.places.len() == self.size
+        self.values.len() == self.size
     }
 }
 

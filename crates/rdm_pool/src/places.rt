@@ -1,18 +1,20 @@
 //! Where the values of a pool stand, by their numbers.
-ghost use Rattle.std.specs.Prelude.{◌≡◌, ◌<◌, length, IfSome, IfNone};
-ghost use Rattle.rdm_pool.specs.Places.{Rises, IsAt, IsNowhere, key_under};
+ghost use Rattle.std.specs.Prelude.{◌≡◌, ◌*◌, ◌<◌, length, filter, is_some, IfSome, IfNone, vec_len, vec_capacity};
+ghost use Rattle.rdm_pool.specs.Numbered.{value_at, without};
+ghost use Rattle.rdm_pool.specs.Places.{Rises, StayRising, StayBelow, MovesSeldom, IsAt, IsNowhere, live};
 
 use rdm_num::OpId;
 
-/// Where the value of a number stands.
+/// Where the value of a number stands, or stood.
 #[derive(Clone, Copy)]
 pub struct Place {
     pub number: u32,
-    pub key: usize,
+    /// `None` once the value is taken: the place is gone.
+    pub key: Option<usize>,
 }
 
 /// The index of a number's place, among places of rising numbers.
-pub fn place_of(places: &[Place], id: OpId) -> Option<usize>
+fn place_of(places: &[Place], id: OpId) -> Option<usize>
     requires { Rises 0 places.now }
     ensures within { IfSome result (λ i. i < length places.now) }
     ensures found { IfSome result (IsAt places.now id.0) }
@@ -24,13 +26,46 @@ pub fn place_of(places: &[Place], id: OpId) -> Option<usize>
 }
 
 /// The key of a number's value, among places of rising numbers.
-#[tactic(auto, using(crate::proofs::Search::key_at, crate::proofs::Search::no_key))]
 pub fn key_of(places: &[Place], id: OpId) -> Option<usize>
     requires { Rises 0 places.now }
-    ensures { result ≡ key_under places.now id.0 }
+    ensures { result ≡ value_at (live places.now) id.0 }
 {
-    match place_of(places, id) {
-        Some(at) => Some(places[at].key),
-        None => None,
+    let at = place_of(places, id)?;
+    places[at].key
+}
+
+/// The key of a number's value. The place is gone from now on, and no other place moves.
+pub fn take_key(places: &mut [Place], id: OpId) -> Option<usize>
+    requires { Rises 0 places.old }
+    ensures key { result ≡ value_at (live places.old) id.0 }
+    ensures live { live places.new ≡ without (live places.old) id.0 }
+    ensures rises { StayRising places.old places.new }
+    ensures below { StayBelow places.old places.new }
+{
+    let at = place_of(places, id)?;
+    places[at].key.take()
+}
+
+/// Drops the places that are gone.
+fn drop_gone(places: &mut Vec<Place>)
+    ensures items { places.new.items ≡ filter (λ place. is_some place.key) places.old.items }
+    ensures capacity { vec_capacity places.new ≡ vec_capacity places.old }
+{
+    places.retain(|place| place.key.is_some());
+}
+
+/// Sees that one more place fits. Only where all the memory is taken are the places that are gone
+/// dropped, and the others moved up.
+pub fn make_room(places: &mut Vec<Place>)
+    requires { 2 * length (live places.old.items) < vec_capacity places.old }
+    ensures live { live places.new.items ≡ live places.old.items }
+    ensures rises { StayRising places.old.items places.new.items }
+    ensures below { StayBelow places.old.items places.new.items }
+    ensures room { vec_len places.new < vec_capacity places.new }
+    ensures capacity { vec_capacity places.new ≡ vec_capacity places.old }
+    ensures seldom { MovesSeldom places.old places.new }
+{
+    if places.len() == places.capacity() {
+        drop_gone(places);
     }
 }

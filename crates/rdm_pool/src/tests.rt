@@ -1,5 +1,6 @@
 use crate::{Full, Pool};
 use rdm_num::OpId;
+use std::collections::VecDeque;
 use std::test::Fail;
 
 #[test]
@@ -50,5 +51,36 @@ fn a_pool_of_no_size_is_full(rt: HostRuntime) -> Result<(), Fail> {
     assert!(rt; pool.is_full());
     assert!(rt; pool.put(1) == Err(Full(1)));
     assert!(rt; pool.take(OpId(0)) == None);
+    Ok(())
+}
+
+/// The value that `values_come_and_go` puts under a number.
+fn value_for(number: u32) -> u64 {
+    u64::from(number) * 7 + 1
+}
+
+#[test]
+fn values_come_and_go(rt: HostRuntime) -> Result<(), Fail> {
+    let mut pool = Pool::new(rt.alloc(), 4)?;
+    let mut held = VecDeque::new(rt.alloc());
+    for number in 0..100 {
+        if pool.is_full() {
+            // The newest in every fifth turn, and else the oldest.
+            let other = if number % 5 == 0 {
+                held.pop_back()
+            } else {
+                held.pop_front()
+            };
+            let other = other.ok_or("none is held")?;
+            assert!(rt; pool.take(OpId(other)) == Some(value_for(other)));
+            assert!(rt; pool.take(OpId(other)) == None);
+        }
+        assert!(rt; pool.put(value_for(number)) == Ok(OpId(number)));
+        held.push_back(number)?;
+        for other in &held {
+            assert!(rt; pool.get(OpId(*other)).copied() == Some(value_for(*other)));
+        }
+    }
+    assert!(rt; held.len() == 4);
     Ok(())
 }

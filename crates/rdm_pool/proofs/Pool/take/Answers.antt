@@ -1,49 +1,79 @@
-use Rattle.std.proofs.Common.{sym, ◌∙◌, arith}
-use Rattle.rdm_pool.proofs.Search.{no_key}
-use Rattle.rdm_pool.proofs.Changed.{rises-remove, below-remove}
-use Rattle.rdm_pool.proofs.Seen.{found_key, found_nothing, key_of_place, value_of_place, taken_seen, held_after_take, nothing_taken}
+use Rattle.std.proofs.Common.{sym, ◌∙◌, ap, length, arith}
+use Rattle.std.proofs.lemmas.List.{with_items_is}
+use Rattle.rdm_pool.specs.Places.{live}
+use Rattle.rdm_pool.proofs.Entries.{without-absent, length-without}
+use Rattle.rdm_pool.proofs.Kept.{key_held}
+use Rattle.rdm_pool.proofs.Changed.{held-take}
+use Rattle.rdm_pool.proofs.Seen.{found_under, taken_seen, nothing_taken}
 use Rattle.rdm_pool.proofs.Pool.take.Goals as goal
 
 pub remove-requires : goal.remove-requires
 remove-requires g c =
-    let is = rw c.deref.ensures.value at c.in-Some.ensures.found in
-    value_of_place c.self.inside c.self.invariant c.args.id c.in-Some.at _ is c.remove-place.ensures.value
+    let p = c.self.inside in
+    let is = rw c.deref_mut.ensures.value at c.in_ok-key.ensures.key in
+    key_held p.values (live p.places.items) c.args.id.0 c.in_ok-key.key is c.self.invariant.held
+
+pub invariant_of-self-2 : goal.invariant_of-self-2
+invariant_of-self-2 g c =
+    let p = c.self.inside in
+    let kept = c.self.invariant in
+    let gone = c.take_key.ensures in
+    let slot = c.remove.ensures in
+    let items = with_items_is p.places c.take_key.new.places (c.take_key.auto.places ∙ c.deref_mut.ensures.len) in
+    let is = rw c.deref_mut.ensures.value at c.in_ok-key.ensures.key in
+    let others = ap live items ∙ rw c.deref_mut.ensures.value at gone.live in
+    let fewer = ap length others in
+    let one_less = length-without (live p.places.items) c.args.id.0 c.in_ok-key.key (sym is) in
+    record {
+      held = rw others (held-take p.values _ (live p.places.items) c.args.id.0 c.in_ok-key.key (sym is) slot.updates kept.held);
+      rises = rw items (gone.rises (rw c.deref_mut.ensures.value kept.rises));
+      given = rw items (gone.below p.made (rw c.deref_mut.ensures.value kept.given));
+      counted = omega (arith, slot.len, kept.counted, fewer, one_less);
+      within = omega (arith, slot.len, kept.within);
+      has_slots = rw slot.capacity kept.has_slots;
+      has_places = kept.has_places;
+    }
 
 pub invariant_of-self : goal.invariant_of-self
 invariant_of-self g c =
     let p = c.self.inside in
     let kept = c.self.invariant in
-    let is = rw c.deref.ensures.value at c.in-Some.ensures.found in
-    let slot = c.remove.ensures in
-    let gone = c.remove-place.ensures in
+    let gone = c.take_key.ensures in
+    let items = with_items_is p.places c.take_key.new.places (c.take_key.auto.places ∙ c.deref_mut.ensures.len) in
+    let none = rw c.deref_mut.ensures.value at c.in_err-key.ensures.key in
+    let same = ap live items ∙ (rw c.deref_mut.ensures.value at gone.live) ∙ without-absent (live p.places.items) c.args.id.0 (sym none) in
     record {
-      held = rw gone.items (held_after_take p kept c.args.id c.in-Some.at _ _ is gone.value slot.updates);
-      rises = rw gone.items (rises-remove 0 p.places.items c.args.id.0 c.in-Some.at is kept.rises);
-      given = rw gone.items (below-remove p.made p.places.items c.args.id.0 c.in-Some.at is kept.given);
-      counted = omega (arith, slot.len, gone.len, kept.counted);
-      within = omega (arith, gone.len, kept.within);
-      has_slots = rw slot.capacity kept.has_slots;
-      has_places = rw gone.capacity kept.has_places;
+      held = rw same kept.held;
+      rises = rw items (gone.rises (rw c.deref_mut.ensures.value kept.rises));
+      given = rw items (gone.below p.made (rw c.deref_mut.ensures.value kept.given));
+      counted = rw same kept.counted;
+      within = kept.within;
+      has_slots = kept.has_slots;
+      has_places = kept.has_places;
     }
 
-pub returns-in-Some-clause-answer : goal.returns-in-Some-clause-answer
-returns-in-Some-clause-answer g c =
+pub returns-clause-answer : goal.returns-clause-answer
+returns-clause-answer g c =
+    let is = rw c.deref_mut.ensures.value at c.in_ok-key.ensures.key in
+    rw (← c.self.view_is) (sym (found_under c.self.inside c.self.invariant c.args.id _ is ∙ c.remove.ensures.value))
+
+pub returns-clause-after : goal.returns-clause-after
+returns-clause-after g c =
     let p = c.self.inside in
-    let is = rw c.deref.ensures.value at c.in-Some.ensures.found in
-    let key = key_of_place p c.self.invariant c.args.id c.in-Some.at _ is c.remove-place.ensures.value in
-    rw (← c.self.view_is) (sym (found_key p c.self.invariant c.args.id _ key ∙ c.remove.ensures.value))
+    let items = with_items_is p.places c.take_key.new.places (c.take_key.auto.places ∙ c.deref_mut.ensures.len) in
+    let is = rw c.deref_mut.ensures.value at c.in_ok-key.ensures.key in
+    let others = ap live items ∙ rw c.deref_mut.ensures.value at c.take_key.ensures.live in
+    rw (← c.self.view_is) (taken_seen p c.self.invariant c.args.id c.in_ok-key.key _ _ is c.remove.ensures.updates others)
 
-pub returns-in-Some-clause-after : goal.returns-in-Some-clause-after
-returns-in-Some-clause-after g c =
-    let is = rw c.deref.ensures.value at c.in-Some.ensures.found in
-    rw (← c.self.view_is, c.remove-place.ensures.items) (taken_seen c.self.inside c.self.invariant c.args.id c.in-Some.at _ _ is c.remove-place.ensures.value c.remove.ensures.updates)
+pub returns-in_err-key-clause-answer : goal.returns-in_err-key-clause-answer
+returns-in_err-key-clause-answer g c =
+    let none = rw c.deref_mut.ensures.value at c.in_err-key.ensures.key in
+    rw (← c.self.view_is) (c.from_residual.ensures ∙ sym (found_under c.self.inside c.self.invariant c.args.id _ none))
 
-pub returns-in-None-clause-answer : goal.returns-in-None-clause-answer
-returns-in-None-clause-answer g c =
-    let absent = rw c.deref.ensures.value at c.in-None.ensures.absent in
-    rw (← c.self.view_is) (sym (found_nothing c.self.inside c.self.invariant c.args.id (no_key _ _ absent)))
-
-pub returns-in-None-clause-after : goal.returns-in-None-clause-after
-returns-in-None-clause-after g c =
-    let absent = rw c.deref.ensures.value at c.in-None.ensures.absent in
-    rw (← c.self.view_is) (nothing_taken c.self.inside c.self.invariant c.args.id absent)
+pub returns-in_err-key-clause-after : goal.returns-in_err-key-clause-after
+returns-in_err-key-clause-after g c =
+    let p = c.self.inside in
+    let items = with_items_is p.places c.take_key.new.places (c.take_key.auto.places ∙ c.deref_mut.ensures.len) in
+    let none = rw c.deref_mut.ensures.value at c.in_err-key.ensures.key in
+    let others = ap live items ∙ rw c.deref_mut.ensures.value at c.take_key.ensures.live in
+    rw (← c.self.view_is) (nothing_taken p c.self.invariant c.args.id _ none others)

@@ -1,0 +1,27 @@
+use Rattle.std.proofs.Common.{sym, ◌∙◌}
+use Rattle.rdm_pool.proofs.Entries.{without-absent}
+use Rattle.rdm_pool.proofs.Search.{number_here, key_at, no_key}
+use Rattle.rdm_pool.proofs.Live.{live-gone, rises-gone, below-gone}
+use Rattle.rdm_pool.proofs.places.take_key.Goals as goal
+
+pub returns-clause-key : goal.returns-clause-key
+returns-clause-key c = c.take.ensures.value ∙ key_at 0 c.args.places.now c.args.id.0 c.in_ok-at.at _ c.requires c.in_ok-at.ensures.found
+
+pub returns-clause-live : goal.returns-clause-live
+returns-clause-live c = live-gone 0 c.args.places.now c.args.id.0 c.in_ok-at.at _ c.in_ok-at.ensures.found c.take.ensures.after c.requires
+
+pub returns-clause-rises : goal.returns-clause-rises
+returns-clause-rises c =
+    let is = c.in_ok-at.ensures.found in
+    rises-gone 0 c.args.places.now c.args.id.0 c.in_ok-at.at _ is (number_here c.args.places.now c.args.id.0 c.in_ok-at.at _ is)
+
+pub returns-clause-below : goal.returns-clause-below
+returns-clause-below c = λ bound.
+    let is = c.in_ok-at.ensures.found in
+    below-gone bound c.args.places.now c.args.id.0 c.in_ok-at.at _ is (number_here c.args.places.now c.args.id.0 c.in_ok-at.at _ is)
+
+pub returns-in_err-at-clause-key : goal.returns-in_err-at-clause-key
+returns-in_err-at-clause-key c = c.from_residual.ensures ∙ sym (no_key c.args.places.now c.args.id.0 c.in_err-at.ensures.absent)
+
+pub returns-in_err-at-clause-live : goal.returns-in_err-at-clause-live
+returns-in_err-at-clause-live c = sym (without-absent _ c.args.id.0 (no_key c.args.places.now c.args.id.0 c.in_err-at.ensures.absent))
