@@ -84,3 +84,10 @@ fn values_come_and_go(rt: HostRuntime) -> Result<(), Fail> {
     assert!(rt; held.len() == 4);
     Ok(())
 }
+
+#[test]
+fn a_size_beyond_memory_is_refused(rt: HostRuntime) -> Result<(), Fail> {
+    assert!(rt; Pool::<u8>::new(rt.alloc(), usize::MAX).is_err());
+    assert!(rt; Pool::<u8>::new(rt.alloc(), usize::MAX / 2).is_err());
+    Ok(())
+}
