@@ -10,6 +10,8 @@ mod pieces;
 pub use message::Message;
 use rdm_num::{EpLimits, NoMemory};
 use rdm_pkt::Packet;
+/// The protocol by which a message goes, which a send chooses before it gives packets.
+pub use rdm_pkt::choose;
 use std::alloc::Global;
 use std::marker::Model;
 
