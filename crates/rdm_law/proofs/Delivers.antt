@@ -2,6 +2,7 @@
 use Rattle.std.proofs.Common.{◌≡◌, ℕ, ◌+◌, ◌<◌, List, [], ◌∷◌, arith, ◌⊎◌, inl, inr, sym, ◌∙◌, ap, subst}
 use Rattle.rdm_num.specs.Lists.{Member}
 use Rattle.rdm_wire.specs.declared.Datagram.{Datagram}
+use Rattle.rdm_model.specs.declared.answer.Handled.TheVariants.{Took as TookAnswer}
 use Rattle.rdm_model.specs.declared.entry.Entry.{Entry}
 use Rattle.rdm_model.specs.declared.entry.Act.{Act}
 use Rattle.rdm_model.specs.declared.entry.Act.TheVariants.{Next, Push, Handle, Poll}
@@ -9,6 +10,7 @@ use Rattle.rdm_model.specs.Steps.{count, is_push}
 use Rattle.rdm_model.specs.Wire.{PushedIn, IsOther, IsUnhandled}
 use Rattle.rdm_model.specs.Worlds.{put_at}
 use Rattle.rdm_law.proofs.Apart.{put_at_case, AreApart}
+use Rattle.rdm_law.proofs.Wired.{HandledIn}
 
 -- a push of the port has the next number
 abbrev pub IsNumbered : ℕ → List Entry → Act → Type 0
@@ -29,6 +31,15 @@ HadWaited logs port before _ = Unit {0}
 abbrev pub AllHadWaited : (ℕ → List Entry) → ℕ → List Entry → Type 0
 AllHadWaited logs port [] = Unit {0}
 AllHadWaited logs port (e ∷ before) = AllHadWaited logs port before × HadWaited logs port before e.act
+
+-- what a port took was for it, and was pushed
+pub handled_waited : (logs : ℕ → List Entry) (port : ℕ) (q : Datagram) (log : List Entry) → AllHadWaited logs port log → HandledIn q log → (q.dst.0 ≡ port) × PushedIn q (logs q.src.0)
+handled_waited logs port q [] h k = elim k [ ]
+handled_waited logs port q (e ∷ before) h (inl k) =
+    let P : Act → Type 0 = λ act. HadWaited logs port before act in
+    let had : HadWaited logs port before (Handle q (TookAnswer k.0)) = subst P k.1 h.1 in
+    (had.0, had.1)
+handled_waited logs port q (e ∷ before) h (inr k) = handled_waited logs port q before h.0 k
 
 -- a datagram is for the port, was pushed by its source, and was not handled
 pub record Waits (logs : ℕ → List Entry) (port : ℕ) (d : Datagram) : Type 0 where

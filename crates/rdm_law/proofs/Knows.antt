@@ -72,7 +72,7 @@ act_note ops (Handle d answer) from note h = let r = handle_note d.src d.body an
 act_note ops (Poll c) from note h = cc
 
 -- a note that a port took was handled
-note_handled : (job : Job) (port : ℕ) (log : List Entry) (from : PortNo) (note : NoteBody) → Member (TookNote from note) (deeds_at job port log)
+pub note_handled : (job : Job) (port : ℕ) (log : List Entry) (from : PortNo) (note : NoteBody) → Member (TookNote from note) (deeds_at job port log)
     → (d : Datagram) × HandledIn d log × (d.body ≡ Note note) × (d.src ≡ from)
 unfolding deeds_at deeds
 note_handled job port [] from note m = elim m [ ]
@@ -96,13 +96,13 @@ opened_still job e before l m =
     at_log_of (λ log. Member (Did (OpenLife l.connid)) (deeds (rank_of job l.port.0).ops log)) l.port.0 e before (λ s. inr m) (λ s. m)
 
 -- an open of the life
-opens_parts : (l : Life) (d : Deed) → opens l d ≡ true → d ≡ Did (OpenLife l.connid)
+pub opens_parts : (l : Life) (d : Deed) → opens l d ≡ true → d ≡ Did (OpenLife l.connid)
 unfolding opens
 opens_parts l (Did (OpenLife c)) h = ap (λ x. Did (OpenLife x)) (same_connid c l.connid (eqb-true c.0 l.connid.0 h))
 opens_parts l _ h = cc
 
 -- a note that tells of the life
-tells_parts : (l : Life) (d : Deed) → tells_open l d ≡ true → d ≡ TookNote l.port (OpenedNote l.connid)
+pub tells_parts : (l : Life) (d : Deed) → tells_open l d ≡ true → d ≡ TookNote l.port (OpenedNote l.connid)
 unfolding tells_open
 tells_parts l (TookNote from (OpenedNote c)) h =
     let p = and_parts (nat_eq from.0 l.port.0) (nat_eq c.0 l.connid.0) h in
@@ -183,17 +183,23 @@ act_did job port s before e (Push d) x p does h = absurd (push_did d.body x h)
 act_did job port s before e (Handle d answer) x p does h = absurd (handle_did d.src d.body answer x h)
 act_did job port s before e (Poll c) x p does h = cc
 
--- the newest entry inserts what its port knows
+-- an entry inserts what its port knows to be open
+pub act_knows : (job : Job) (port : ℕ) (before : List Entry) (e : Entry) (l : Life) → e.port.0 ≡ port
+    → Does job class_of (own_scene job port (deeds_at job port before)) before e e.act
+    → deed_of (rank_of job port).ops e.act ≡ Did (Insert l) → knows_open port (deeds_at job port before) l ≡ true
+act_knows job port before e l p does h =
+    let log = deeds_at job port before in
+    let s = own_scene job port log in
+    let a = act_did job port s before e e.act (Insert l) p does h in
+    let k = insert_knows s l a.0 a.1 in
+    subst (λ n. knows_open n log l ≡ true) (own_port job port log) (subst (λ ds. knows_open s.own.life.port.0 ds l ≡ true) (own_port_log job port log) k)
+
+-- the newest entry inserts what was opened
 inserted_now : (job : Job) (port : ℕ) (before : List Entry) (e : Entry) (l : Life) → Played job before → e.port.0 ≡ port
     → Does job class_of (own_scene job port (port_deeds job port before)) (log_of port before) e e.act
     → deed_of (rank_of job port).ops e.act ≡ Did (Insert l) → IsOpened job before l
-inserted_now job port before e l played p does h =
-    let log = port_deeds job port before in
-    let s = own_scene job port log in
-    let a = act_did job port s (log_of port before) e e.act (Insert l) p does h in
-    let k = insert_knows s l a.0 a.1 in
-    let k' : knows_open port log l ≡ true = subst (λ n. knows_open n log l ≡ true) (own_port job port log) (subst (λ ds. knows_open s.own.life.port.0 ds l ≡ true) (own_port_log job port log) k) in
-    knows_opened job before port l played k'
+unfolding port_deeds
+inserted_now job port before e l played p does h = knows_opened job before port l played (act_knows job port (log_of port before) e l p does h)
 
 -- a life that a port inserted was opened
 pub inserted_opened : (job : Job) (history : List Entry) (port : ℕ) (l : Life) → Played job history → Member (Did (Insert l)) (port_deeds job port history) → IsOpened job history l

@@ -1,6 +1,7 @@
--- Lives whose deeds are plain: they have to do with one other life alone, by messages in one packet each and handshakes,
--- and no receive is cancelled and no life closed.
-use Rattle.std.proofs.Common.{◌≡◌, ◌≤◌, ℕ, Bool, true, false, nat_le, List, [], ◌∷◌, is_some, Some, inl, inr, sym, ◌∙◌}
+-- Deeds of plain lives: each port has one life alone, and what goes between them is messages in one packet each, and handshakes.
+use Rattle.std.proofs.Common.{◌≡◌, ◌≤◌, ℕ, Bool, true, false, nat_le, List, [], ◌∷◌, is_some, Some, inl, inr, subst}
+use Rattle.rdm_num.specs.declared.limits.EpLimits.{EpLimits}
+use Rattle.rdm_num.specs.declared.numbers.Connid.{Connid}
 use Rattle.rdm_num.specs.declared.numbers.Life.{Life}
 use Rattle.rdm_num.specs.declared.request.SendReq.{SendReq}
 use Rattle.rdm_pkt.specs.declared.Packet.{Packet}
@@ -8,7 +9,7 @@ use Rattle.rdm_pkt.specs.declared.Packet.TheVariants.{Rtm, Handshake}
 use Rattle.rdm_pkt.specs.declared.Form.TheVariants.{Eager}
 use Rattle.rdm_pkt.specs.Choice.{eager_room}
 use Rattle.rdm_model.specs.declared.job.Instr.{Instr}
-use Rattle.rdm_model.specs.declared.job.Instr.TheVariants.{OpenLife, Insert, Send, Cancel, CloseLife}
+use Rattle.rdm_model.specs.declared.job.Instr.TheVariants.{OpenLife, Insert, Send}
 use Rattle.rdm_model.specs.Owns.{Own}
 use Rattle.rdm_model.specs.Deeds.{Deed, Did, PushedNote, Pushed, TookNote, Took, Polled, Nothing, Item, Spelled}
 use Rattle.rdm_model.specs.Currents.{inserted_by, last_inserted, seen_by, first_seen, current}
@@ -16,22 +17,14 @@ use Rattle.rdm_model.specs.Heard.{is_heard}
 use Rattle.rdm_model.proofs.Members.{or_else_cases, then_some_parts}
 
 -- the message has room in one packet, whatever its headers
-abbrev pub FitsOnePacket : Own → SendReq → Type 0
-FitsOnePacket own req = (raw : Bool) → nat_le req.len (eager_room (is_some req.tag) (is_some req.cq_data) raw own.limits) ≡ true
+abbrev pub FitsOnePacket : EpLimits → SendReq → Type 0
+FitsOnePacket limits req = (raw : Bool) → nat_le req.len (eager_room (is_some req.tag) (is_some req.cq_data) raw limits) ≡ true
 
 -- a message in one packet that was not heard of, or a handshake
 abbrev pub IsPlainItem : Own → List Deed → Life → Item → Type 0
 IsPlainItem own before from (Spelled (Rtm number tag opt (Eager bytes))) = (own.limits.first ≤ number.0) × (is_heard before from number.0 ≡ false)
 IsPlainItem own before from (Spelled (Handshake words connid)) = Unit {0}
 IsPlainItem own before from _ = ⊥
-
--- the instruction names no life but one, sends messages that have room in one packet, and cancels and closes nothing
-abbrev pub IsPlainOp : Own → (peer : Life) → Instr → Type 0
-IsPlainOp own peer (Insert life) = life ≡ peer
-IsPlainOp own peer (Send req) = FitsOnePacket own req
-IsPlainOp own peer (Cancel recv) = ⊥
-IsPlainOp own peer CloseLife = ⊥
-IsPlainOp own peer _ = Unit {0}
 
 -- a message of a life in one packet, or a handshake
 abbrev pub IsPlainPacket : (first : ℕ) → Packet → Type 0
@@ -44,63 +37,77 @@ abbrev pub IsPlainLoad : (first : ℕ) → Item → Type 0
 IsPlainLoad first (Spelled p) = IsPlainPacket first p
 IsPlainLoad first _ = ⊥
 
--- an instruction opens no life
-abbrev pub OpensNone : Instr → Type 0
-OpensNone (OpenLife connid) = ⊥
-OpensNone _ = Unit {0}
+-- the life is the one that its port opens
+abbrev pub IsTheLife : (lives : ℕ → Connid) → Life → Type 0
+IsTheLife lives l = l.connid ≡ lives l.port.0
 
--- a deed has to do with one other life alone, by plain instructions and packets
-abbrev pub IsWithPeer : Own → (peer : Life) → Deed → Type 0
-IsWithPeer own peer (Did instr) = IsPlainOp own peer instr × OpensNone instr
-IsWithPeer own peer (Took from item) = (from ≡ peer) × IsPlainLoad own.limits.first item
-IsWithPeer own peer PushedNote = Unit {0}
-IsWithPeer own peer Pushed = Unit {0}
-IsWithPeer own peer (TookNote from note) = Unit {0}
-IsWithPeer own peer Polled = Unit {0}
-IsWithPeer own peer Nothing = Unit {0}
+-- an instruction of a program opens the one life of its port, and sends what has room in one packet
+abbrev pub IsPlainOp : EpLimits → Connid → Instr → Type 0
+IsPlainOp limits connid (OpenLife c) = c ≡ connid
+IsPlainOp limits connid (Send req) = FitsOnePacket limits req
+IsPlainOp limits connid _ = Unit {0}
+
+-- an instruction that did names the one life of a port, and sends what has room in one packet
+abbrev pub IsPlainDid : EpLimits → (lives : ℕ → Connid) → Instr → Type 0
+IsPlainDid limits lives (Insert life) = IsTheLife lives life
+IsPlainDid limits lives (Send req) = FitsOnePacket limits req
+IsPlainDid limits lives _ = Unit {0}
+
+-- a deed has to do with the one life of a port, by plain instructions and packets
+abbrev pub IsPlainDeed : EpLimits → (lives : ℕ → Connid) → Deed → Type 0
+IsPlainDeed limits lives (Did instr) = IsPlainDid limits lives instr
+IsPlainDeed limits lives (Took from item) = IsTheLife lives from × IsPlainLoad limits.first item
+IsPlainDeed limits lives PushedNote = Unit {0}
+IsPlainDeed limits lives Pushed = Unit {0}
+IsPlainDeed limits lives (TookNote from note) = Unit {0}
+IsPlainDeed limits lives Polled = Unit {0}
+IsPlainDeed limits lives Nothing = Unit {0}
 
 -- all deeds of a life have
-abbrev pub AreWithPeer : Own → (peer : Life) → List Deed → Type 0
-AreWithPeer own peer [] = Unit {0}
-AreWithPeer own peer (d ∷ before) = AreWithPeer own peer before × IsWithPeer own peer d
+abbrev pub ArePlainDeeds : EpLimits → (lives : ℕ → Connid) → List Deed → Type 0
+ArePlainDeeds limits lives [] = Unit {0}
+ArePlainDeeds limits lives (d ∷ before) = ArePlainDeeds limits lives before × IsPlainDeed limits lives d
 
--- what a deed inserts is the other life
-inserted_peer : (own : Own) (peer : Life) (port : ℕ) (d : Deed) (l : Life) → IsWithPeer own peer d → inserted_by port d ≡ Some l → l ≡ peer
+-- what a deed inserts is the one life of its port
+inserted_the : (limits : EpLimits) (lives : ℕ → Connid) (port : ℕ) (d : Deed) (l : Life) → IsPlainDeed limits lives d → inserted_by port d ≡ Some l → IsTheLife lives l
 unfolding inserted_by
-inserted_peer own peer port (Did (Insert life)) l h is = sym (then_some_parts _ life l is).1 ∙ h.0
-inserted_peer own peer port _ l h is = cc
+inserted_the limits lives port (Did (Insert life)) l h is = subst (IsTheLife lives) (then_some_parts _ life l is).1 h
+inserted_the limits lives port _ l h is = cc
 
--- what a deed takes from is the other life
-seen_peer : (own : Own) (peer : Life) (port : ℕ) (d : Deed) (l : Life) → IsWithPeer own peer d → seen_by port d ≡ Some l → l ≡ peer
+-- so is what a deed takes from
+seen_the : (limits : EpLimits) (lives : ℕ → Connid) (port : ℕ) (d : Deed) (l : Life) → IsPlainDeed limits lives d → seen_by port d ≡ Some l → IsTheLife lives l
 unfolding seen_by
-seen_peer own peer port (Took from item) l h is = sym (then_some_parts _ from l is).1 ∙ h.0
-seen_peer own peer port _ l h is = cc
+seen_the limits lives port (Took from item) l h is = subst (IsTheLife lives) (then_some_parts _ from l is).1 h.0
+seen_the limits lives port _ l h is = cc
 
--- what was inserted last is the other life
-last_inserted_peer : (own : Own) (peer : Life) (port : ℕ) (log : List Deed) (l : Life) → AreWithPeer own peer log → last_inserted log port ≡ Some l → l ≡ peer
+-- so is what was inserted last
+last_inserted_the : (limits : EpLimits) (lives : ℕ → Connid) (port : ℕ) (log : List Deed) (l : Life) → ArePlainDeeds limits lives log
+    → last_inserted log port ≡ Some l → IsTheLife lives l
 unfolding last_inserted
-last_inserted_peer own peer port [] l h is = cc
-last_inserted_peer own peer port (d ∷ before) l h is =
+last_inserted_the limits lives port [] l h is = cc
+last_inserted_the limits lives port (d ∷ before) l h is =
     elim (or_else_cases (inserted_by port d) (last_inserted before port) l is) [
-      | inl a ↦ inserted_peer own peer port d l h.1 a
-      | inr a ↦ last_inserted_peer own peer port before l h.0 a.1
+      | inl a ↦ inserted_the limits lives port d l h.1 a
+      | inr a ↦ last_inserted_the limits lives port before l h.0 a.1
     ]
 
--- what was taken from first is the other life
-first_seen_peer : (own : Own) (peer : Life) (port : ℕ) (log : List Deed) (l : Life) → AreWithPeer own peer log → first_seen log port ≡ Some l → l ≡ peer
+-- so is what was taken from first
+first_seen_the : (limits : EpLimits) (lives : ℕ → Connid) (port : ℕ) (log : List Deed) (l : Life) → ArePlainDeeds limits lives log
+    → first_seen log port ≡ Some l → IsTheLife lives l
 unfolding first_seen
-first_seen_peer own peer port [] l h is = cc
-first_seen_peer own peer port (d ∷ before) l h is =
+first_seen_the limits lives port [] l h is = cc
+first_seen_the limits lives port (d ∷ before) l h is =
     elim (or_else_cases (first_seen before port) (seen_by port d) l is) [
-      | inl a ↦ first_seen_peer own peer port before l h.0 a
-      | inr a ↦ seen_peer own peer port d l h.1 a.1
+      | inl a ↦ first_seen_the limits lives port before l h.0 a
+      | inr a ↦ seen_the limits lives port d l h.1 a.1
     ]
 
--- the current life of any port is the other life
-pub current_peer : (own : Own) (peer : Life) (port : ℕ) (log : List Deed) (l : Life) → AreWithPeer own peer log → current log port ≡ Some l → l ≡ peer
+-- so is the current life of any port
+pub current_the : (limits : EpLimits) (lives : ℕ → Connid) (port : ℕ) (log : List Deed) (l : Life) → ArePlainDeeds limits lives log
+    → current log port ≡ Some l → IsTheLife lives l
 unfolding current
-current_peer own peer port log l h is =
+current_the limits lives port log l h is =
     elim (or_else_cases (last_inserted log port) (first_seen log port) l is) [
-      | inl a ↦ last_inserted_peer own peer port log l h a
-      | inr a ↦ first_seen_peer own peer port log l h a.1
+      | inl a ↦ last_inserted_the limits lives port log l h a
+      | inr a ↦ first_seen_the limits lives port log l h a.1
     ]

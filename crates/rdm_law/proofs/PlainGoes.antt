@@ -1,6 +1,7 @@
 -- What goes out next from a plain life.
-use Rattle.std.proofs.Common.{◌≡◌, List, ◌∷◌, Some, refl, inl, inr, sym, ◌∙◌, ap, subst}
+use Rattle.std.proofs.Common.{◌≡◌, ℕ, List, ◌∷◌, Some, refl, inl, inr, sym, ◌∙◌, ap, subst}
 use Rattle.rdm_num.specs.Lists.{Member}
+use Rattle.rdm_num.specs.declared.numbers.Connid.{Connid}
 use Rattle.rdm_num.specs.declared.numbers.Life.{Life}
 use Rattle.rdm_pkt.specs.declared.Packet.{Packet}
 use Rattle.rdm_pkt.specs.declared.Form.TheVariants as F
@@ -23,7 +24,7 @@ use Rattle.rdm_law.proofs.Queue.{owed}
 use Rattle.rdm_law.proofs.Answered.{waits_owed}
 use Rattle.rdm_law.proofs.SentFits.{SentFits}
 use Rattle.rdm_law.proofs.TurnsFit.{reply_no_send}
-use Rattle.rdm_law.proofs.PlainDeeds.{IsPlainPacket, IsPlainLoad, AreWithPeer}
+use Rattle.rdm_law.proofs.PlainDeeds.{IsPlainPacket, IsPlainLoad, IsTheLife, ArePlainDeeds}
 use Rattle.rdm_law.proofs.PlainTurns.{IsPlainGoing, all_eager, plain_owed, plain_sends, plain_kind}
 
 -- the one packet of a whole message
@@ -38,12 +39,12 @@ eager_no_long : Eager ≡ LongCts → ⊥
 eager_no_long h = cc
 
 -- the next packet of a plain send is its message's
-plain_send : (own : Own) (peer : Life) (ms : Messages) (log : List Deed) (t : Turn) → AreWithPeer own peer log → ((s : Sent) → Member s (sends own ms log) → SentFits own s)
-    → (r : SendTurn own log (pushed_of own ms log) (sends own ms log) t) → (r.sent.to ≡ peer) × IsPlainPacket own.limits.first r.packet
-plain_send own peer ms log t k fit r =
+plain_send : (own : Own) (lives : ℕ → Connid) (ms : Messages) (log : List Deed) (t : Turn) → ArePlainDeeds own.limits lives log → ((s : Sent) → Member s (sends own ms log) → SentFits own s)
+    → (r : SendTurn own log (pushed_of own ms log) (sends own ms log) t) → IsTheLife lives r.sent.to × IsPlainPacket own.limits.first r.packet
+plain_send own lives ms log t k fit r =
     let s = r.sent in
-    let p = plain_sends own peer ms log k s r.member in
-    let kind = plain_kind own peer s p (fit s r.member) in
+    let p = plain_sends own lives ms log k s r.member in
+    let kind = plain_kind own lives s p (fit s r.member) in
     elim (next_is own log s (pushed_of own ms log s.number) r.packet (underway own ms log s r.member) r.next) [
       | inl a ↦
           let m : Member r.packet (openings own.limits s.message s.kind) =
@@ -52,32 +53,32 @@ plain_send own peer ms log t k fit r =
       | inr a ↦ (let long = a.3.long in absurd (eager_no_long (sym kind ∙ long)))
     ]
 
--- what goes out next from a plain life goes to the other life: a message in one packet, or a handshake
-pub plain_turn : (own : Own) (peer : Life) (ms : Messages) (log : List Deed) (t : Turn) (to : Life) (item : Item) → AreWithPeer own peer log → ms.head ≡ heads_by log
+-- what goes out next from a plain life goes to the one life of a port: a message in one packet, or a handshake
+pub plain_turn : (own : Own) (lives : ℕ → Connid) (ms : Messages) (log : List Deed) (t : Turn) (to : Life) (item : Item) → ArePlainDeeds own.limits lives log → ms.head ≡ heads_by log
     → ((s : Sent) → Member s (sends own ms log) → SentFits own s)
-    → turn own ms log ≡ Some t → turn_going (Some t) ≡ Some (Goes to item) → IsPlainGoing own peer to item
+    → turn own ms log ≡ Some t → turn_going (Some t) ≡ Some (Goes to item) → IsPlainGoing own lives to item
 unfolding turn_going
-plain_turn own peer ms log (Replies r) to item k heads fit is goes =
+plain_turn own lives ms log (Replies r) to item k heads fit is goes =
     elim (turn_cases own ms log (Replies r) is) [
       | inl a ↦
           let same : a.0 ≡ r = (let e = a.2 in cc) in
           let waits : Member r (progress own ms log).replies = subst (λ (x : Reply). Member x (progress own ms log).replies) same (slice_get-member (progress own ms log).replies 0 a.0 a.1) in
           let w = waits_owed own ms log r waits in
-          let plain = plain_owed own peer ms log r (λ source n. ap (λ (hs : Heads). (hs source n).shape) heads ∙ all_eager own peer log k source n) k
+          let plain = plain_owed own lives ms log r (λ source n. ap (λ (hs : Heads). (hs source n).shape) heads ∙ all_eager own lives log k source n) k
           (owed_in own ms log r (slice_get-member (owed own ms log) w.0.place r w.3)) in
           let to_is : r.to ≡ to = cc in
           let item_is : r.item ≡ item = cc in
-          (sym to_is ∙ plain.0, subst (IsPlainLoad own.limits.first) item_is plain.1)
+          (subst (IsTheLife lives) to_is plain.0, subst (IsPlainLoad own.limits.first) item_is plain.1)
       | inr a ↦ (let e = a.1.is in absurd (reply_no_send r a.1.sent a.1.packet e))
     ]
-plain_turn own peer ms log (Sends s p) to item k heads fit is goes =
+plain_turn own lives ms log (Sends s p) to item k heads fit is goes =
     elim (turn_cases own ms log (Sends s p) is) [
       | inl a ↦ absurd (reply_no_send a.0 s p (sym a.2))
       | inr a ↦
-          let plain = plain_send own peer ms log (Sends s p) k fit a.1 in
+          let plain = plain_send own lives ms log (Sends s p) k fit a.1 in
           let sent : a.1.sent ≡ s = (let e = a.1.is in cc) in
           let packet : a.1.packet ≡ p = (let e = a.1.is in cc) in
           let to_is : s.to ≡ to = cc in
           let item_is : Spelled p ≡ item = cc in
-          (sym to_is ∙ sym (ap (λ (x : Sent). x.to) sent) ∙ plain.0, subst (IsPlainLoad own.limits.first) item_is (subst (IsPlainPacket own.limits.first) packet plain.1))
+          (subst (IsTheLife lives) to_is (subst (λ (x : Sent). IsTheLife lives x.to) sent plain.0), subst (IsPlainLoad own.limits.first) item_is (subst (IsPlainPacket own.limits.first) packet plain.1))
     ]

@@ -1,16 +1,19 @@
--- The log of a plain rank: what it took of the other life and did of its program makes its life plain, and what goes out of it too.
-use Rattle.std.proofs.Common.{◌≡◌, ℕ, ◌+◌, ◌≤◌, List, [], ◌∷◌, sum_by, Option, Some, refl, arith, ◌⊎◌, inl, inr, sym, ◌∙◌, ap, subst}
-use Rattle.std.specs.Prelude.{slice_get}
+-- Ports that open one life each: what they took is plain, and so are the deeds of their lives.
+use Rattle.std.proofs.Common.{◌≡◌, ℕ, true, List, [], ◌∷◌, Option, Some, refl, inl, inr, sym, ◌∙◌, ap, subst}
+use Rattle.std.specs.Prelude.{◌&&◌, nat_eq, slice_get}
+use Rattle.std.specs.List.{list_any}
+use Rattle.std.proofs.lemmas.Bool.{and_parts, or_cases, eqb-true}
 use Rattle.rdm_num.specs.Lists.{Member}
-use Rattle.rdm_num.specs.Lives.{life}
 use Rattle.rdm_num.specs.declared.numbers.PortNo.{PortNo}
 use Rattle.rdm_num.specs.declared.numbers.Connid.{Connid}
 use Rattle.rdm_num.specs.declared.numbers.Life.{Life}
+use Rattle.rdm_num.specs.declared.limits.EpLimits.{EpLimits}
 use Rattle.rdm_pkt.specs.declared.Packet.{Packet}
 use Rattle.rdm_pkt.specs.Reading.{packet_in}
 use Rattle.rdm_wire.specs.declared.Datagram.{Datagram}
 use Rattle.rdm_wire.specs.declared.Body.{Body}
 use Rattle.rdm_wire.specs.declared.Body.TheVariants.{Note, Between}
+use Rattle.rdm_wire.specs.declared.NoteBody.TheVariants.{Opened}
 use Rattle.rdm_wire.specs.declared.Load.TheVariants.{Packet as PacketLoad, Ask, Given}
 use Rattle.rdm_model.specs.declared.job.Job.{Job}
 use Rattle.rdm_model.specs.declared.job.Instr.{Instr}
@@ -22,203 +25,154 @@ use Rattle.rdm_model.specs.declared.answer.Handled.TheVariants.{Took as TookAnsw
 use Rattle.rdm_model.specs.declared.entry.Entry.{Entry}
 use Rattle.rdm_model.specs.declared.entry.Act.{Act}
 use Rattle.rdm_model.specs.declared.entry.Act.TheVariants.{Next, Push, Handle, Poll}
-use Rattle.rdm_model.specs.Deeds.{Deed, Did, PushedNote, Pushed, TookNote, Took, Polled, Nothing, packet_item, item_of, deed_by_next, deed_by_push, deed_by_handle, deed_of, deeds, open_after, open_life, of_life, deed_count}
-use Rattle.rdm_model.specs.Owns.{Own, rank_of, own_of}
-use Rattle.rdm_model.specs.Jobs.{open_count}
+use Rattle.rdm_model.specs.Deeds.{Deed, Did, TookNote, packet_item, item_of, deed_by_next, deed_by_push, deed_by_handle, deed_of, deeds, open_life, of_life}
+use Rattle.rdm_model.specs.Owns.{rank_of}
+use Rattle.rdm_model.specs.Notes.{tells_open, opens, knows_open}
 use Rattle.rdm_model.specs.Scenes.{deeds_at}
 use Rattle.rdm_model.specs.Local.{Local}
-use Rattle.rdm_model.proofs.Members.{slice_get-member}
+use Rattle.rdm_model.proofs.Members.{list_any_member}
 use Rattle.rdm_law.proofs.Lives.{at_of_life}
-use Rattle.rdm_law.proofs.OpCounts.{did_as, did_within}
-use Rattle.rdm_law.proofs.PlainDeeds.{IsPlainOp, IsPlainPacket, IsPlainLoad, OpensNone, IsWithPeer, AreWithPeer}
+use Rattle.rdm_law.proofs.Delivers.{AllHadWaited, handled_waited}
+use Rattle.rdm_law.proofs.Wired.{HandledIn}
+use Rattle.rdm_law.proofs.Opened.{open_opened, note_pushed}
+use Rattle.rdm_law.proofs.Knows.{note_handled, opens_parts, tells_parts, act_knows}
+use Rattle.rdm_law.proofs.OneLife.{act_op, did_op}
+use Rattle.rdm_law.proofs.PlainDeeds.{IsPlainPacket, IsPlainLoad, IsTheLife, IsPlainOp, IsPlainDid, IsPlainDeed, ArePlainDeeds}
 
--- the program of a life that opens once, and has to do with one other life alone
-pub record PlainRank (own : Own) (peer : Life) (ops : List Instr) : Type 0 where
-  pub plain : (instr : Instr) → Member instr ops → IsPlainOp own peer instr
-  pub opens : (c : Connid) → Member (OpenLife c) ops → c ≡ own.life.connid
-  pub one_open : sum_by open_count ops ≤ 1
+-- each port opens one life alone, and each send has room in one packet
+abbrev pub PlainJob : Job → (lives : ℕ → Connid) → Type 0
+PlainJob job lives = (port : ℕ) (instr : Instr) → Member instr (rank_of job port).ops → IsPlainOp job.limits (lives port) instr
 
--- a datagram goes from one of the lives to the other
-abbrev pub IsBetween : (i j from to : Life) → Type 0
-IsBetween i j from to = ((from ≡ i) × (to ≡ j)) ⊎ ((from ≡ j) × (to ≡ i))
-
--- a note, or a message of one of the lives to the other in one packet, or a handshake of it
-abbrev pub IsPlainBody : (i j : Life) (first : ℕ) → Datagram → Body → Type 0
-IsPlainBody i j first d (Note note) = Unit {0}
-IsPlainBody i j first d (Between from to (PacketLoad bytes)) =
-    IsBetween i j (life d.src from) (life d.dst to) × ((p : Packet) × (packet_in bytes ≡ Some p) × IsPlainPacket first p)
-IsPlainBody i j first d (Between from to (Ask a)) = ⊥
-IsPlainBody i j first d (Between from to (Given g)) = ⊥
+-- a note, or a message in one packet or a handshake, from the one life of a port to that of another
+abbrev pub IsPlainBody : (lives : ℕ → Connid) (first : ℕ) → Datagram → Body → Type 0
+IsPlainBody lives first d (Note note) = Unit {0}
+IsPlainBody lives first d (Between from to (PacketLoad bytes)) =
+    (from ≡ lives d.src.0) × (to ≡ lives d.dst.0) × ((p : Packet) × (packet_in bytes ≡ Some p) × IsPlainPacket first p)
+IsPlainBody lives first d (Between from to (Ask a)) = ⊥
+IsPlainBody lives first d (Between from to (Given g)) = ⊥
 
 -- the same of a datagram that a port handles
-abbrev pub IsPlainHandle : (i j : Life) (first port : ℕ) → Act → Type 0
-IsPlainHandle i j first port (Handle d answer) = IsPlainBody i j first d d.body × (d.dst.0 ≡ port)
-IsPlainHandle i j first port (Next index op answer) = Unit {0}
-IsPlainHandle i j first port (Push d) = Unit {0}
-IsPlainHandle i j first port (Poll c) = Unit {0}
+abbrev pub IsPlainHandle : (lives : ℕ → Connid) (first : ℕ) → Act → Type 0
+IsPlainHandle lives first (Handle d answer) = IsPlainBody lives first d d.body
+IsPlainHandle lives first (Next index op answer) = Unit {0}
+IsPlainHandle lives first (Push d) = Unit {0}
+IsPlainHandle lives first (Poll c) = Unit {0}
 
 -- so of a whole log
-abbrev pub ArePlainHandles : (i j : Life) (first port : ℕ) → List Entry → Type 0
-ArePlainHandles i j first port [] = Unit {0}
-ArePlainHandles i j first port (e ∷ before) = ArePlainHandles i j first port before × IsPlainHandle i j first port e.act
+abbrev pub ArePlainHandles : (lives : ℕ → Connid) (first : ℕ) → List Entry → Type 0
+ArePlainHandles lives first [] = Unit {0}
+ArePlainHandles lives first (e ∷ before) = ArePlainHandles lives first before × IsPlainHandle lives first e.act
 
--- what an instruction that did is
-abbrev pub DidIs : (Instr → Type 0) → Deed → Type 0
-DidIs P (Did instr) = P instr
-DidIs P PushedNote = Unit {0}
-DidIs P Pushed = Unit {0}
-DidIs P (TookNote from note) = Unit {0}
-DidIs P (Took from item) = Unit {0}
-DidIs P Polled = Unit {0}
-DidIs P Nothing = Unit {0}
+-- so of each datagram that it took
+pub handled_plain : (lives : ℕ → Connid) (first : ℕ) (d : Datagram) (log : List Entry) → ArePlainHandles lives first log → HandledIn d log → IsPlainBody lives first d d.body
+handled_plain lives first d [] h k = elim k [ ]
+handled_plain lives first d (e ∷ before) h (inl k) = subst (IsPlainHandle lives first) k.1 h.1
+handled_plain lives first d (e ∷ before) h (inr k) = handled_plain lives first d before h.0 k
 
--- an instruction that did is what it is where it is next
-did_next : (P : Instr → Type 0) (o : Option Instr) (answer : Answer) → ((instr : Instr) → o ≡ Some instr → P instr) → DidIs P (deed_by_next o answer)
+-- a life that a port opened is its one
+opened_the : (job : Job) (lives : ℕ → Connid) (port : ℕ) (log : List Entry) (c : Connid) → PlainJob job lives → Member (Did (OpenLife c)) (deeds_at job port log) → c ≡ lives port
+unfolding deeds_at
+opened_the job lives port log c plain m = plain port (OpenLife c) (did_op (rank_of job port).ops log (OpenLife c) m)
+
+-- the life that a port has open is its one
+pub open_is : (job : Job) (lives : ℕ → Connid) (port : ℕ) (log : List Entry) (c : Connid) → PlainJob job lives → open_life (deeds_at job port log) ≡ Some c → c ≡ lives port
+open_is job lives port log c plain h = opened_the job lives port log c plain (open_opened (deeds_at job port log) c h)
+
+-- the life of which a port was told is the one of the port that told
+told_the : (job : Job) (lives : ℕ → Connid) (logs : ℕ → List Entry) (port : ℕ) (log : List Entry) (l : Life) → PlainJob job lives → ((p : ℕ) → Local job p (logs p))
+    → AllHadWaited logs port log → Member (TookNote l.port (Opened l.connid)) (deeds_at job port log) → IsTheLife lives l
+told_the job lives logs port log l plain local had m =
+    let h = note_handled job port log l.port (Opened l.connid) m in
+    let src = h.0.src.0 in
+    let pushed = (handled_waited logs port h.0 log had h.1).1 in
+    opened_the job lives src (logs src) l.connid plain (note_pushed job src (logs src) h.0 l.connid (local src) pushed h.2) ∙ ap (λ (p : PortNo). lives p.0) h.3
+
+-- a life that a port knows to be open is the one of its port
+knows_the : (job : Job) (lives : ℕ → Connid) (logs : ℕ → List Entry) (port : ℕ) (log : List Entry) (l : Life) → PlainJob job lives → ((p : ℕ) → Local job p (logs p))
+    → AllHadWaited logs port log → knows_open port (deeds_at job port log) l ≡ true → IsTheLife lives l
+unfolding knows_open
+knows_the job lives logs port log l plain local had h =
+    let ds = deeds_at job port log in
+    elim (or_cases (list_any (tells_open l) ds) (nat_eq l.port.0 port && list_any (opens l) ds) h) [
+      | inl a ↦
+          let r = list_any_member (tells_open l) ds a in
+          told_the job lives logs port log l plain local had (subst (λ (d : Deed). Member d ds) (tells_parts l r.0 r.2) r.1)
+      | inr a ↦
+          let p = and_parts (nat_eq l.port.0 port) (list_any (opens l) ds) a in
+          let r = list_any_member (opens l) ds p.1 in
+          opened_the job lives port log l.connid plain (subst (λ (d : Deed). Member d ds) (opens_parts l r.0 r.2) r.1) ∙ ap lives (sym (eqb-true l.port.0 port p.0))
+    ]
+
+-- an instruction of a plain job that did is plain, where what it inserts is the one life of a port
+plain_did : (job : Job) (lives : ℕ → Connid) (port : ℕ) (instr : Instr) → PlainJob job lives → Member instr (rank_of job port).ops
+    → ((l : Life) → instr ≡ Insert l → IsTheLife lives l) → IsPlainDid job.limits lives instr
+plain_did job lives port (OpenLife c) plain m the = tt
+plain_did job lives port (Insert life) plain m the = the life refl
+plain_did job lives port (Reg content) plain m the = tt
+plain_did job lives port (Send req) plain m the = plain port (Send req) m
+plain_did job lives port (Recv req) plain m the = tt
+plain_did job lives port (Cancel recv) plain m the = tt
+plain_did job lives port (NoteOp to what) plain m the = tt
+plain_did job lives port (Await from what) plain m the = tt
+plain_did job lives port (Wait count) plain m the = tt
+plain_did job lives port CloseLife plain m the = tt
+
+-- so is the deed of an instruction
+next_plain : (limits : EpLimits) (lives : ℕ → Connid) (o : Option Instr) (answer : Answer) → ((x : Instr) → deed_by_next o answer ≡ Did x → IsPlainDid limits lives x)
+    → IsPlainDeed limits lives (deed_by_next o answer)
 unfolding deed_by_next
-did_next P (Some instr) (DidAnswer what) h = h instr refl
-did_next P _ _ h = tt
+next_plain limits lives (Some instr) (DidAnswer what) h = h instr refl
+next_plain limits lives _ _ h = tt
 
--- a push is no instruction
-did_push : (P : Instr → Type 0) (body : Body) → DidIs P (deed_by_push body)
+-- so is a push
+push_plain : (limits : EpLimits) (lives : ℕ → Connid) (body : Body) → IsPlainDeed limits lives (deed_by_push body)
 unfolding deed_by_push
-did_push P (Note note) = tt
-did_push P (Between from to load) = tt
-
--- a handling is no instruction
-did_handle : (P : Instr → Type 0) (src : PortNo) (body : Body) (answer : Handled) → DidIs P (deed_by_handle src body answer)
-unfolding deed_by_handle
-did_handle P src (Note note) (TookAnswer entered) = tt
-did_handle P src (Between from to load) (TookAnswer entered) = tt
-did_handle P src _ _ = tt
-
--- an instruction that did is one of the program
-pub did_member : (ops : List Instr) (act : Act) → DidIs (λ instr. Member instr ops) (deed_of ops act)
-unfolding deed_of
-did_member ops (Next index op answer) = did_next (λ instr. Member instr ops) (slice_get ops index) answer (λ instr h. slice_get-member ops index instr h)
-did_member ops (Push d) = did_push (λ instr. Member instr ops) d.body
-did_member ops (Handle d answer) = did_handle (λ instr. Member instr ops) d.src d.body answer
-did_member ops (Poll c) = tt
-
--- what is open after a deed of the program is the program's life
-opened_here : (own : Own) (peer : Life) (ops : List Instr) (o : Option Connid) (d : Deed) (c : Connid) → PlainRank own peer ops → DidIs (λ instr. Member instr ops) d
-    → ((x : Connid) → o ≡ Some x → x ≡ own.life.connid) → open_after o d ≡ Some c → c ≡ own.life.connid
-unfolding open_after
-opened_here own peer ops o (Did (OpenLife x)) c rank m was is = (let same : x ≡ c = cc in sym same ∙ rank.opens x m)
-opened_here own peer ops o (Did CloseLife) c rank m was is = cc
-opened_here own peer ops o _ c rank m was is = was c is
-
--- the life that is open is the program's
-pub open_is : (own : Own) (peer : Life) (ops : List Instr) (log : List Entry) (c : Connid) → PlainRank own peer ops → open_life (deeds ops log) ≡ Some c → c ≡ own.life.connid
-unfolding open_life deeds
-open_is own peer ops [] c rank is = cc
-open_is own peer ops (e ∷ before) c rank is =
-    opened_here own peer ops (open_life (deeds ops before)) (deed_of ops e.act) c rank (did_member ops e.act) (λ x h. open_is own peer ops before x rank h) is
-
--- what is open after a deed was opened by it or before
-opened_counts : (o : Option Connid) (d : Deed) (c : Connid) (n : ℕ) → ((x : Connid) → o ≡ Some x → 1 ≤ n) → open_after o d ≡ Some c → 1 ≤ n + did_as open_count d
-unfolding open_after did_as open_count
-opened_counts o (Did (OpenLife x)) c n was is = omega arith
-opened_counts o (Did CloseLife) c n was is = cc
-opened_counts o _ c n was is = let a = was c is in omega arith
-
--- where a life is open, it was opened
-open_counts : (log : List Deed) (c : Connid) → open_life log ≡ Some c → 1 ≤ deed_count (did_as open_count) log
-unfolding open_life deed_count
-open_counts [] c is = cc
-open_counts (d ∷ before) c is = opened_counts (open_life before) d c (deed_count (did_as open_count) before) (λ x h. open_counts before x h) is
-
--- an instruction that counts no open opens none
-no_open : (instr : Instr) → did_as open_count (Did instr) ≤ 0 → OpensNone instr
-unfolding did_as open_count
-no_open (OpenLife c) h = absurd (omega arith)
-no_open (Insert life) h = tt
-no_open (Reg content) h = tt
-no_open (Send req) h = tt
-no_open (Recv req) h = tt
-no_open (Cancel recv) h = tt
-no_open (NoteOp to what) h = tt
-no_open (Await from what) h = tt
-no_open (Wait count) h = tt
-no_open CloseLife h = tt
+push_plain limits lives (Note note) = tt
+push_plain limits lives (Between from to load) = tt
 
 -- a plain packet is a plain item
 spelled_plain : (first : ℕ) (p : Packet) → IsPlainPacket first p → IsPlainLoad first (packet_item (Some p))
 unfolding packet_item
 spelled_plain first p h = h
 
--- where all opens are counted the newest deed is none
-none_more : (before : List Deed) (d : Deed) (n : ℕ) → 1 ≤ deed_count (did_as open_count) before → deed_count (did_as open_count) (d ∷ before) ≤ n → n ≤ 1 → did_as open_count d ≤ 0
-unfolding deed_count
-none_more before d n once all most = omega arith
-
--- what a port takes of the other life
-took_peer : (own : Own) (i j : Life) (port : ℕ) (d : Datagram) (body : Body) (answer : Handled) → i.port.0 ≡ port → (i.port.0 ≡ j.port.0 → ⊥)
-    → IsPlainBody i j own.limits.first d body → d.dst.0 ≡ port → IsWithPeer own j (deed_by_handle d.src body answer)
+-- so is what was taken of a plain datagram
+took_plain : (limits : EpLimits) (lives : ℕ → Connid) (d : Datagram) (body : Body) (answer : Handled) → IsPlainBody lives limits.first d body
+    → IsPlainDeed limits lives (deed_by_handle d.src body answer)
 unfolding deed_by_handle item_of
-took_peer own i j port d (Between from to (PacketLoad bytes)) (TookAnswer entered) mine apart h dst =
-    let P : Option Packet → Type 0 = λ o. IsPlainLoad own.limits.first (packet_item o) in
-    let loaded : IsPlainLoad own.limits.first (packet_item (packet_in bytes)) = subst P (sym h.1.1) (spelled_plain own.limits.first h.1.0 h.1.2) in
-    let source : life d.src from ≡ j = elim h.0 [
-      | inl a ↦ absurd (apart (mine ∙ sym dst ∙ ap (λ (l : Life). l.port.0) a.1))
-      | inr a ↦ a.0
-    ] in
-    (source, loaded)
-took_peer own i j port d (Between from to (Ask a)) answer mine apart h dst = elim h [ ]
-took_peer own i j port d (Between from to (Given g)) answer mine apart h dst = elim h [ ]
-took_peer own i j port d (Note note) (TookAnswer entered) mine apart h dst = tt
-took_peer own i j port d _ _ mine apart h dst = tt
+took_plain limits lives d (Between from to (PacketLoad bytes)) (TookAnswer entered) h =
+    let P : Option Packet → Type 0 = λ o. IsPlainLoad limits.first (packet_item o) in
+    (h.0, subst P (sym h.2.1) (spelled_plain limits.first h.2.0 h.2.2))
+took_plain limits lives d (Between from to (Ask a)) answer h = elim h [ ]
+took_plain limits lives d (Between from to (Given g)) answer h = elim h [ ]
+took_plain limits lives d (Note note) (TookAnswer entered) h = tt
+took_plain limits lives d _ _ h = tt
 
--- an instruction that did has to do with the other life alone
-did_with_peer : (own : Own) (peer : Life) (ops : List Instr) (d : Deed) → PlainRank own peer ops → DidIs (λ instr. Member instr ops) d
-    → did_as open_count d ≤ 0 → DidIs (λ instr. IsPlainOp own peer instr × OpensNone instr) d
-did_with_peer own peer ops (Did instr) rank m none = (rank.plain instr m, no_open instr none)
-did_with_peer own peer ops PushedNote rank m none = tt
-did_with_peer own peer ops Pushed rank m none = tt
-did_with_peer own peer ops (TookNote from note) rank m none = tt
-did_with_peer own peer ops (Took from item) rank m none = tt
-did_with_peer own peer ops Polled rank m none = tt
-did_with_peer own peer ops Nothing rank m none = tt
-
--- so has the deed of an instruction
-next_with_peer : (own : Own) (peer : Life) (o : Option Instr) (answer : Answer) → DidIs (λ instr. IsPlainOp own peer instr × OpensNone instr) (deed_by_next o answer)
-    → IsWithPeer own peer (deed_by_next o answer)
-unfolding deed_by_next
-next_with_peer own peer (Some instr) (DidAnswer what) h = h
-next_with_peer own peer _ _ h = tt
-
--- so has a push
-push_with_peer : (own : Own) (peer : Life) (body : Body) → IsWithPeer own peer (deed_by_push body)
-unfolding deed_by_push
-push_with_peer own peer (Note note) = tt
-push_with_peer own peer (Between from to load) = tt
-
--- so has each act
-act_with_peer : (own : Own) (i j : Life) (port : ℕ) (ops : List Instr) (act : Act) → i.port.0 ≡ port → (i.port.0 ≡ j.port.0 → ⊥) → PlainRank own j ops
-    → did_as open_count (deed_of ops act) ≤ 0 → IsPlainHandle i j own.limits.first port act → IsWithPeer own j (deed_of ops act)
+-- so is each act
+act_plain : (limits : EpLimits) (lives : ℕ → Connid) (ops : List Instr) (act : Act) → ((x : Instr) → deed_of ops act ≡ Did x → IsPlainDid limits lives x)
+    → IsPlainHandle lives limits.first act → IsPlainDeed limits lives (deed_of ops act)
 unfolding deed_of
-act_with_peer own i j port ops (Next index op answer) mine apart rank none h =
-    next_with_peer own j (slice_get ops index) answer
-    (did_with_peer own j ops (deed_by_next (slice_get ops index) answer) rank
-    (did_next (λ instr. Member instr ops) (slice_get ops index) answer (λ instr k. slice_get-member ops index instr k)) none)
-act_with_peer own i j port ops (Push d) mine apart rank none h = push_with_peer own j d.body
-act_with_peer own i j port ops (Handle d answer) mine apart rank none h = took_peer own i j port d d.body answer mine apart h.0 h.1
-act_with_peer own i j port ops (Poll c) mine apart rank none h = tt
+act_plain limits lives ops (Next index op answer) did h = next_plain limits lives (slice_get ops index) answer did
+act_plain limits lives ops (Push d) did h = push_plain limits lives d.body
+act_plain limits lives ops (Handle d answer) did h = took_plain limits lives d d.body answer h
+act_plain limits lives ops (Poll c) did h = tt
 
--- the deeds of a plain rank's life have to do with the other life alone
-pub life_with_peer : (job : Job) (i j : Life) (log : List Entry) → (i.port.0 ≡ j.port.0 → ⊥) → PlainRank (own_of job i) j (rank_of job i.port.0).ops
-    → Local job i.port.0 log → ArePlainHandles i j job.limits.first i.port.0 log → AreWithPeer (own_of job i) j (of_life i.connid (deeds_at job i.port.0 log))
-unfolding of_life deeds_at deeds own_of
-life_with_peer job i j [] apart rank l h = tt
-life_with_peer job i j (e ∷ before) apart rank l h =
-    let own = own_of job i in
-    let ops = (rank_of job i.port.0).ops in
-    let d = deed_of ops e.act in
-    let was = life_with_peer job i j before apart rank l.0 h.0 in
-    let all = did_within job i.port.0 open_count (e ∷ before) l in
-    let most = rank.one_open in
-    at_of_life (AreWithPeer own j) i.connid d (deeds ops before)
-    (λ is.
-    let once = open_counts (deeds ops before) i.connid is in
-    let none : did_as open_count d ≤ 0 = none_more (deeds ops before) d (sum_by open_count ops) once all most in
-    (was, act_with_peer own i j i.port.0 ops e.act refl apart rank none h.1))
-    (λ other. was)
+-- the newest deed of a port is plain
+newest_plain : (job : Job) (lives : ℕ → Connid) (logs : ℕ → List Entry) (port : ℕ) (e : Entry) (before : List Entry) → PlainJob job lives → ((p : ℕ) → Local job p (logs p))
+    → AllHadWaited logs port before → Local job port (e ∷ before) → IsPlainHandle lives job.limits.first e.act → IsPlainDeed job.limits lives (deed_of (rank_of job port).ops e.act)
+newest_plain job lives logs port e before plain local had l h =
+    let ops = (rank_of job port).ops in
+    act_plain job.limits lives ops e.act
+    (λ x is. plain_did job lives port x plain (act_op ops e.act x is)
+    (λ life same. knows_the job lives logs port before life plain local had (act_knows job port before e life l.1 l.2.2 (is ∙ ap Did same))))
+    h
+
+-- the deeds of each life of a port are plain
+pub life_plain : (job : Job) (lives : ℕ → Connid) (logs : ℕ → List Entry) (port : ℕ) (c : Connid) (log : List Entry) → PlainJob job lives → ((p : ℕ) → Local job p (logs p))
+    → AllHadWaited logs port log → Local job port log → ArePlainHandles lives job.limits.first log → ArePlainDeeds job.limits lives (of_life c (deeds_at job port log))
+unfolding of_life deeds_at deeds
+life_plain job lives logs port c [] plain local had l h = tt
+life_plain job lives logs port c (e ∷ before) plain local had l h =
+    let ops = (rank_of job port).ops in
+    let was = life_plain job lives logs port c before plain local had.0 l.0 h.0 in
+    at_of_life (ArePlainDeeds job.limits lives) c (deed_of ops e.act) (deeds ops before)
+    (λ is. (was, newest_plain job lives logs port e before plain local had.0 l h.1)) (λ other. was)

@@ -1,5 +1,5 @@
 -- What waits for a port of a plain world is built for the endpoint that is open there.
-use Rattle.std.proofs.Common.{◌≡◌, ℕ, false, List, ◌++◌, Option, Some, None, IsTrue, refl, inl, inr, sym, ◌∙◌, ap, subst}
+use Rattle.std.proofs.Common.{◌≡◌, ℕ, false, List, ◌++◌, Option, Some, None, IsTrue, refl, sym, ap, subst}
 use Rattle.rdm_num.specs.Lists.{Member}
 use Rattle.rdm_num.specs.Lives.{life}
 use Rattle.rdm_num.specs.declared.numbers.Connid.{Connid}
@@ -25,8 +25,7 @@ use Rattle.rdm_model.specs.Local.{own_scene}
 use Rattle.rdm_model.specs.Worlds.{World, scene_in}
 use Rattle.rdm_law.proofs.Sound.{waiting_in}
 use Rattle.rdm_law.proofs.PlainDeeds.{IsPlainPacket, IsPlainItem}
-use Rattle.rdm_law.proofs.PlainPorts.{IsPlainBody}
-use Rattle.rdm_law.proofs.PlainWorlds.{PlainJob, swapped, swapped_body, swapped_handles}
+use Rattle.rdm_law.proofs.PlainPorts.{PlainJob, IsPlainBody}
 use Rattle.rdm_law.proofs.PlainPlayed.{PlainWorld}
 use Rattle.rdm_law.proofs.MessageOnce.{HasMessage, waits_unheard}
 
@@ -35,78 +34,61 @@ abbrev pub IsBuiltBody : Own → List Deed → Datagram → Body → Type 0
 IsBuiltBody own log d (Note note) = Unit {0}
 IsBuiltBody own log d (Between from to load) = IsPlainItem own log (life d.src from) (item_of load)
 
--- either life may be named first
-swapped_world : (job : Job) (i j : Life) (w : World) → PlainWorld job i j w → PlainWorld job j i w
-swapped_world job i j w p = record {
-  sound = p.sound;
-  has = record {
-    handled = λ port. swapped_handles i j job.limits.first port (w.logs port) (p.has.handled port);
-    waiting = λ port d m. (let h = p.has.waiting port d m in (swapped_body i j job.limits.first d d.body h.0, h.1));
-  };
-}
-
 -- what the open life of a port has not heard of
-open_unheard : (job : Job) (i j : Life) (w : World) (port : ℕ) (number : MsgNo) (d : Datagram) (o : Option Connid) → IsTrue (is_fair law_ops job) → PlainJob job i j → PlainWorld job i j w
+open_unheard : (job : Job) (lives : ℕ → Connid) (i : Life) (w : World) (port : ℕ) (number : MsgNo) (d : Datagram) (o : Option Connid) → IsTrue (is_fair law_ops job) → PlainJob job lives → PlainWorld job lives w
     → Member d (waiting_in w port) → HasMessage i number d → is_heard (of_open_life o (deeds_at job port (w.logs port))) i number.0 ≡ false
 unfolding of_open_life is_heard heard_head
-open_unheard job i j w port number d None fair plain p m has = refl
-open_unheard job i j w port number d (Some c) fair plain p m has = waits_unheard job i j w port c d number fair plain p m has
+open_unheard job lives i w port number d None fair plain p m has = refl
+open_unheard job lives i w port number d (Some c) fair plain p m has = waits_unheard job lives i w port c d number fair plain p m has
 
--- a packet that opens a message of a life is one
-has_message : (i : Life) (d : Datagram) (from to : Connid) (bytes : List ℕ) (number : MsgNo) (tag : Option ℕ) (opt : Opt) (form : Form) → d.body ≡ Between from to (PacketLoad bytes)
-    → life d.src from ≡ i → packet_in bytes ≡ Some (Rtm number tag opt form) → HasMessage i number d
+-- a packet that opens a message is one of the life that pushed it
+has_message : (d : Datagram) (from to : Connid) (bytes : List ℕ) (number : MsgNo) (tag : Option ℕ) (opt : Opt) (form : Form) → d.body ≡ Between from to (PacketLoad bytes)
+    → packet_in bytes ≡ Some (Rtm number tag opt form) → HasMessage (life d.src from) number d
 unfolding item_of packet_item
-has_message i d from to bytes number tag opt form body is packet =
-    let connid : from ≡ i.connid = ap (λ (l : Life). l.connid) is in
-    record {
-      to = to;
-      load = PacketLoad bytes;
-      src_is = ap (λ (l : Life). l.port) is;
-      body_is = body ∙ ap (λ (c : Connid). Between c to (PacketLoad bytes)) connid;
-      tag = tag;
-      opt = opt;
-      form = form;
-      item_is = ap packet_item packet;
-    }
+has_message d from to bytes number tag opt form body packet = record {
+  to = to;
+  load = PacketLoad bytes;
+  src_is = refl;
+  body_is = body;
+  tag = tag;
+  opt = opt;
+  form = form;
+  item_is = ap packet_item packet;
+}
 
--- a plain packet of one of the lives
-packet_built : (job : Job) (i j : Life) (w : World) (port : ℕ) (d : Datagram) (from to : Connid) (bytes : List ℕ) (p : Packet) (o : Option Connid) → IsTrue (is_fair law_ops job)
-    → PlainJob job i j → PlainWorld job i j w → Member d (waiting_in w port) → d.body ≡ Between from to (PacketLoad bytes) → life d.src from ≡ i → packet_in bytes ≡ Some p
+-- a plain packet is built
+packet_built : (job : Job) (lives : ℕ → Connid) (w : World) (port : ℕ) (d : Datagram) (from to : Connid) (bytes : List ℕ) (p : Packet) (o : Option Connid) → IsTrue (is_fair law_ops job)
+    → PlainJob job lives → PlainWorld job lives w → Member d (waiting_in w port) → d.body ≡ Between from to (PacketLoad bytes) → packet_in bytes ≡ Some p
     → IsPlainPacket job.limits.first p → IsPlainItem (own_of job (life_at port o)) (of_open_life o (deeds_at job port (w.logs port))) (life d.src from) (Spelled p)
 unfolding own_of
-packet_built job i j w port d from to bytes (Rtm number tag opt (Eager data')) o fair plain world m body is packet h =
-    let unheard = open_unheard job i j w port number d o fair plain world m (has_message i d from to bytes number tag opt (Eager data') body is packet) in
-    (h, subst (λ (l : Life). is_heard (of_open_life o (deeds_at job port (w.logs port))) l number.0 ≡ false) (sym is) unheard)
-packet_built job i j w port d from to bytes (Handshake words connid) o fair plain world m body is packet h = tt
-packet_built job i j w port d from to bytes (Rtm number tag opt (Medium size offset data')) o fair plain world m body is packet h = h
-packet_built job i j w port d from to bytes (Rtm number tag opt (LongCts size send credits data')) o fair plain world m body is packet h = h
-packet_built job i j w port d from to bytes (Rtm number tag opt (LongRead size send iov)) o fair plain world m body is packet h = h
-packet_built job i j w port d from to bytes (Rtm number tag opt (Runt size send iov runt offset data')) o fair plain world m body is packet h = h
-packet_built job i j w port d from to bytes (Cts send recv size connid) o fair plain world m body is packet h = h
-packet_built job i j w port d from to bytes (CtsData recv offset connid data') o fair plain world m body is packet h = h
-packet_built job i j w port d from to bytes (Eor send recv connid) o fair plain world m body is packet h = h
+packet_built job lives w port d from to bytes (Rtm number tag opt (Eager data')) o fair plain world m body packet h =
+    (h, open_unheard job lives (life d.src from) w port number d o fair plain world m (has_message d from to bytes number tag opt (Eager data') body packet))
+packet_built job lives w port d from to bytes (Handshake words connid) o fair plain world m body packet h = tt
+packet_built job lives w port d from to bytes (Rtm number tag opt (Medium size offset data')) o fair plain world m body packet h = h
+packet_built job lives w port d from to bytes (Rtm number tag opt (LongCts size send credits data')) o fair plain world m body packet h = h
+packet_built job lives w port d from to bytes (Rtm number tag opt (LongRead size send iov)) o fair plain world m body packet h = h
+packet_built job lives w port d from to bytes (Rtm number tag opt (Runt size send iov runt offset data')) o fair plain world m body packet h = h
+packet_built job lives w port d from to bytes (Cts send recv size connid) o fair plain world m body packet h = h
+packet_built job lives w port d from to bytes (CtsData recv offset connid data') o fair plain world m body packet h = h
+packet_built job lives w port d from to bytes (Eor send recv connid) o fair plain world m body packet h = h
 
 -- what waits is built
-body_built : (job : Job) (i j : Life) (w : World) (port : ℕ) (d : Datagram) (body : Body) (o : Option Connid) → IsTrue (is_fair law_ops job) → PlainJob job i j → PlainWorld job i j w
-    → Member d (waiting_in w port) → d.body ≡ body → IsPlainBody i j job.limits.first d body
+body_built : (job : Job) (lives : ℕ → Connid) (w : World) (port : ℕ) (d : Datagram) (body : Body) (o : Option Connid) → IsTrue (is_fair law_ops job) → PlainJob job lives → PlainWorld job lives w
+    → Member d (waiting_in w port) → d.body ≡ body → IsPlainBody lives job.limits.first d body
     → IsBuiltBody (own_of job (life_at port o)) (of_open_life o (deeds_at job port (w.logs port))) d body
 unfolding item_of packet_item
-body_built job i j w port d (Note note) o fair plain world m is h = tt
-body_built job i j w port d (Between from to (Ask a)) o fair plain world m is h = elim h [ ]
-body_built job i j w port d (Between from to (Given g)) o fair plain world m is h = elim h [ ]
-body_built job i j w port d (Between from to (PacketLoad bytes)) o fair plain world m is h =
+body_built job lives w port d (Note note) o fair plain world m is h = tt
+body_built job lives w port d (Between from to (Ask a)) o fair plain world m is h = elim h [ ]
+body_built job lives w port d (Between from to (Given g)) o fair plain world m is h = elim h [ ]
+body_built job lives w port d (Between from to (PacketLoad bytes)) o fair plain world m is h =
     let own = own_of job (life_at port o) in
     let log = of_open_life o (deeds_at job port (w.logs port)) in
     let P : Option Packet → Type 0 = λ x. IsPlainItem own log (life d.src from) (packet_item x) in
-    let built : IsPlainItem own log (life d.src from) (Spelled h.1.0) = elim h.0 [
-      | inl a ↦ packet_built job i j w port d from to bytes h.1.0 o fair plain world m is a.0 h.1.1 h.1.2
-      | inr a ↦ packet_built job j i w port d from to bytes h.1.0 o fair (swapped job i j plain) (swapped_world job i j w world) m is a.0 h.1.1 h.1.2
-    ] in
-    subst P (sym h.1.1) built
+    subst P (sym h.2.1) (packet_built job lives w port d from to bytes h.2.0 o fair plain world m is h.2.1 h.2.2)
 
 -- each datagram in a queue or a stash is a note, or built for the open life of its port
-pub waiting_built : (job : Job) (i j : Life) (w : World) (port : ℕ) (d : Datagram) → IsTrue (is_fair law_ops job) → PlainJob job i j → PlainWorld job i j w
+pub waiting_built : (job : Job) (lives : ℕ → Connid) (w : World) (port : ℕ) (d : Datagram) → IsTrue (is_fair law_ops job) → PlainJob job lives → PlainWorld job lives w
     → Member d (w.stashes port ++ w.queues port) → IsBuiltBody (scene_in job w port).own (scene_in job w port).log d d.body
 unfolding scene_in own_scene scene
-waiting_built job i j w port d fair plain p m =
-    body_built job i j w port d d.body (open_life (deeds_at job port (w.logs port))) fair plain p m refl (p.has.waiting port d m).0
+waiting_built job lives w port d fair plain p m =
+    body_built job lives w port d d.body (open_life (deeds_at job port (w.logs port))) fair plain p m refl (p.has.waiting port d m)

@@ -1,5 +1,6 @@
--- The worlds of a job of two plain ranks are built.
-use Rattle.std.proofs.Common.{List, IsTrue}
+-- The worlds of a plain job are built.
+use Rattle.std.proofs.Common.{ℕ, List, IsTrue}
+use Rattle.rdm_num.specs.declared.numbers.Connid.{Connid}
 use Rattle.rdm_num.specs.declared.numbers.Life.{Life}
 use Rattle.rdm_num.specs.Lives.{life}
 use Rattle.rdm_pkt.specs.declared.Packet.TheVariants.{Rtm, Handshake}
@@ -15,7 +16,7 @@ use Rattle.rdm_model.specs.Worlds.{World, new_world, scene_in, after_choices}
 use Rattle.rdm_law.proofs.PlainDeeds as Law
 use Rattle.rdm_law.proofs.PlainWaiting.{waiting_built}
 use Rattle.rdm_law.proofs.PlainWaiting as Waiting
-use Rattle.rdm_law.proofs.PlainWorlds.{PlainJob}
+use Rattle.rdm_law.proofs.PlainPorts.{PlainJob}
 use Rattle.rdm_law.proofs.PlainPlayed.{PlainWorld, new_plain_world, plain_keeps}
 use Rattle.rdm_law.proofs.PlayedSteps.{choices_keep}
 use Rattle.rdm_ep.specs.Plain.{IsPlainItem}
@@ -34,12 +35,12 @@ same_body own log d (Note note) h = h
 same_body own log d (Between from to load) h = same_item own log (life d.src from) (item_of load) h
 
 -- a plain world is built
-plain_built : (job : Job) (i j : Life) (w : World) → IsTrue (is_fair law_ops job) → PlainJob job i j → PlainWorld job i j w → IsBuiltWorld job w
-plain_built job i j w fair plain p port d m =
-    same_body (scene_in job w port).own (scene_in job w port).log d d.body (waiting_built job i j w port d fair plain p m)
+plain_built : (job : Job) (lives : ℕ → Connid) (w : World) → IsTrue (is_fair law_ops job) → PlainJob job lives → PlainWorld job lives w → IsBuiltWorld job w
+plain_built job lives w fair plain p port d m =
+    same_body (scene_in job w port).own (scene_in job w port).log d d.body (waiting_built job lives w port d fair plain p m)
 
 -- each world of such a job that choices reach is built
-pub plain_stays_built : (job : Job) (i j : Life) → IsTrue (is_fair law_ops job) → PlainJob job i j → StaysBuilt job new_world
-plain_stays_built job i j fair plain cs ranks =
-    plain_built job i j (after_choices job new_world cs) fair plain
-    (choices_keep job (PlainWorld job i j) (plain_keeps job i j fair plain) cs new_world ranks (new_plain_world job i j))
+pub plain_stays_built : (job : Job) (lives : ℕ → Connid) → IsTrue (is_fair law_ops job) → PlainJob job lives → StaysBuilt job new_world
+plain_stays_built job lives fair plain cs ranks =
+    plain_built job lives (after_choices job new_world cs) fair plain
+    (choices_keep job (PlainWorld job lives) (plain_keeps job lives fair plain) cs new_world ranks (new_plain_world job lives))
