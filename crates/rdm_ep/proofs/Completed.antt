@@ -8,7 +8,7 @@ use Rattle.rdm_num.specs.declared.completion.Completion.{Completion}
 use Rattle.rdm_model.specs.Deeds.{Deed, Pushed}
 use Rattle.rdm_model.specs.Owns.{Own, Messages}
 use Rattle.rdm_model.specs.Matches.{receives}
-use Rattle.rdm_model.specs.Receives.{RecvEnd, Filled, recv_ends, recv_ends_by}
+use Rattle.rdm_model.specs.Receives.{RecvEnd, recv_ends, recv_ends_by}
 use Rattle.rdm_model.specs.Regions.{after_ends, region_by, regions}
 use Rattle.rdm_model.specs.Sends.{Sent, sends}
 use Rattle.rdm_model.specs.Replies.{Reply}
@@ -26,8 +26,7 @@ use Rattle.rdm_ep.proofs.Currents.{never_forgotten}
 use Rattle.rdm_ep.proofs.EagerSends.{send_number, sends_apart, has_any}
 use Rattle.rdm_ep.proofs.Progress.{sends_left, push_left, sends_are}
 use Rattle.rdm_ep.proofs.Pushes.{own_progress, own_live_sends, sends_ended, ended_left, live_of_is, live_sends_are}
-use Rattle.rdm_ep.proofs.Pairs.{new_pairs}
-use Rattle.rdm_ep.proofs.Ends.{ends_step}
+use Rattle.rdm_ep.proofs.Ends.{ends_of, ends_step}
 
 -- one of the sends has that number
 abbrev pub has_number : List Sent → ℕ → Bool
@@ -133,14 +132,14 @@ own_regions own log = regions own.limits.first (heard_by own.limits.first log) l
 
 -- the completions of the receives that a plain deed ends, and those of the sends
 abbrev pub new_received : Own → List Deed → Deed → List Completion
-new_received own before d = recv_completions (heard_by own.limits.first (d ∷ before)) (receives (d ∷ before)) (map Filled (new_pairs own before d))
+new_received own before d = recv_completions (heard_by own.limits.first (d ∷ before)) (receives (d ∷ before)) (ends_of own before d)
 
 abbrev pub new_sent_done : Own → List Deed → Deed → List Completion
 new_sent_done own before d = map (send_completion (d ∷ before)) (ended_left d (own_progress own before).replies (own_live_sends own before))
 
 -- the receives that a plain deed ends, by its own account
 ends_by_account : (own : Own) (log : List Deed) (d : Deed) (before : List Deed) (ends : List RecvEnd) → log ≡ d ∷ before → IsPlain own (d ∷ before)
-    → recv_ends_by own.limits.first (heard_by own.limits.first log).head d before ends ≡ map Filled (new_pairs own before d)
+    → recv_ends_by own.limits.first (heard_by own.limits.first log).head d before ends ≡ ends_of own before d
 unfolding heard_by
 ends_by_account own log d before ends e h = rw e (ends_step own d before ends h)
 
@@ -163,7 +162,7 @@ completions_step own d before h =
 -- the regions after a plain deed
 pub regions_step : (own : Own) (d : Deed) (before : List Deed) → IsPlain own (d ∷ before)
     → own_regions own (d ∷ before)
-    ≡ after_ends (heard_by own.limits.first (d ∷ before)) (receives (d ∷ before)) (map Filled (new_pairs own before d)) (own_regions own before) ++ region_by d
+    ≡ after_ends (heard_by own.limits.first (d ∷ before)) (receives (d ∷ before)) (ends_of own before d) (own_regions own before) ++ region_by d
 unfolding regions
 regions_step own d before h =
     let first = own.limits.first in
@@ -172,4 +171,4 @@ regions_step own d before h =
     let g = regions_same first was now before (agree_grows first d before) in
     let r = ends_by_account own (d ∷ before) d before (recv_ends first now.head before) refl h in
     ap (λ (es : List RecvEnd). after_ends now (receives (d ∷ before)) es (regions first now before) ++ region_by d) r
-    ∙ ap (λ (rs : List (List ℕ)). after_ends now (receives (d ∷ before)) (map Filled (new_pairs own before d)) rs ++ region_by d) (sym g)
+    ∙ ap (λ (rs : List (List ℕ)). after_ends now (receives (d ∷ before)) (ends_of own before d) rs ++ region_by d) (sym g)

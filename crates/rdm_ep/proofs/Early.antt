@@ -10,7 +10,7 @@ use Rattle.rdm_num.specs.declared.numbers.Life.{Life}
 use Rattle.rdm_match.specs.declared.PostedRecv.{PostedRecv}
 use Rattle.rdm_match.specs.declared.Arrived.{Arrived}
 use Rattle.rdm_match.specs.Matcher.{Arrive, Pair, Matching, accepts, after_post, after_arrive, after, run}
-use Rattle.rdm_model.specs.declared.job.Instr.TheVariants.{Recv}
+use Rattle.rdm_model.specs.declared.job.Instr.TheVariants.{Recv, Cancel}
 use Rattle.rdm_model.specs.Deeds.{Deed, Did, Took}
 use Rattle.rdm_model.specs.Owns.{Own, Heads}
 use Rattle.rdm_model.specs.Heard.{has_entered, entering}
@@ -206,6 +206,8 @@ most_after own (Did (Recv req)) before x k =
     let o = occurs_post m r x (find (accepts r) m.arrived) refl in
     let n = k.most in
     (λ e. (let z = k.none (not_entered own.limits.first (Did (Recv req)) before x.life x.number e) in omega arith), omega arith)
+most_after own (Did (Cancel recv)) before x k =
+    (λ e. k.none (not_entered own.limits.first (Did (Cancel recv)) before x.life x.number e), k.most)
 most_after own d before x k = most_arrived own d before x k
 
 -- no name has two messages

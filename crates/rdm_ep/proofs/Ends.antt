@@ -1,28 +1,29 @@
--- Of plain deeds: a receive ends when it meets its message, and no other ends.
-use Rattle.std.proofs.Common.{◌≡◌, Bool, true, false, not, List, [], ◌∷◌, ◌++◌, map, refl, ap, ◌∙◌, sym, subst}
+-- Of plain deeds: a receive ends when it meets its message, or when it is taken back.
+use Rattle.std.proofs.Common.{◌≡◌, ℕ, ◌<◌, Bool, true, false, not, List, [], ◌∷◌, ◌++◌, map, length, refl, arith, inl, inr, ap, ◌∙◌, sym, subst, length-append}
 use Rattle.std.proofs.Math.Bool.{and-false}
-use Rattle.std.specs.Prelude.{◌&&◌, filter}
-use Rattle.std.proofs.lemmas.Bool.{and_from, and_left}
-use Rattle.std.proofs.lemmas.List.{append-nil, map-append}
+use Rattle.std.specs.Prelude.{◌&&◌, filter, find}
+use Rattle.std.proofs.lemmas.Bool.{and_from, and_left, eqb-true}
+use Rattle.std.proofs.lemmas.List.{append-nil}
 use Rattle.std.proofs.lemmas.List.Elements.{filter-append}
 use Rattle.rdm_num.specs.Lists.{Member}
-use Rattle.rdm_match.specs.Matcher.{Pair, is_pair}
+use Rattle.rdm_num.specs.declared.numbers.RecvNo.{RecvNo}
+use Rattle.rdm_match.specs.Matcher.{Pair, is_pair, is_recv}
 use Rattle.rdm_model.specs.declared.job.Instr.TheVariants.{Cancel}
 use Rattle.rdm_model.specs.Deeds.{Deed, Did}
 use Rattle.rdm_model.specs.Owns.{Own}
-use Rattle.rdm_model.specs.Matches.{pairs, matching}
+use Rattle.rdm_model.specs.Matches.{pairs, receives, with_received, received_by}
 use Rattle.rdm_model.specs.Parts.{has_landed}
-use Rattle.rdm_model.specs.Receives.{RecvEnd, Filled, is_filled, filled_by, withdrawn_by, recv_ends_by, with_recv_ends, recv_ends}
+use Rattle.rdm_model.specs.Receives.{RecvEnd, Filled, Withdrawn, ended_recv, is_filled, filled_by, withdrawn_by, recv_ends_by, with_recv_ends, recv_ends}
 use Rattle.rdm_model.specs.Local.{heads_by}
-use Rattle.rdm_ep.specs.Plain.{IsPlainDeed, IsPlain}
-use Rattle.rdm_model.proofs.Members.{member-append_right}
+use Rattle.rdm_ep.specs.Plain.{IsPlain}
+use Rattle.rdm_model.proofs.Members.{member-append_right, member-append_cases, member-map, find_member, some_of}
 use Rattle.rdm_model.proofs.Matches.{member_is_pair, pair_heard}
 use Rattle.rdm_model.proofs.SameReceives.{is_filled_same, recv_ends_same}
 use Rattle.rdm_model.proofs.Grows.{heads_grow}
 use Rattle.rdm_ep.proofs.Apart.{filter_all, filter_nothing}
 use Rattle.rdm_ep.proofs.Currents.{forgotten_none}
 use Rattle.rdm_ep.proofs.Accounts.{heard_landed}
-use Rattle.rdm_ep.proofs.Pairs.{own_matching, new_pairs, pairs_step, new_unpaired}
+use Rattle.rdm_ep.proofs.Pairs.{own_matching, event_of, met_by, met_by_all, new_pairs, pairs_step, ids_below, more_receives, new_unpaired}
 
 -- each pair is filled
 pub pair_filled : (own : Own) (log : List Deed) (p : Pair) → IsPlain own log → Member p (own_matching own log).pairs
@@ -67,32 +68,78 @@ filled_step own d before h =
     rw (is, not_before) refl) in
     ap (λ (ps : List Pair). filter t ps) step ∙ filter-append t olds news ∙ (rw (old, new) refl)
 
--- a plain deed takes no receive back
-withdrawn_none : (own : Own) (before : List Deed) (d : Deed) → IsPlainDeed own before d → withdrawn_by d ≡ []
-unfolding withdrawn_by
-withdrawn_none own before (Did (Cancel recv)) h = elim h [ ]
-withdrawn_none own before _ h = refl
+-- the receives that end by a plain deed: one that is taken back, or those of the pairs that it makes
+abbrev pub ends_of : Own → List Deed → Deed → List RecvEnd
+ends_of own before (Did (Cancel recv)) = Withdrawn recv.0 ∷ []
+ends_of own before d = map Filled (new_pairs own before d)
 
--- the receives that end by a plain deed are those of the pairs that it makes
-pub ends_step : (own : Own) (d : Deed) (before : List Deed) (ends : List RecvEnd) → IsPlain own (d ∷ before)
-    → recv_ends_by own.limits.first (heads_by (d ∷ before)) d before ends ≡ map Filled (new_pairs own before d)
+-- no pair is made where a receive is taken back
+pub cancel_pairs : (own : Own) (before : List Deed) (recv : RecvNo) → new_pairs own before (Did (Cancel recv)) ≡ []
+unfolding event_of met_by_all met_by
+cancel_pairs own before recv = refl
+
+-- of the pairs that a plain deed makes, of a receive that is taken back, and of no forgotten life
+ends_by : (own : Own) (d : Deed) (before : List Deed) (ends : List RecvEnd) → IsPlain own (d ∷ before)
+    → recv_ends_by own.limits.first (heads_by (d ∷ before)) d before ends ≡ map Filled (new_pairs own before d) ++ withdrawn_by d
 unfolding recv_ends_by
-ends_step own d before ends h =
+ends_by own d before ends h =
     let f = filled_step own d before h in
-    let w = withdrawn_none own before d h.1 in
     let n = forgotten_none own before d h.1 in
-    rw (f, w, n) (append-nil (map Filled (new_pairs own before d) ++ []) ∙ append-nil (map Filled (new_pairs own before d)))
+    rw (f, n) (append-nil (map Filled (new_pairs own before d) ++ withdrawn_by d))
 
--- the receives that ended are those of the pairs
-pub ends_are : (own : Own) (log : List Deed) → IsPlain own log → recv_ends own.limits.first (heads_by log) log ≡ map Filled (own_matching own log).pairs
-unfolding recv_ends with_recv_ends matching
-ends_are own [] h = refl
-ends_are own (d ∷ before) h =
+-- these are the receives that it ends
+ends_told : (own : Own) (d : Deed) (before : List Deed) → map Filled (new_pairs own before d) ++ withdrawn_by d ≡ ends_of own before d
+unfolding withdrawn_by
+ends_told own (Did (Cancel recv)) before = let e = cancel_pairs own before recv in rw e refl
+ends_told own d before = append-nil (map Filled (new_pairs own before d))
+
+-- the receives that end by a plain deed
+pub ends_step : (own : Own) (d : Deed) (before : List Deed) (ends : List RecvEnd) → IsPlain own (d ∷ before)
+    → recv_ends_by own.limits.first (heads_by (d ∷ before)) d before ends ≡ ends_of own before d
+ends_step own d before ends h = ends_by own d before ends h ∙ ends_told own d before
+
+-- the receives that ended, by what the deeds themselves tell
+abbrev pub own_ends : Own → List Deed → List RecvEnd
+own_ends own log = recv_ends own.limits.first (heads_by log) log
+
+-- the receives that ended after a plain deed
+pub ends_more : (own : Own) (d : Deed) (before : List Deed) → IsPlain own (d ∷ before) → own_ends own (d ∷ before) ≡ own_ends own before ++ ends_of own before d
+unfolding recv_ends with_recv_ends
+ends_more own d before h =
     let first = own.limits.first in
     let heads = heads_by (d ∷ before) in
-    let same = recv_ends_same first (heads_by before) heads before (heads_grow d before) in
-    let earlier : recv_ends first heads before ≡ map Filled (own_matching own before).pairs = sym same ∙ ends_are own before h.0 in
-    ap (λ (es : List RecvEnd). es ++ recv_ends_by first heads d before (recv_ends first heads before)) earlier
-    ∙ ap (λ (es : List RecvEnd). map Filled (own_matching own before).pairs ++ es) (ends_step own d before (recv_ends first heads before) h)
-    ∙ sym (map-append Filled (own_matching own before).pairs (new_pairs own before d))
-    ∙ ap (map Filled) (sym (pairs_step own d before h))
+    let same : recv_ends first heads before ≡ own_ends own before = sym (recv_ends_same first (heads_by before) heads before (heads_grow d before)) in
+    ap (λ (es : List RecvEnd). es ++ recv_ends_by first heads d before (recv_ends first heads before)) same
+    ∙ ap (λ (es : List RecvEnd). own_ends own before ++ es) (ends_step own d before (recv_ends first heads before) h)
+
+-- a receive that ended has a number below the count of receives
+abbrev pub EndedBelow : ℕ → List RecvEnd → Type 0
+EndedBelow count ends = (e : RecvEnd) → Member e ends → ended_recv e < count
+
+-- so does one that a plain deed ends
+new_below : (own : Own) (d : Deed) (before : List Deed) → IsPlain own (d ∷ before) → EndedBelow (length (receives (d ∷ before))) (ends_of own before d)
+unfolding receives with_received received_by is_recv ended_recv
+new_below own (Did (Cancel recv)) before h e (inl is) =
+    let r = some_of (find (is_recv recv.0) (own_matching own before).posted) h.1 in
+    let m = find_member (is_recv recv.0) r.0 (own_matching own before).posted r.1 in
+    let f = (ids_below own before h.0).waiting r.0 m.0 in
+    let n = eqb-true r.0.id.0 recv.0 m.1 in
+    let l = length-append (receives before) [] in
+    let k : recv.0 < length (receives before ++ []) = omega arith in
+    subst (λ (x : RecvEnd). ended_recv x < length (receives before ++ [])) is k
+new_below own (Did (Cancel recv)) before h e (inr never) = elim never [ ]
+new_below own d before h e m =
+    let r = member-map Filled e (new_pairs own before d) m in
+    let p = (ids_below own (d ∷ before) h).paired r.0
+    (subst (λ (ps : List Pair). Member r.0 ps) (sym (pairs_step own d before h)) (member-append_right r.0 (own_matching own before).pairs (new_pairs own before d) r.1)) in
+    subst (λ (x : RecvEnd). ended_recv x < length (receives (d ∷ before))) r.2 p
+
+-- each receive that ended has a number below the count of receives
+pub ended_below : (own : Own) (log : List Deed) → IsPlain own log → EndedBelow (length (receives log)) (own_ends own log)
+unfolding recv_ends
+ended_below own [] h = λ e m. elim m [ ]
+ended_below own (d ∷ before) h = λ e m.
+    elim (member-append_cases e (own_ends own before) (ends_of own before d) (subst (λ (es : List RecvEnd). Member e es) (ends_more own d before h) m)) [
+      | inl k ↦ (let f = ended_below own before h.0 e k in let g = more_receives d before in omega arith)
+      | inr k ↦ new_below own d before h e k
+    ]

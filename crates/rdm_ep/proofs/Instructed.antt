@@ -1,27 +1,36 @@
--- What an instruction that only registers, inserts or waits answers, by what the endpoint keeps.
+-- What an instruction that registers, inserts, cancels or waits answers, by what the endpoint keeps.
 use Rattle.std.proofs.Common.{◌≡◌, ℕ, Bool, true, false, cond, List, [], ◌∷◌, length, Option, Some, None, Ok, Err, refl, ap, ◌∙◌, sym, subst}
-use Rattle.std.specs.Prelude.{not, nat_lt}
+use Rattle.std.specs.Prelude.{◌==◌, not, nat_lt, find, is_some, option_map}
 use Rattle.rdm_num.specs.Lists.{first_case}
 use Rattle.rdm_num.specs.Lives.{same_life}
+use Rattle.rdm_num.specs.declared.numbers.RecvNo.{RecvNo}
 use Rattle.rdm_num.specs.declared.numbers.Life.{Life}
-use Rattle.rdm_model.specs.declared.job.Instr.TheVariants.{Insert, Reg, Wait}
+use Rattle.rdm_match.specs.Matcher.{is_recv}
+use Rattle.rdm_model.specs.declared.job.Instr.TheVariants.{Insert, Reg, Cancel, Wait}
 use Rattle.rdm_model.specs.declared.answer.Next.TheVariants.{Did, Refused, NotYet}
 use Rattle.rdm_model.specs.declared.answer.DidWhat.TheVariants.{Plain, Region}
-use Rattle.rdm_model.specs.declared.answer.Why.TheVariants.{Superseded}
+use Rattle.rdm_model.specs.declared.answer.Why.TheVariants.{Superseded, NotPosted}
 use Rattle.rdm_model.specs.declared.answer.Yet.TheVariants as Yet
 use Rattle.rdm_model.specs.Deeds.{Deed, Did as DidDeed}
 use Rattle.rdm_model.specs.Currents.{other_life, forgotten_by}
 use Rattle.rdm_model.specs.Notes.{knows_open}
+use Rattle.rdm_model.specs.Matches.{Receive}
+use Rattle.rdm_model.specs.Answers as A
+use Rattle.rdm_model.specs.Local.{heard_by}
 use Rattle.rdm_model.specs.Answers.{regions_of, answer_of}
 use Rattle.rdm_ep.specs.declared.answer.Inserted.{Inserted as InsertedAnswer}
 use Rattle.rdm_ep.specs.declared.answer.Inserted.TheVariants.{Inserted, Same}
 use Rattle.rdm_ep.specs.declared.answer.InsertRefused.TheVariants.{Superseded as TakesPlace}
 use Rattle.rdm_ep.specs.View.{EndpointView, current_in}
 use Rattle.rdm_ep.specs.Sending.{insert_answer}
+use Rattle.rdm_ep.specs.Cancelling as Ec
 use Rattle.rdm_ep.specs.Answers.{life_scene}
 use Rattle.rdm_ep.specs.Plain.{IsPlain}
-use Rattle.rdm_ep.specs.Keeps.{Keeps}
+use Rattle.rdm_ep.specs.Keeps.{posted_of, Keeps}
 use Rattle.rdm_ep.proofs.Currents.{never_superseded}
+use Rattle.rdm_ep.proofs.Options.{find-map, is_some-map}
+use Rattle.rdm_ep.proofs.Pairs.{own_matching}
+use Rattle.rdm_ep.proofs.Live.{seen, own_live, live_seen, waiting_are, waiting_found}
 use Rattle.rdm_ep.proofs.Counts.{regions_agree, polls_agree}
 
 -- a register answers the number of its region
@@ -35,6 +44,28 @@ pub wait_agrees : (ports : ℕ) (port_log log : List Deed) (v : EndpointView) (c
     → answer_of (life_scene ports v.own port_log log) (Wait count) ≡ cond (nat_lt v.polled count) (NotYet (Yet.Wait v.polled count)) (Did Plain)
 unfolding answer_of first_case
 wait_agrees ports port_log log v count k = ap (λ (n : ℕ). cond (nat_lt n count) (NotYet (Yet.Wait n count)) (Did Plain)) (polls_agree log v k)
+
+-- a receive waits where the matcher has it
+pub posted_agrees : (log : List Deed) (v : EndpointView) (recv : ℕ) → IsPlain v.own log → Keeps log v
+    → Ec.is_posted v recv ≡ is_some (find (is_recv recv) (own_matching v.own log).posted)
+unfolding Ec.is_posted Ec.has_number heard_by
+posted_agrees log v recv h k =
+    let live = own_live v.own log in
+    let t : Receive → Bool = λ x. x.number == recv in
+    let here : find (Ec.has_number recv) v.posted ≡ option_map posted_of (find t live) = ap (find (Ec.has_number recv)) k.posted_are ∙ find-map posted_of (Ec.has_number recv) live in
+    let there = waiting_found recv live (own_matching v.own log) (live_seen v.own log) (waiting_are v.own log h) in
+    ap is_some here ∙ is_some-map posted_of (find t live) ∙ sym (is_some-map seen (find t live)) ∙ ap is_some (sym there)
+
+-- a cancel does where the receive waits
+pub cancel_agrees : (ports : ℕ) (port_log log : List Deed) (v : EndpointView) (recv : RecvNo) → IsPlain v.own log → Keeps log v
+    → answer_of (life_scene ports v.own port_log log) (Cancel recv) ≡ cond (Ec.is_posted v recv.0) (Did Plain) (Refused NotPosted)
+unfolding answer_of first_case A.is_posted heard_by
+cancel_agrees ports port_log log v recv h k =
+    ap (λ (b : Bool). cond (not b) (Refused NotPosted) (Did Plain)) (sym (posted_agrees log v recv.0 h k))
+    ∙ elim (Ec.is_posted v recv.0) as (λ b. cond (not b) (Refused NotPosted) (Did Plain) ≡ cond b (Did Plain) (Refused NotPosted)) [
+      | true ↦ refl
+      | false ↦ refl
+    ]
 
 -- an insert waits for the note that the life was opened, and is not refused
 pub insert_agrees : (ports : ℕ) (port_log log : List Deed) (v : EndpointView) (life : Life) → IsPlain v.own log

@@ -43,6 +43,7 @@ pub mod KeepsQuiet
 pub mod KeepsPushed
 pub mod KeepsSend
 pub mod KeepsRecv
+pub mod KeepsCancel
 pub mod Greeted
 pub mod KeepsMessage
 pub mod KeepsTook

@@ -1,6 +1,6 @@
 -- Options and lists: what comes last, what is found, and what a map finds.
 use Rattle.std.proofs.Common.{◌≡◌, Bool, true, false, cond, List, [], ◌∷◌, ◌++◌, map, Option, Some, None, refl, ap}
-use Rattle.std.specs.Prelude.{not, ◌&&◌, ◌||◌, find, option_map}
+use Rattle.std.specs.Prelude.{not, ◌&&◌, ◌||◌, find, is_some, option_map}
 use Rattle.std.specs.Bool.{then_some}
 use Rattle.std.specs.List.{list_any}
 use Rattle.rdm_num.specs.Lists.{or_else, without_first}
@@ -41,6 +41,11 @@ find-map f t (x ∷ xs) =
       | true ↦ refl
       | false ↦ find-map f t xs
     ]
+
+-- whether there is one, in an option that is mapped
+pub is_some-map : {A B : Type 0} (f : A → B) (o : Option A) → is_some (option_map f o) ≡ is_some o
+is_some-map f None = refl
+is_some-map f (Some x) = refl
 
 -- a mapped list without the first element that passes
 pub without-map : {A B : Type 0} (f : A → B) (t : B → Bool) (xs : List A) → without_first t (map f xs) ≡ map f (without_first (λ x. t (f x)) xs)

@@ -7,7 +7,7 @@ use Rattle.rdm_num.specs.Lists.{Member}
 use Rattle.rdm_num.specs.declared.numbers.Life.{Life}
 use Rattle.rdm_match.specs.declared.PostedRecv.{PostedRecv}
 use Rattle.rdm_match.specs.declared.Arrived.{Arrived}
-use Rattle.rdm_match.specs.Matcher.{Event, Post, Arrive, Cancel, Forget, Pair, Matching, accepts, after_post, after_arrive, after, run, is_pair}
+use Rattle.rdm_match.specs.Matcher.{Event, Post, Arrive, Cancel, Forget, Pair, Matching, accepts, is_recv, after_post, after_arrive, after, run, is_pair}
 use Rattle.rdm_model.specs.declared.job.Instr.TheVariants.{Insert, Recv, Cancel as CancelOp}
 use Rattle.rdm_model.specs.Deeds.{Deed, Did, Took}
 use Rattle.rdm_model.specs.Owns.{Own, Heads}
@@ -37,6 +37,7 @@ arriving own _ before = []
 -- what a plain deed does to the matcher
 unfoldable pub event_of : Own → Deed → List Deed → List Event
 event_of own (Did (Recv req)) before = Post (receive (length (receives before)) before req).posted ∷ []
+event_of own (Did (CancelOp recv)) before = Cancel recv.0 ∷ []
 event_of own d before = map Arrive (arriving own d before)
 
 -- a list that is mapped twice
@@ -49,7 +50,7 @@ events_are : (own : Own) (d : Deed) (before : List Deed) → IsPlainDeed own bef
     → events_by own.limits.first (heads_by (d ∷ before)) before d ≡ event_of own d before
 unfolding events_by event_of arriving
 events_are own (Did (Recv req)) before h = refl
-events_are own (Did (CancelOp recv)) before h = elim h [ ]
+events_are own (Did (CancelOp recv)) before h = refl
 events_are own (Did (Insert life)) before h = ap (map Forget) h
 events_are own (Took from item) before h =
     map_twice Arrive (message_by (heads_by (Took from item ∷ before)) from) (entering own.limits.first (Took from item) before from)
@@ -167,7 +168,7 @@ pub record IdsBelow (count : ℕ) (m : Matching) : Type 0 where
 abbrev BringsBelow : ℕ → Event → Type 0
 BringsBelow count (Post r) = r.id.0 < count
 BringsBelow count (Arrive a) = Unit {0}
-BringsBelow count (Cancel n) = ⊥
+BringsBelow count (Cancel n) = Unit {0}
 BringsBelow count (Forget l) = ⊥
 
 -- a post has its number below the count
@@ -209,7 +210,7 @@ below_after : (k : ℕ) (m : Matching) (e : Event) → BringsBelow k e → IdsBe
 unfolding after
 below_after k m (Post r) b i = below_post k m r (find (accepts r) m.arrived) b i
 below_after k m (Arrive a) b i = below_arrive k m a (find (λ r. accepts r a) m.posted) (λ r e. i.waiting r (find_member (λ r. accepts r a) r m.posted e).0) i
-below_after k m (Cancel n) b i = elim b [ ]
+below_after k m (Cancel n) b i = record { waiting = λ r h. i.waiting r (without_member (is_recv n) r m.posted h); paired = i.paired }
 below_after k m (Forget l) b i = elim b [ ]
 
 -- so do events
@@ -223,7 +224,7 @@ below_more : (n k : ℕ) (m : Matching) → n ≤ k → IdsBelow n m → IdsBelo
 below_more n k m le i = record { waiting = λ r h. let f = i.waiting r h in omega arith; paired = λ p h. let f = i.paired p h in omega arith }
 
 -- a deed brings no fewer receives
-more_receives : (d : Deed) (before : List Deed) → length (receives before) ≤ length (receives (d ∷ before))
+pub more_receives : (d : Deed) (before : List Deed) → length (receives before) ≤ length (receives (d ∷ before))
 unfolding receives with_received
 more_receives d before = let l = length-append (receives before) (received_by (receives before) before d) in omega arith
 
@@ -239,6 +240,8 @@ brings_next own (Did (Recv req)) before e (inl is) =
     let l = length-append (receives before) (r ∷ []) in
     subst (BringsBelow (length (receives before ++ r ∷ []))) is (omega arith)
 brings_next own (Did (Recv req)) before e (inr never) = elim never [ ]
+brings_next own (Did (CancelOp recv)) before e (inl is) = subst (BringsBelow (length (receives (Did (CancelOp recv) ∷ before)))) is tt
+brings_next own (Did (CancelOp recv)) before e (inr never) = elim never [ ]
 brings_next own d before e h = arrival_below (length (receives (d ∷ before))) (arriving own d before) e h
 
 -- the receives of the matcher are accepted ones
@@ -259,6 +262,8 @@ post_number own (Did (Recv req)) before r (inl is) =
     let e : p ≡ r = cc in
     sym (ap (λ (x : PostedRecv). x.id.0) e)
 post_number own (Did (Recv req)) before r (inr never) = elim never [ ]
+post_number own (Did (CancelOp recv)) before r (inl is) = cc
+post_number own (Did (CancelOp recv)) before r (inr never) = elim never [ ]
 post_number own d before r h = let m = member-map Arrive (Post r) (arriving own d before) h in let e = m.2 in cc
 
 -- a message that arrives by a deed
@@ -281,6 +286,8 @@ pub arrive_enters : (own : Own) (d : Deed) (before : List Deed) (a : Arrived) �
 unfolding event_of
 arrive_enters own (Did (Recv req)) before a (inl is) = cc
 arrive_enters own (Did (Recv req)) before a (inr never) = elim never [ ]
+arrive_enters own (Did (CancelOp recv)) before a (inl is) = cc
+arrive_enters own (Did (CancelOp recv)) before a (inr never) = elim never [ ]
 arrive_enters own d before a h =
     let m = member-map Arrive (Arrive a) (arriving own d before) h in
     let same : m.0 ≡ a = (let e = m.2 in cc) in

@@ -11,11 +11,12 @@ use Rattle.rdm_num.specs.declared.head.Head.{Head}
 use Rattle.rdm_num.specs.declared.completion.Completion.{Completion}
 use Rattle.rdm_match.specs.Matcher.{Matching, run}
 use Rattle.rdm_pkt.specs.declared.Packet.TheVariants.{Rtm}
-use Rattle.rdm_model.specs.declared.job.Instr.TheVariants.{Insert, Send, Recv}
+use Rattle.rdm_model.specs.declared.job.Instr.TheVariants.{Insert, Send, Recv, Cancel}
 use Rattle.rdm_model.specs.Deeds.{Deed, Did, Took, Pushed, Item, Spelled, deed_count}
 use Rattle.rdm_model.specs.Owns.{Own}
 use Rattle.rdm_model.specs.Heard.{head_by, heard_head, is_heard, heard_below, has_entered, entering}
 use Rattle.rdm_model.specs.Matches.{Receive, receives, received_by, with_received}
+use Rattle.rdm_model.specs.Receives.{Filled}
 use Rattle.rdm_model.specs.Regions.{after_ends, region_by}
 use Rattle.rdm_model.specs.Sends.{Sent, sends_to, known_by, known_word, sent_by}
 use Rattle.rdm_model.specs.Replies.{Reply, is_from, handshake_by}
@@ -41,6 +42,7 @@ use Rattle.rdm_ep.proofs.Pairs.{own_matching, arriving, event_of, matching_step,
 use Rattle.rdm_ep.proofs.Live.{own_live, live_after, live_arrivals, live_step}
 use Rattle.rdm_ep.proofs.Pushes.{own_sends, own_progress, own_live_sends, new_sends, own_sends_step, replies_left, replies_step, live_left, live_sends_step, ended_left}
 use Rattle.rdm_ep.proofs.Completed.{own_completions, own_regions, completions_step, regions_step}
+use Rattle.rdm_ep.proofs.Ends.{ends_of}
 use Rattle.rdm_ep.proofs.Apart.{filter_nothing}
 use Rattle.rdm_ep.proofs.Groups.{next_of, held_of, LivesKept, SendsKept, ReceivesKept, MessagesKept, HeldKept, OwedKept, RegionsKept, CompletionsKept}
 
@@ -56,9 +58,10 @@ SendsNothing (Did (Send req)) = ⊥
 SendsNothing Pushed = ⊥
 SendsNothing _ = Unit {0}
 
--- the deed brings neither a receive nor a message
+-- the deed brings neither a receive nor a message, and takes no receive back
 abbrev pub MeetsNothing : Deed → Type 0
 MeetsNothing (Did (Recv req)) = ⊥
+MeetsNothing (Did (Cancel recv)) = ⊥
 MeetsNothing (Took from (Spelled (Rtm number tag opt form))) = ⊥
 MeetsNothing _ = Unit {0}
 
@@ -145,6 +148,7 @@ pub unmet : (own : Own) (d : Deed) (before : List Deed) → MeetsNothing d
     × ((life : Life) (n : ℕ) → head_by life n d ≡ None) × (named_by before d ≡ [])
 unfolding event_of arriving receives with_received received_by live_after live_arrivals head_by named_by
 unmet own (Did (Recv req)) before n = elim n [ ]
+unmet own (Did (Cancel recv)) before n = elim n [ ]
 unmet own (Took from (Spelled (Rtm number tag opt form))) before n = elim n [ ]
 unmet own (Took from item) before n =
     let e = none_enter own.limits.first (Took from item) before from (silent_item from item n) in
@@ -253,13 +257,18 @@ pub no_pairs : (own : Own) (d : Deed) (before : List Deed) → MeetsNothing d �
 unfolding met_by_all
 no_pairs own d before n = ap (met_by_all (own_matching own before)) (unmet own d before n).0
 
+-- and ends no receive
+pub no_ends : (own : Own) (d : Deed) (before : List Deed) → MeetsNothing d → ends_of own before d ≡ []
+no_ends own (Did (Cancel recv)) before n = elim n [ ]
+no_ends own d before n = ap (map Filled) (no_pairs own d before n)
+
 -- the regions stay where nothing is met or registered
 pub regions_still : (own : Own) (d : Deed) (before : List Deed) (regions : List (List ℕ)) → IsPlain own (d ∷ before) → MeetsNothing d → region_by d ≡ []
     → RegionsKept own before regions → RegionsKept own (d ∷ before) regions
 unfolding after_ends
 regions_still own d before regions h n e k =
     k ∙ sym (regions_step own d before h
-    ∙ (let p = no_pairs own d before n in rw (p, e) (append-nil (own_regions own before))))
+    ∙ (let p = no_ends own d before n in rw (p, e) (append-nil (own_regions own before))))
 
 -- a deed that meets and sends nothing completes nothing
 pub none_completed : (own : Own) (d : Deed) (before : List Deed) → IsPlain own (d ∷ before) → MeetsNothing d → SendsNothing d
@@ -267,7 +276,7 @@ pub none_completed : (own : Own) (d : Deed) (before : List Deed) → IsPlain own
 unfolding recv_completions
 none_completed own d before h n s =
     completions_step own d before h
-    ∙ (let p = no_pairs own d before n in let q = (unsent_by own d before s).2 (own_progress own before).replies (own_live_sends own before) in
+    ∙ (let p = no_ends own d before n in let q = (unsent_by own d before s).2 (own_progress own before).replies (own_live_sends own before) in
     rw (p, q) (append-nil (own_completions own before)))
 
 -- the completions stay where nothing is met, pushed or polled

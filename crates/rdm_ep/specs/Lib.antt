@@ -5,6 +5,7 @@ pub mod Counts
 pub mod Peers
 pub mod Sending
 pub mod Receiving
+pub mod Cancelling
 pub mod Meeting
 pub mod Entering
 pub mod Handling

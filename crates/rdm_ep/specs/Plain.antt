@@ -1,6 +1,7 @@
--- The deeds that the built calls of an endpoint reach: messages in one packet each, no life forgotten, none closed, no
--- receive cancelled.
-use Rattle.std.specs.Prelude.{◌≡◌, ◌≤◌, Bool, true, false, nat_le, List, [], ◌∷◌, is_some}
+-- The deeds that the built calls of an endpoint reach: messages in one packet each, no life forgotten, none closed, and
+-- receives cancelled while they wait.
+use Rattle.std.specs.Prelude.{◌≡◌, ◌≤◌, Bool, true, false, nat_le, List, [], ◌∷◌, is_some, find}
+use Rattle.rdm_match.specs.Matcher.{is_recv}
 use Rattle.rdm_num.specs.declared.numbers.Life.{Life}
 use Rattle.rdm_pkt.specs.declared.Packet.TheVariants.{Rtm, Handshake}
 use Rattle.rdm_pkt.specs.declared.Form.TheVariants.{Eager}
@@ -12,6 +13,8 @@ use Rattle.rdm_model.specs.Owns.{Own}
 use Rattle.rdm_model.specs.Deeds.{Deed, Did, Took, Item, Spelled}
 use Rattle.rdm_model.specs.Currents.{forgotten_by}
 use Rattle.rdm_model.specs.Heard.{is_heard}
+use Rattle.rdm_model.specs.Matches.{matching}
+use Rattle.rdm_model.specs.Local.{heads_by}
 
 -- the message has room in one packet, whatever its headers
 abbrev pub FitsOnePacket : Own → SendReq → Type 0
@@ -22,7 +25,7 @@ abbrev pub IsPlainInstr : Own → List Deed → Instr → Type 0
 IsPlainInstr own before (OpenLife connid) = ⊥
 IsPlainInstr own before (Insert life) = forgotten_by before (Did (Insert life)) ≡ []
 IsPlainInstr own before (Send req) = FitsOnePacket own req
-IsPlainInstr own before (Cancel recv) = ⊥
+IsPlainInstr own before (Cancel recv) = is_some (find (is_recv recv.0) (matching own.limits.first (heads_by before) before).posted) ≡ true
 IsPlainInstr own before CloseLife = ⊥
 IsPlainInstr own before _ = Unit {0}
 

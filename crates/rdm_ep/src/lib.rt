@@ -3,6 +3,7 @@
 #![tactic(auto)]
 
 mod answer;
+mod cancelling;
 mod current;
 mod endpoint;
 mod going;

@@ -8,6 +8,8 @@ use rdm_wire::{Body, Datagram, Load, ReadAsk};
 use std::alloc::Global;
 use std::test::Fail;
 
+mod cancelling;
+
 /// The message `hello` with the tag 7 and the number 0, from port 0 and this identifier.
 fn hello_from(connid: u8) -> [u8; 57] {
     let mut hello = [

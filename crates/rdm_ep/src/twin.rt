@@ -36,6 +36,16 @@ impl Twin {
         }
     }
 
+    /// A receive was cancelled, which has no bytes.
+    pub fn of_cancelled(recv: RecvNo) -> Twin
+        ensures { result ≡ CompletionKind.Recv recv OutcomeKind.Cancelled }
+    {
+        Twin {
+            first: cancelled(recv),
+            second: cancelled(recv),
+        }
+    }
+
     /// A receive of that capacity took a message: its first bytes that fit, and how many did not.
     pub fn of_message(
         recv: RecvNo,
@@ -67,6 +77,16 @@ impl Twin {
         ensures { (result.0 ≡ self) × (result.1 ≡ self) }
     {
         (self.first, self.second)
+    }
+}
+
+/// A receive was cancelled.
+fn cancelled(recv: RecvNo) -> Completion
+    ensures { result ≡ CompletionKind.Recv recv OutcomeKind.Cancelled }
+{
+    Completion::Recv {
+        recv,
+        outcome: Outcome::Cancelled,
     }
 }
 
