@@ -8,8 +8,9 @@ use Rattle.rdm_model.specs.declared.job.Rank.{Rank}
 use Rattle.rdm_model.specs.declared.job.Instr.{Instr}
 use Rattle.rdm_model.specs.declared.job.Instr.TheVariants.{OpenLife, Insert, Reg, Send, Recv, Cancel, Note, Await, Wait, CloseLife}
 use Rattle.rdm_model.specs.declared.answer.Next.{Next}
-use Rattle.rdm_model.specs.declared.answer.Next.TheVariants.{Did, NotYet, Ended, Worn, Memory}
+use Rattle.rdm_model.specs.declared.answer.Next.TheVariants.{Did, Refused, NotYet, Ended, Worn, Memory}
 use Rattle.rdm_model.specs.declared.answer.DidWhat.TheVariants.{Plain, Region}
+use Rattle.rdm_model.specs.declared.answer.Why.TheVariants.{NotPosted}
 use Rattle.rdm_model.specs.declared.answer.Yet.TheVariants as Yet
 use Rattle.rdm_model.specs.declared.report.End.{End}
 use Rattle.rdm_model.specs.Reports.{end_of}
@@ -23,6 +24,7 @@ use Rattle.rdm_ep.specs.declared.answer.RecvAnswer.TheVariants as RecvA
 use Rattle.rdm_ep.specs.View.{EndpointView, current_in}
 use Rattle.rdm_ep.specs.Sending as Ep
 use Rattle.rdm_ep.specs.Receiving as Er
+use Rattle.rdm_ep.specs.Cancelling as Ec
 use Rattle.rdm_ep.specs.Answers.{next_of_send, next_of_recv}
 use Rattle.rdm_port.specs.Views.{PortView, IsPortOf, scene_at}
 use Rattle.rdm_port.specs.Kept.{Kept, IsKept, is_opened, is_told, is_new_life}
@@ -73,7 +75,9 @@ machine_on v k (Send req) =
     endpoint_on k.endpoint (λ e. cond (has_room v req) (next_of_send (Ep.send_answer e req)) Memory)
     (λ e. either_on (has_room v req) (next_of_send (Ep.send_answer e req)) Memory (send_on (Ep.send_answer e req)) (λ h. cc))
 machine_on v k (Recv req) = endpoint_on k.endpoint (λ e. next_of_recv (Er.recv_answer e req)) (λ e. recv_on (Er.recv_answer e req))
-machine_on v k (Cancel recv) = λ h. cc
+machine_on v k (Cancel recv) =
+    endpoint_on k.endpoint (λ e. cond (Ec.is_posted e recv.0) (Did Plain) (Refused NotPosted))
+    (λ e. either_on (Ec.is_posted e recv.0) (Did Plain) (Refused NotPosted) (λ h. cc) (λ h. cc))
 machine_on v k (Note to what) = λ h. cc
 machine_on v k (Await from what) = either_on (is_told k.told from.0 what) (Did Plain) (NotYet Yet.Await) (λ h. cc) (λ h. cc)
 machine_on v k (Wait count) =

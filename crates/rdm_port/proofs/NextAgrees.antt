@@ -10,8 +10,9 @@ use Rattle.rdm_model.specs.declared.job.Job.{Job}
 use Rattle.rdm_model.specs.declared.job.Instr.{Instr}
 use Rattle.rdm_model.specs.declared.job.Instr.TheVariants.{OpenLife, Insert, Reg, Send, Recv, Cancel, Note, Await, Wait, CloseLife}
 use Rattle.rdm_model.specs.declared.answer.Next.{Next}
-use Rattle.rdm_model.specs.declared.answer.Next.TheVariants.{Did, NotYet, Memory}
+use Rattle.rdm_model.specs.declared.answer.Next.TheVariants.{Did, Refused, NotYet, Memory}
 use Rattle.rdm_model.specs.declared.answer.DidWhat.TheVariants.{Plain, Region}
+use Rattle.rdm_model.specs.declared.answer.Why.TheVariants.{NotPosted}
 use Rattle.rdm_model.specs.declared.answer.Yet.TheVariants as Yet
 use Rattle.rdm_model.specs.Deeds.{Deed, of_life}
 use Rattle.rdm_model.specs.Owns.{Own}
@@ -22,9 +23,10 @@ use Rattle.rdm_model.specs.Local.{own_scene}
 use Rattle.rdm_ep.specs.View.{EndpointView, current_in}
 use Rattle.rdm_ep.specs.Sending as Ep
 use Rattle.rdm_ep.specs.Receiving as Er
+use Rattle.rdm_ep.specs.Cancelling as Ec
 use Rattle.rdm_ep.specs.Answers.{life_scene, next_of_send, next_of_recv}
 use Rattle.rdm_ep.specs.Plain.{IsPlain}
-use Rattle.rdm_ep.proofs.Instructed.{reg_agrees, wait_agrees, insert_agrees}
+use Rattle.rdm_ep.proofs.Instructed.{reg_agrees, wait_agrees, insert_agrees, cancel_agrees}
 use Rattle.rdm_ep.proofs.Answered.{send_agrees, recv_agrees}
 use Rattle.rdm_port.specs.Views.{PortView, IsPortOf, scene_at}
 use Rattle.rdm_port.specs.Kept.{Kept, IsKept, deeds_of, own_at, is_opened, is_told, is_new_life}
@@ -128,7 +130,9 @@ answer_agrees job v k (Send req) p h =
 answer_agrees job v k (Recv req) p h =
     by_endpoint job v k (Recv req) (λ e. next_of_recv (Er.recv_answer e req)) p h
     (λ connid e f. inr (recv_agrees v.ports (deeds_of v) (of_life connid (deeds_of v)) e req f.keeps))
-answer_agrees job v k (Cancel recv) p h = inl refl
+answer_agrees job v k (Cancel recv) p h =
+    by_endpoint job v k (Cancel recv) (λ e. cond (Ec.is_posted e recv.0) (Did Plain) (Refused NotPosted)) p h
+    (λ connid e f. inr (cancel_agrees v.ports (deeds_of v) (of_life connid (deeds_of v)) e recv (open_plain v k connid e h f) f.keeps))
 answer_agrees job v k (Note to what) p h = inr refl
 answer_agrees job v k (Await from what) p h = inr (await_agrees job v k from what p h)
 answer_agrees job v k (Wait count) p h =

@@ -5,16 +5,19 @@ use Rattle.std.proofs.lemmas.List.{append-nil}
 use Rattle.rdm_num.specs.Lives.{same_life}
 use Rattle.rdm_num.specs.declared.numbers.Connid.{Connid}
 use Rattle.rdm_num.specs.declared.numbers.PortNo.{PortNo}
+use Rattle.rdm_num.specs.declared.numbers.RecvNo.{RecvNo}
 use Rattle.rdm_num.specs.declared.numbers.Life.{Life}
 use Rattle.rdm_num.specs.declared.request.SendReq.{SendReq}
 use Rattle.rdm_num.specs.declared.request.RecvReq.{RecvReq}
-use Rattle.rdm_model.specs.declared.job.Instr.TheVariants.{Insert, Reg, Send, Recv, Note, Await, Wait}
+use Rattle.rdm_model.specs.declared.job.Instr.TheVariants.{Insert, Reg, Send, Recv, Cancel, Note, Await, Wait}
 use Rattle.rdm_model.specs.declared.answer.Next.{Next}
-use Rattle.rdm_model.specs.declared.answer.Next.TheVariants.{Did as DidAnswer, NotYet, Memory}
+use Rattle.rdm_model.specs.declared.answer.Next.TheVariants.{Did as DidAnswer, Refused, NotYet, Memory}
+use Rattle.rdm_model.specs.declared.answer.Why.TheVariants.{NotPosted}
 use Rattle.rdm_model.specs.declared.answer.DidWhat.{DidWhat}
 use Rattle.rdm_model.specs.declared.answer.DidWhat.TheVariants.{Plain}
 use Rattle.rdm_model.specs.declared.answer.Yet.TheVariants as Yet
 use Rattle.rdm_model.specs.Deeds.{Deed, Did, Nothing, open_after, of_life}
+use Rattle.rdm_model.specs.Owns.{Own}
 use Rattle.rdm_model.specs.Currents.{other_life, forgotten_by}
 use Rattle.rdm_model.specs.Notes.{notes_by, is_note_push, tells_open, opens, says}
 use Rattle.rdm_ep.specs.declared.state.Posted.{Posted}
@@ -23,16 +26,21 @@ use Rattle.rdm_ep.specs.View.{EndpointView, current_in}
 use Rattle.rdm_ep.specs.Sending as Ep
 use Rattle.rdm_ep.specs.Sending.{after_reg, after_insert, after_send_to, after_send}
 use Rattle.rdm_ep.specs.Receiving.{after_post, landed, after_recv}
+use Rattle.rdm_ep.specs.Cancelling.{is_posted, after_cancel}
+use Rattle.rdm_ep.specs.Plain.{IsPlainDeed}
 use Rattle.rdm_ep.specs.Answers.{next_of_send}
 use Rattle.rdm_ep.proofs.KeepsQuiet.{keeps_reg, keeps_insert}
 use Rattle.rdm_ep.proofs.KeepsSend.{keeps_send}
 use Rattle.rdm_ep.proofs.KeepsRecv.{keeps_recv}
+use Rattle.rdm_ep.proofs.KeepsCancel.{keeps_cancel}
+use Rattle.rdm_ep.proofs.Instructed.{posted_agrees}
 use Rattle.rdm_port.specs.Views.{PortView}
 use Rattle.rdm_port.specs.Kept.{Kept, IsKept, deeds_of, own_at, queued_of, is_opened}
 use Rattle.rdm_port.specs.Machine.{with_endpoint, has_room, insert_answer_in, machine_answer, after_did}
 use Rattle.rdm_port.specs.Built.{IsBuiltDeed}
 use Rattle.rdm_port.proofs.Counted.{OpenFacts}
 use Rattle.rdm_port.proofs.BuiltDeeds.{room_fits}
+use Rattle.rdm_port.proofs.NextAgrees.{open_plain}
 use Rattle.rdm_port.proofs.NextDeeds.{KeepsDeeds, IsStill, still_kept, changed_by, quiet_after}
 
 -- an insert leaves the lives of the port as they were, and pushes and brings no note
@@ -54,6 +62,11 @@ still_send req = record { push = refl; tells = λ m. refl; opens_none = λ m. re
 still_recv : (req : RecvReq) → IsStill (Did (Recv req))
 unfolding is_note_push tells_open opens says open_after
 still_recv req = record { push = refl; tells = λ m. refl; opens_none = λ m. refl; says_none = λ a b. refl; still = λ was. refl }
+
+-- so does a cancel
+still_cancel : (recv : RecvNo) → IsStill (Did (Cancel recv))
+unfolding is_note_push tells_open opens says open_after
+still_cancel recv = record { push = refl; tells = λ m. refl; opens_none = λ m. refl; says_none = λ a b. refl; still = λ was. refl }
 
 -- so does a note
 still_note : (to : PortNo) (what : ℕ) → IsStill (Did (Note to what))
@@ -110,6 +123,11 @@ own_post e p (Some i) = refl
 own_recv : (e : EndpointView) (req : RecvReq) → (after_recv e req).own ≡ e.own
 unfolding after_recv
 own_recv e req = own_post (record e { receives = e.receives + 1 }) _ _
+
+-- so does a cancel
+own_cancel : (e : EndpointView) (recv : RecvNo) → (after_cancel e recv).own ≡ e.own
+unfolding after_cancel
+own_cancel e recv = refl
 
 -- an instruction that did where it needs an endpoint has one
 has_endpoint : (o : Option EndpointView) (answer : EndpointView → Next) (what : DidWhat) → with_endpoint o answer ≡ DidAnswer what
@@ -198,6 +216,31 @@ recv_kept v k req what h a =
     still_kept v k (record k { endpoint = option_map f k.endpoint }) d h (still_recv req) (no_notes v k d refl) refl refl
     (changed_by v k d f x.0 h x.1 (own_recv x.0 req) (λ connid is. tt)
     (λ connid is all. keeps_recv req (of_life connid (deeds_of v)) x.0 all.0 is.keeps))
+
+-- a cancel that did is of a receive that waits
+did_cancel : (b : Bool) (what : DidWhat) → cond b (DidAnswer Plain) (Refused NotPosted) ≡ DidAnswer what → b ≡ true
+did_cancel true what h = refl
+did_cancel false what h = cc
+
+-- such a cancel is plain
+cancel_plain : (v : PortView) (k : Kept) (connid : Connid) (e : EndpointView) (recv : RecvNo) → IsKept v k → OpenFacts v k connid e → is_posted e recv.0 ≡ true
+    → IsPlainDeed (own_at v connid) (of_life connid (deeds_of v)) (Did (Cancel recv))
+cancel_plain v k connid e recv h f posted =
+    let log = of_life connid (deeds_of v) in
+    subst (λ (o : Own). IsPlainDeed o log (Did (Cancel recv))) f.own_is (sym (posted_agrees log e recv.0 (open_plain v k connid e h f) f.keeps) ∙ posted)
+
+-- after a cancel
+pub cancel_kept : (v : PortView) (k : Kept) (recv : RecvNo) (what : DidWhat) → IsKept v k → machine_answer v k (Cancel recv) ≡ DidAnswer what
+    → KeepsDeeds v (Did (Cancel recv) ∷ deeds_of v) (after_did v (Cancel recv) k)
+unfolding machine_answer after_did notes_by
+cancel_kept v k recv what h a =
+    let d = Did (Cancel recv) in
+    let f = λ (e : EndpointView). after_cancel e recv in
+    let x = has_endpoint k.endpoint _ what a in
+    let posted = did_cancel (is_posted x.0 recv.0) what x.2 in
+    still_kept v k (record k { endpoint = option_map f k.endpoint }) d h (still_cancel recv) (no_notes v k d refl) refl refl
+    (changed_by v k d f x.0 h x.1 (own_cancel x.0 recv) (λ connid is. cancel_plain v k connid x.0 recv h is posted)
+    (λ connid is all. keeps_cancel recv (of_life connid (deeds_of v)) x.0 all is.keeps))
 
 -- a note is built in each life, and where none is open
 built_note : (v : PortView) (to : PortNo) (what : ℕ) (o : Option Connid) → IsBuiltDeed (own_at v) o (deeds_of v) (Did (Note to what))

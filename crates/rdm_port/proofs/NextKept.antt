@@ -13,7 +13,7 @@ use Rattle.rdm_port.specs.Kept.{Kept, IsKept, deeds_of, with_log}
 use Rattle.rdm_port.specs.Machine.{machine_answer, after_did, after_entry, unless_worn, next_counted, next_entry}
 use Rattle.rdm_port.specs.Nexts.{DoesNext}
 use Rattle.rdm_port.proofs.NextDeeds.{KeepsDeeds, CountsSame, kept_by}
-use Rattle.rdm_port.proofs.NextCases.{insert_kept, reg_kept, send_kept, recv_kept, note_kept, await_kept, wait_kept, nothing_kept}
+use Rattle.rdm_port.proofs.NextCases.{insert_kept, reg_kept, send_kept, recv_kept, cancel_kept, note_kept, await_kept, wait_kept, nothing_kept}
 use Rattle.rdm_port.proofs.NextOpens.{open_kept}
 use Rattle.rdm_port.proofs.NextDoes.{next_enters}
 
@@ -25,6 +25,7 @@ did_counts v k (Insert l) = record { done = refl; clock = refl; pushed = refl; t
 did_counts v k (Reg content) = record { done = refl; clock = refl; pushed = refl; to_other = refl; from_other = refl }
 did_counts v k (Send req) = record { done = refl; clock = refl; pushed = refl; to_other = refl; from_other = refl }
 did_counts v k (Recv req) = record { done = refl; clock = refl; pushed = refl; to_other = refl; from_other = refl }
+did_counts v k (Cancel recv) = record { done = refl; clock = refl; pushed = refl; to_other = refl; from_other = refl }
 did_counts v k (Note to what) = record { done = refl; clock = refl; pushed = refl; to_other = refl; from_other = refl }
 did_counts v k _ = record { done = refl; clock = refl; pushed = refl; to_other = refl; from_other = refl }
 
@@ -37,7 +38,7 @@ did_kept v k (Insert l) what h a = insert_kept v k l what h a
 did_kept v k (Reg content) what h a = reg_kept v k content what h a
 did_kept v k (Send req) what h a = send_kept v k req what h a
 did_kept v k (Recv req) what h a = recv_kept v k req what h a
-did_kept v k (Cancel recv) what h a = cc
+did_kept v k (Cancel recv) what h a = cancel_kept v k recv what h a
 did_kept v k (Note to word) what h a = note_kept v k to word h
 did_kept v k (Await from word) what h a = await_kept v k from word h
 did_kept v k (Wait count) what h a = wait_kept v k count h

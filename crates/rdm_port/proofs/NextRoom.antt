@@ -5,7 +5,7 @@ use Rattle.std.proofs.lemmas.Bool.{leb-false, le-leb}
 use Rattle.rdm_num.specs.declared.numbers.Life.{Life}
 use Rattle.rdm_num.specs.declared.request.SendReq.{SendReq}
 use Rattle.rdm_model.specs.declared.job.Instr.{Instr}
-use Rattle.rdm_model.specs.declared.job.Instr.TheVariants.{OpenLife, Insert, Reg, Send, Recv}
+use Rattle.rdm_model.specs.declared.job.Instr.TheVariants.{OpenLife, Insert, Reg, Send, Recv, Cancel}
 use Rattle.rdm_model.specs.declared.answer.Next.{Next}
 use Rattle.rdm_model.specs.declared.answer.Next.TheVariants.{Did, Worn, Memory}
 use Rattle.rdm_model.specs.Answers.{is_entry}
@@ -14,6 +14,7 @@ use Rattle.rdm_ep.specs.declared.state.Inbound.{Inbound}
 use Rattle.rdm_ep.specs.View.{EndpointView, new_endpoint, current_in, cq_in}
 use Rattle.rdm_ep.specs.Sending.{after_reg, after_insert, after_send_to, after_send}
 use Rattle.rdm_ep.specs.Receiving.{after_post, landed, after_recv}
+use Rattle.rdm_ep.specs.Cancelling.{after_cancel}
 use Rattle.rdm_port.specs.Views.{PortView}
 use Rattle.rdm_port.specs.Kept.{Kept, places_of}
 use Rattle.rdm_port.specs.Machine.{after_did, after_entry, unless_worn}
@@ -71,12 +72,13 @@ mapped f (Some e) h = h e
 
 -- an instruction that did takes one place at most
 did_places : (v : PortView) (k : Kept) (instr : Instr) → places_of (after_did v instr k).endpoint ≤ places_of k.endpoint + 1
-unfolding after_did places_of new_endpoint after_reg after_send after_recv cq_in
+unfolding after_did places_of new_endpoint after_reg after_send after_recv after_cancel cq_in
 did_places v k (OpenLife connid) = omega arith
 did_places v k (Insert l) = mapped (λ e. after_insert e l) k.endpoint (λ e. let i = insert_places e l in omega arith)
 did_places v k (Reg content) = mapped (λ e. after_reg e content) k.endpoint (λ e. omega arith)
 did_places v k (Send req) = mapped (λ e. after_send e req) k.endpoint (λ e. send_places e req (current_in e req.to.0))
 did_places v k (Recv req) = mapped (λ e. after_recv e req) k.endpoint (λ e. post_places e _ _)
+did_places v k (Cancel recv) = mapped (λ e. after_cancel e recv) k.endpoint (λ e. omega arith)
 did_places v k _ = omega arith
 
 -- an entry of an instruction takes one place at most

@@ -12,8 +12,9 @@ use Rattle.rdm_wire.specs.declared.Datagram.{Datagram}
 use Rattle.rdm_model.specs.declared.job.Instr.{Instr}
 use Rattle.rdm_model.specs.declared.job.Instr.TheVariants.{OpenLife, Insert, Reg, Send, Recv, Cancel, Note, Await, Wait, CloseLife}
 use Rattle.rdm_model.specs.declared.answer.Next.{Next}
-use Rattle.rdm_model.specs.declared.answer.Next.TheVariants.{Did, NotYet, Ended, Worn, Memory}
+use Rattle.rdm_model.specs.declared.answer.Next.TheVariants.{Did, Refused, NotYet, Ended, Worn, Memory}
 use Rattle.rdm_model.specs.declared.answer.DidWhat.TheVariants.{Plain, Region}
+use Rattle.rdm_model.specs.declared.answer.Why.TheVariants.{NotPosted}
 use Rattle.rdm_model.specs.declared.answer.Yet.TheVariants as Yet
 use Rattle.rdm_model.specs.declared.answer.Handled.{Handled}
 use Rattle.rdm_model.specs.declared.answer.Handled.TheVariants as H
@@ -25,6 +26,7 @@ use Rattle.rdm_ep.specs.Sending as Ep
 use Rattle.rdm_ep.specs.Sending.{after_reg, after_insert, after_send}
 use Rattle.rdm_ep.specs.Receiving as EpRecv
 use Rattle.rdm_ep.specs.Receiving.{after_recv}
+use Rattle.rdm_ep.specs.Cancelling.{is_posted, after_cancel}
 use Rattle.rdm_ep.specs.Handling.{body_answer, after_body}
 use Rattle.rdm_ep.specs.Going.{Leaving, after_sent, after_poll}
 use Rattle.rdm_ep.specs.Going as Going
@@ -75,7 +77,7 @@ machine_answer v k (Insert l) = with_endpoint k.endpoint (insert_answer_in k l)
 machine_answer v k (Reg content) = with_endpoint k.endpoint (λ e. Did (Region (record { 0 = length e.regions })))
 machine_answer v k (Send req) = with_endpoint k.endpoint (λ e. if has_room v req then next_of_send (Ep.send_answer e req) else Memory)
 machine_answer v k (Recv req) = with_endpoint k.endpoint (λ e. next_of_recv (EpRecv.recv_answer e req))
-machine_answer v k (Cancel recv) = Memory
+machine_answer v k (Cancel recv) = with_endpoint k.endpoint (λ e. if is_posted e recv.0 then Did Plain else Refused NotPosted)
 machine_answer v k (Note to what) = Did Plain
 machine_answer v k (Await from what) = if is_told k.told from.0 what then Did Plain else NotYet Yet.Await
 machine_answer v k (Wait count) =
@@ -94,6 +96,7 @@ after_did v (Insert l) k = record k { endpoint = option_map (λ e. after_insert 
 after_did v (Reg content) k = record k { endpoint = option_map (λ e. after_reg e content) k.endpoint }
 after_did v (Send req) k = record k { endpoint = option_map (λ e. after_send e req) k.endpoint }
 after_did v (Recv req) k = record k { endpoint = option_map (λ e. after_recv e req) k.endpoint }
+after_did v (Cancel recv) k = record k { endpoint = option_map (λ e. after_cancel e recv) k.endpoint }
 after_did v (Note to what) k = record k { notes = k.notes ++ record { to = to; body = Said what } ∷ [] }
 after_did v _ k = k
 

@@ -127,6 +127,13 @@ fn answer_in(endpoint: &Endpoint, opened: &[Life], limits: &EpLimits, instr: &In
             }
         }
         Instr::Recv(req) => next_of_recv(endpoint.answer_recv(req)),
+        Instr::Cancel { recv } => {
+            if endpoint.is_posted(*recv) {
+                Next::Did(DidWhat::Plain)
+            } else {
+                Next::Refused(Why::NotPosted)
+            }
+        }
         Instr::Wait { count } => {
             let have = endpoint.polled_count();
             if have < *count {

@@ -4,14 +4,15 @@ ghost use Rattle.rdm_wire.specs.declared.NoteBody.TheVariants as NoteKind;
 ghost use Rattle.rdm_model.specs.declared.job.Instr.TheVariants as InstrKind;
 ghost use Rattle.rdm_ep.specs.Sending.{after_reg, after_insert, after_send};
 ghost use Rattle.rdm_ep.specs.Receiving.{after_recv};
+ghost use Rattle.rdm_ep.specs.Cancelling.{after_cancel};
 ghost use Rattle.rdm_port.specs.Views.{PortView};
 ghost use Rattle.rdm_port.specs.Machine.{IsOwnedBy, after_did, after_entry};
 
 use crate::kept::{QueuedNote, State};
 use crate::notes::queue_opened;
-use rdm_ep::{Endpoint, RecvAnswer, SendAnswer};
+use rdm_ep::{CancelAnswer, Endpoint, RecvAnswer, SendAnswer};
 use rdm_model::{Instr, Next};
-use rdm_num::{Connid, EpLimits, Life, NoMemory, PortNo, RecvReq, SendReq};
+use rdm_num::{Connid, EpLimits, Life, NoMemory, PortNo, RecvNo, RecvReq, SendReq};
 use rdm_wire::NoteBody;
 use std::alloc::{AllocError, Global};
 use std::mem;
@@ -56,6 +57,7 @@ impl State {
             Instr::Reg { content } => self.register(alloc, content.as_slice()),
             Instr::Send(req) => self.send(alloc, req),
             Instr::Recv(req) => self.receive(req),
+            Instr::Cancel { recv } => self.cancel(*recv),
             Instr::Note { to, what } => self.note(*to, *what),
             _ => Ok(()),
         }
@@ -144,6 +146,19 @@ impl State {
                     _ => Err(AllocError),
                 }
             }
+        }
+    }
+
+    fn cancel(&mut self, recv: RecvNo) -> Result<(), NoMemory>
+        ensures ok { OnOk result (self.new ≡ record self.old { endpoint = option_map (λ e. after_cancel e recv) self.old.endpoint }) }
+        ensures err { OnErr result (self.new ≡ self.old) }
+    {
+        match &mut self.endpoint {
+            None => Err(AllocError),
+            Some(endpoint) => match endpoint.cancel(recv) {
+                CancelAnswer::Did => Ok(()),
+                CancelAnswer::NotPosted => Err(AllocError),
+            },
         }
     }
 
