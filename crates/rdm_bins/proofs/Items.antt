@@ -138,3 +138,23 @@ module _ {X : Type 0} where
   without_none [] k none = refl
   without_none (o ∷ items) zero none = ap (λ p. p ∷ items) none
   without_none (o ∷ items) (suc k) none = ap (λ l. o ∷ l) (without_none items k none)
+
+  -- a new item is one more
+  pub one_more : (n : ℕ) (items : List (Option X)) (x : X) → length (entries_from n (items ++ Some x ∷ [])) ≡ length (entries_from n items) + 1
+  one_more n [] x = refl
+  one_more n (None ∷ items) x = one_more (suc n) items x
+  one_more n (Some y ∷ items) x = let more = one_more (suc n) items x in omega arith
+
+  -- without the item of a place there is one less
+  pub one_less : (n : ℕ) (items : List (Option X)) (k : ℕ) (x : X) → item_at items k ≡ Some x → length (entries_from n (without_at items k)) + 1 ≡ length (entries_from n items)
+  one_less n [] k x there = not_both None x refl there
+  one_less n (None ∷ items) zero x there = not_both None x refl there
+  one_less n (Some y ∷ items) zero x there = omega arith
+  one_less n (None ∷ items) (suc k) x there = one_less (suc n) items k x there
+  one_less n (Some y ∷ items) (suc k) x there = let less = one_less (suc n) items k x there in omega arith
+
+  -- there are no more items than places
+  pub within_places : (n : ℕ) (items : List (Option X)) → length (entries_from n items) ≤ length items
+  within_places n [] = omega arith
+  within_places n (None ∷ items) = let within = within_places (suc n) items in omega arith
+  within_places n (Some x ∷ items) = let within = within_places (suc n) items in omega arith

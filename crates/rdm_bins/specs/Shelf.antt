@@ -1,5 +1,5 @@
 -- A shelf: items at rising places, and two kinds of chains that link the places of the items of each bin and each group.
-use Rattle.std.specs.Prelude.{ℕ, zero, suc, Bool, false, if◌then◌else◌, List, [], ◌∷◌, length, Option, Some, None, nat_eq, nat_lt, find}
+use Rattle.std.specs.Prelude.{◌≡◌, ℕ, zero, suc, Bool, false, if◌then◌else◌, List, [], ◌∷◌, length, Option, Some, None, nat_eq, nat_lt, find}
 use Rattle.std.specs.Option.{option_eq}
 use Rattle.std.specs.List.{slice_get}
 use Rattle.rdm_bins.specs.declared.chains.Chains.{Chains}
@@ -36,10 +36,11 @@ module _ {X : Type 0} where
   abbrev pub is_in_at : (X → Option ℕ) → List (Option X) → Option ℕ → ℕ → Bool
   is_in_at bin items b n = is_in bin b (item_at items n)
 
-  -- the chains link the places of the items of each bin and of each group
-  pub record IsShelf (bin group : X → Option ℕ) (items : List (Option X)) (bins groups : Chains) : Type 0 where
+  -- the chains link the places of the items of each bin and of each group, and the items that wait are counted
+  pub record IsShelf (bin group : X → Option ℕ) (items : List (Option X)) (bins groups : Chains) (waiting : ℕ) : Type 0 where
     pub by_bin : AreChains (is_in_at bin items) (length items) bins
     pub by_group : AreChains (is_in_at group items) (length items) groups
+    pub counted : waiting ≡ length (entries_from 0 items)
 
   -- the first item that passes
   abbrev pub first_passing : (X → Bool) → List (ℕ × X) → Option (ℕ × X)

@@ -56,7 +56,7 @@ impl<T: Shelved> Model for Shelf<T> {
 
     ghost view = { λ s. entries_from 0 s.items.items };
 
-    ghost invariant = { λ s. IsShelf T.bin_of T.group_of s.items.items s.bins s.groups };
+    ghost invariant = { λ s. IsShelf T.bin_of T.group_of s.items.items s.bins s.groups s.waiting };
 }
 
 impl<T: Shelved> Shelf<T> {
