@@ -146,15 +146,12 @@ fn other_scripts_are_not_built(rt: HostRuntime) -> Result<(), Fail> {
             "Unbuilt at whole",
         ),
         (r#""len":5,"tag":7"#, r#""len":5"#, "Unbuilt at whole"),
-        (
-            r#"{"version":1"#,
-            r#"{"version":1,"mtu":8192"#,
-            "Unbuilt at whole",
-        ),
+        (r#"{"version":1"#, r#"{"version":1,"mtu":8192"#, "built"),
         (r#"{"version":1"#, r#"{"version":1,"choices":[]"#, "built"),
+        (r#"{"version":1"#, r#"{"version":1,"pools":{}"#, "built"),
         (
             r#"{"version":1"#,
-            r#"{"version":1,"pools":{}"#,
+            r#"{"version":1,"pools":{"cq":8}"#,
             "Unbuilt at whole",
         ),
         (
