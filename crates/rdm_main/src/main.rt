@@ -9,7 +9,7 @@ use std::process::ExitCode;
 
 fn main(rt: HostRuntime) -> ExitCode {
     let status = status_of(&rt);
-    if !matches!(status, Status::Done | Status::Stuck) {
+    if status.has_line() {
         let _ = println!(rt; "{status}");
     }
     ExitCode::from(status.exit_code())

@@ -5,13 +5,13 @@ use Rattle.std.proofs.lemmas.Bool.{and_from, and_parts, lt-ltb, leb-true}
 use Rattle.std.proofs.lemmas.List.{length-replicate}
 use Rattle.serde_json.specs.Data.{Data}
 use Rattle.rdm_model.specs.Jobs.{len_max}
-use Rattle.rdm_script.specs.declared.refusal.Reason.{Reason}
-use Rattle.rdm_script.specs.declared.refusal.Reason.TheVariants.{Shape, Limit}
-use Rattle.rdm_script.specs.declared.value.Form.TheVariants.{RegText, RegHex, RegZero, RegFill}
-use Rattle.rdm_script.specs.Results.{tested}
-use Rattle.rdm_script.specs.Values.{are_bytes, text, number, array, number_of, keys_known}
+use Rattle.rdm_json.specs.declared.refusal.Reason.{Reason}
+use Rattle.rdm_json.specs.declared.refusal.Reason.TheVariants.{Shape, Limit}
+use Rattle.rdm_json.specs.declared.value.Form.TheVariants.{RegText, RegHex, RegZero, RegFill}
+use Rattle.rdm_json.specs.Results.{tested}
+use Rattle.rdm_json.specs.Values.{are_bytes, text, number, array, number_of, keys_known}
 use Rattle.rdm_script.specs.Contents.{hex_value, hex_bytes, is_hex, fill_bytes, as_length, text_content, hex_content, zero_content, fill_of, fill_parts, fill_content, content_of}
-use Rattle.rdm_script.proofs.Chains.{gave, passed}
+use Rattle.rdm_json.proofs.Chains.{gave, passed}
 use Rattle.rdm_script.proofs.Numbers.{text-fits, as_length-fits, as_length-same}
 use Rattle.rdm_script.proofs.Lengths.{length-hex_bytes, length-fill_bytes}
 

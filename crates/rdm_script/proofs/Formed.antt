@@ -7,22 +7,22 @@ use Rattle.serde_json.specs.Data.{Data}
 use Rattle.serde_json.specs.Find.{get}
 use Rattle.rdm_model.specs.declared.job.Rank.{Rank}
 use Rattle.rdm_model.specs.Jobs.{is_within, is_u32, limits_fit, rank_fits, choices_fit, is_fair, law_ops}
-use Rattle.rdm_script.specs.declared.place.FieldName.{FieldName}
-use Rattle.rdm_script.specs.declared.place.FieldName.TheVariants as field
-use Rattle.rdm_script.specs.declared.place.Place.TheVariants as place
-use Rattle.rdm_script.specs.declared.refusal.BadScript.{BadScript}
-use Rattle.rdm_script.specs.declared.refusal.Reason.{Reason}
-use Rattle.rdm_script.specs.declared.refusal.Reason.TheVariants.{Shape, Limit}
+use Rattle.rdm_json.specs.declared.place.FieldName.{FieldName}
+use Rattle.rdm_json.specs.declared.place.FieldName.TheVariants as field
+use Rattle.rdm_json.specs.declared.place.Place.TheVariants as place
+use Rattle.rdm_json.specs.declared.refusal.BadScript.{BadScript}
+use Rattle.rdm_json.specs.declared.refusal.Reason.{Reason}
+use Rattle.rdm_json.specs.declared.refusal.Reason.TheVariants.{Shape, Limit}
 use Rattle.rdm_script.specs.declared.fields.Protocol.{Protocol}
 use Rattle.rdm_script.specs.declared.fields.PoolSizes.{PoolSizes}
-use Rattle.rdm_script.specs.Results.{◌>>=◌, present, placed}
-use Rattle.rdm_script.specs.Values.{array_of, found_at}
+use Rattle.rdm_json.specs.Results.{◌>>=◌, present, placed}
+use Rattle.rdm_json.specs.Values.{array_of, found_at}
 use Rattle.rdm_script.specs.Fields.{number_field, protocol_of, pools_known, pools_of, counted, ranks_field, choices_in, choices_field, top_tested}
 use Rattle.rdm_script.specs.Programs.{rank_of, ranks_of}
 use Rattle.rdm_script.specs.Choices.{choices_of}
 use Rattle.rdm_script.specs.Script.{limits_of, programs_of}
 use Rattle.rdm_script.specs.Laws.{FormedAreFair}
-use Rattle.rdm_script.proofs.Chains.{gave, passed, unplaced, tested_value, given}
+use Rattle.rdm_json.proofs.Chains.{gave, passed, unplaced, tested_value, given}
 use Rattle.rdm_script.proofs.Numbers.{number_in-fits}
 use Rattle.rdm_script.proofs.Lives.{rank_of-fits}
 use Rattle.rdm_script.proofs.Picks.{choices_of-fits}

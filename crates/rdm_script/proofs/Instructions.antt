@@ -8,15 +8,15 @@ use Rattle.rdm_model.specs.declared.answer.OpName.TheVariants as op
 use Rattle.rdm_model.specs.declared.job.Instr.{Instr}
 use Rattle.rdm_model.specs.declared.job.Instr.TheVariants as instr
 use Rattle.rdm_model.specs.Jobs.{instr_fits, range_fits, option_fits, want_fits, is_rank_or_none}
-use Rattle.rdm_script.specs.declared.refusal.Reason.{Reason}
-use Rattle.rdm_script.specs.declared.refusal.Reason.TheVariants.{Shape}
-use Rattle.rdm_script.specs.declared.value.Form.TheVariants as form
-use Rattle.rdm_script.specs.Results.{present}
-use Rattle.rdm_script.specs.Values.{known, number, optional, text}
+use Rattle.rdm_json.specs.declared.refusal.Reason.{Reason}
+use Rattle.rdm_json.specs.declared.refusal.Reason.TheVariants.{Shape}
+use Rattle.rdm_json.specs.declared.value.Form.TheVariants as form
+use Rattle.rdm_json.specs.Results.{present}
+use Rattle.rdm_json.specs.Values.{known, number, optional, text}
 use Rattle.rdm_script.specs.Contents.{as_length, content_of}
 use Rattle.rdm_script.specs.Instructions.{as_u32, as_port, open_of, insert_of, reg_of, send_of, want_of, recv_of, cancel_of, note_of, await_of, wait_of, close_of, word_of, said, instr_of}
 use Rattle.rdm_script.specs.Programs.{port_named}
-use Rattle.rdm_script.proofs.Chains.{gave, passed, given}
+use Rattle.rdm_json.proofs.Chains.{gave, passed, given}
 use Rattle.rdm_script.proofs.Numbers.{number-fits, optional-fits, as_u32-fits, as_length-fits}
 use Rattle.rdm_script.proofs.Contents.{content_of-is}
 

@@ -9,16 +9,16 @@ use Rattle.rdm_model.specs.declared.job.Instr.{Instr}
 use Rattle.rdm_model.specs.declared.job.Instr.TheVariants.{OpenLife, Insert, Reg, Send, Recv, Cancel, Note, Await, Wait, CloseLife}
 use Rattle.rdm_model.specs.declared.job.Rank.{Rank}
 use Rattle.rdm_model.specs.Jobs.{instr_fits, opens_well, lives_fit, features_fit, rank_fits, law_ops, is_rank_or_none}
-use Rattle.rdm_script.specs.declared.place.Place.TheVariants as place
-use Rattle.rdm_script.specs.declared.refusal.BadScript.{BadScript}
-use Rattle.rdm_script.specs.declared.refusal.Reason.{Reason}
-use Rattle.rdm_script.specs.declared.refusal.Reason.TheVariants.{Limit, NoRank, NoLife, OpenTwice, RepeatConnid}
-use Rattle.rdm_script.specs.declared.value.Form.TheVariants as form
-use Rattle.rdm_script.specs.Results.{tested, placed}
-use Rattle.rdm_script.specs.Values.{known, number_or, array}
+use Rattle.rdm_json.specs.declared.place.Place.TheVariants as place
+use Rattle.rdm_json.specs.declared.refusal.BadScript.{BadScript}
+use Rattle.rdm_json.specs.declared.refusal.Reason.{Reason}
+use Rattle.rdm_json.specs.declared.refusal.Reason.TheVariants.{Limit, NoRank, NoLife, OpenTwice, RepeatConnid}
+use Rattle.rdm_json.specs.declared.value.Form.TheVariants as form
+use Rattle.rdm_json.specs.Results.{tested, placed}
+use Rattle.rdm_json.specs.Values.{known, number_or, array}
 use Rattle.rdm_script.specs.Instructions.{instr_of}
 use Rattle.rdm_script.specs.Programs.{port_named, is_open, opened, lives_tested, next_instr, program_of, rank_parts, rank_of}
-use Rattle.rdm_script.proofs.Chains.{gave, passed, held, unplaced, given}
+use Rattle.rdm_json.proofs.Chains.{gave, passed, held, unplaced, given}
 use Rattle.rdm_script.proofs.Instructions.{instr_of-fits}
 
 -- a test that was passed by what is no open

@@ -4,13 +4,13 @@ use Rattle.std.specs.Prelude.{nat_le, option_and_then}
 use Rattle.serde_json.specs.Data.{Data}
 use Rattle.serde_json.specs.Find.{get, as_number, as_u64, as_str}
 use Rattle.rdm_model.specs.Jobs.{is_u32, is_u64, is_within, len_max, option_fits}
-use Rattle.rdm_script.specs.declared.refusal.Reason.TheVariants.{Shape, Limit}
-use Rattle.rdm_script.specs.Results.{tested, present}
-use Rattle.rdm_script.specs.Values.{number_of, text_of, are_bytes, value, number, text, optional, number_if_there, number_or}
+use Rattle.rdm_json.specs.declared.refusal.Reason.TheVariants.{Shape, Limit}
+use Rattle.rdm_json.specs.Results.{tested, present}
+use Rattle.rdm_json.specs.Values.{number_of, text_of, are_bytes, value, number, text, optional, number_if_there, number_or}
 use Rattle.rdm_script.specs.Fields.{number_in}
 use Rattle.rdm_script.specs.Contents.{as_length}
 use Rattle.rdm_script.specs.Instructions.{as_u32}
-use Rattle.rdm_script.proofs.Chains.{gave, passed, tested_value}
+use Rattle.rdm_json.proofs.Chains.{gave, passed, tested_value}
 
 pub number_of-fits : (d : Data) (n : ℕ) → number_of d ≡ Ok n → is_u64 n ≡ true
 number_of-fits d n h =

@@ -7,14 +7,14 @@ use Rattle.serde_json.specs.Data.{Data}
 use Rattle.rdm_model.specs.declared.job.Choice.{Choice}
 use Rattle.rdm_model.specs.declared.job.Choice.TheVariants as choice
 use Rattle.rdm_model.specs.Jobs.{choice_rank}
-use Rattle.rdm_script.specs.declared.place.Place.TheVariants as place
-use Rattle.rdm_script.specs.declared.refusal.BadScript.{BadScript}
-use Rattle.rdm_script.specs.declared.refusal.Reason.{Reason}
-use Rattle.rdm_script.specs.declared.refusal.Reason.TheVariants.{NoRank}
-use Rattle.rdm_script.specs.Results.{◌>>=◌, placed}
-use Rattle.rdm_script.specs.Values.{array_of, text_of, number_of}
+use Rattle.rdm_json.specs.declared.place.Place.TheVariants as place
+use Rattle.rdm_json.specs.declared.refusal.BadScript.{BadScript}
+use Rattle.rdm_json.specs.declared.refusal.Reason.{Reason}
+use Rattle.rdm_json.specs.declared.refusal.Reason.TheVariants.{NoRank}
+use Rattle.rdm_json.specs.Results.{◌>>=◌, placed}
+use Rattle.rdm_json.specs.Values.{array_of, text_of, number_of}
 use Rattle.rdm_script.specs.Choices.{as_rank, plain_choice, picking_choice, choice_in, choice_of, choices_of}
-use Rattle.rdm_script.proofs.Chains.{gave, unplaced, tested_value, given}
+use Rattle.rdm_json.proofs.Chains.{gave, unplaced, tested_value, given}
 
 -- a choice made of a rank is of a rank
 made_of : (ports rank : ℕ) (make : ℕ → Choice) → ((r : ℕ) → choice_rank (make r) ≡ r) → (c : Choice) → (as_rank ports rank >>= λ r. Ok (make r)) ≡ Ok c → nat_lt (choice_rank c) ports ≡ true

@@ -6,10 +6,10 @@ use Rattle.serde_json.specs.Data.{Data}
 use Rattle.rdm_model.specs.declared.job.Instr.{Instr}
 use Rattle.rdm_model.specs.declared.job.Instr.TheVariants.{OpenLife, Insert, Reg, Send, Recv, Cancel, Note, Await, Wait, CloseLife}
 use Rattle.rdm_model.specs.Jobs.{opened_by, needs_life}
-use Rattle.rdm_script.specs.declared.place.Place.TheVariants as place
-use Rattle.rdm_script.specs.declared.refusal.BadScript.{BadScript}
-use Rattle.rdm_script.specs.declared.refusal.Reason.TheVariants.{NoLife, OpenTwice, RepeatConnid}
-use Rattle.rdm_script.specs.Results.{◌>>=◌, ◌>>◌, tested, placed, with_front}
+use Rattle.rdm_json.specs.declared.place.Place.TheVariants as place
+use Rattle.rdm_json.specs.declared.refusal.BadScript.{BadScript}
+use Rattle.rdm_json.specs.declared.refusal.Reason.TheVariants.{NoLife, OpenTwice, RepeatConnid}
+use Rattle.rdm_json.specs.Results.{◌>>=◌, ◌>>◌, tested, placed, with_front}
 use Rattle.rdm_script.specs.Programs.{is_open, opened, lives_tested, next_instr, program_of}
 
 -- what stands after the newest stands after all

@@ -3,12 +3,12 @@ use Rattle.std.specs.Prelude.{ℕ, ◌+◌, bytes_eq, nat_lt, List, [], ◌∷�
 use Rattle.serde_json.specs.Data.{Data}
 use Rattle.rdm_model.specs.declared.job.Choice.{Choice}
 use Rattle.rdm_model.specs.declared.job.Choice.TheVariants as choice
-use Rattle.rdm_script.specs.declared.place.Place.TheVariants as place
-use Rattle.rdm_script.specs.declared.refusal.BadScript.{BadScript}
-use Rattle.rdm_script.specs.declared.refusal.Reason.{Reason}
-use Rattle.rdm_script.specs.declared.refusal.Reason.TheVariants.{Shape, NoRank}
-use Rattle.rdm_script.specs.Results.{◌>>=◌, ◌>>◌, tested, placed}
-use Rattle.rdm_script.specs.Values.{number_of, text_of, array_of}
+use Rattle.rdm_json.specs.declared.place.Place.TheVariants as place
+use Rattle.rdm_json.specs.declared.refusal.BadScript.{BadScript}
+use Rattle.rdm_json.specs.declared.refusal.Reason.{Reason}
+use Rattle.rdm_json.specs.declared.refusal.Reason.TheVariants.{Shape, NoRank}
+use Rattle.rdm_json.specs.Results.{◌>>=◌, ◌>>◌, tested, placed}
+use Rattle.rdm_json.specs.Values.{number_of, text_of, array_of}
 
 -- the rank is one of so many
 abbrev pub as_rank : (ports rank : ℕ) → Result ℕ Reason

@@ -3,11 +3,11 @@ use Rattle.std.specs.Prelude.{ℕ, zero, suc, ◌+◌, ◌-◌, ◌*◌, ◌/◌
 use Rattle.std.specs.List.{list_all}
 use Rattle.serde_json.specs.Data.{Data}
 use Rattle.rdm_model.specs.Jobs.{len_max}
-use Rattle.rdm_script.specs.declared.refusal.Reason.{Reason}
-use Rattle.rdm_script.specs.declared.refusal.Reason.TheVariants.{Shape, Limit}
-use Rattle.rdm_script.specs.declared.value.Form.TheVariants.{RegText, RegHex, RegZero, RegFill}
-use Rattle.rdm_script.specs.Results.{◌>>=◌, ◌>>◌, tested}
-use Rattle.rdm_script.specs.Values.{keys_known, number_of, number, text, array}
+use Rattle.rdm_json.specs.declared.refusal.Reason.{Reason}
+use Rattle.rdm_json.specs.declared.refusal.Reason.TheVariants.{Shape, Limit}
+use Rattle.rdm_json.specs.declared.value.Form.TheVariants.{RegText, RegHex, RegZero, RegFill}
+use Rattle.rdm_json.specs.Results.{◌>>=◌, ◌>>◌, tested}
+use Rattle.rdm_json.specs.Values.{keys_known, number_of, number, text, array}
 
 -- a hexadecimal digit, of either case
 abbrev pub is_hex_digit : ℕ → Bool

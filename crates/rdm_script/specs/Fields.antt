@@ -3,17 +3,17 @@ use Rattle.std.specs.Prelude.{ℕ, ⊤, ◌==◌, List, [], length, codes, Optio
 use Rattle.serde_json.specs.Data.{Data}
 use Rattle.serde_json.specs.Find.{get}
 use Rattle.rdm_model.specs.Jobs.{is_within}
-use Rattle.rdm_script.specs.declared.place.FieldName.{FieldName}
-use Rattle.rdm_script.specs.declared.place.FieldName.TheVariants as field
-use Rattle.rdm_script.specs.declared.place.Place.TheVariants.{Whole, Field}
-use Rattle.rdm_script.specs.declared.refusal.BadScript.{BadScript}
-use Rattle.rdm_script.specs.declared.refusal.Reason.{Reason}
-use Rattle.rdm_script.specs.declared.refusal.Reason.TheVariants.{Shape, Version, Limit}
-use Rattle.rdm_script.specs.declared.value.Form.TheVariants as form
+use Rattle.rdm_json.specs.declared.place.FieldName.{FieldName}
+use Rattle.rdm_json.specs.declared.place.FieldName.TheVariants as field
+use Rattle.rdm_json.specs.declared.place.Place.TheVariants.{Whole, Field}
+use Rattle.rdm_json.specs.declared.refusal.BadScript.{BadScript}
+use Rattle.rdm_json.specs.declared.refusal.Reason.{Reason}
+use Rattle.rdm_json.specs.declared.refusal.Reason.TheVariants.{Shape, Version, Limit}
+use Rattle.rdm_json.specs.declared.value.Form.TheVariants as form
 use Rattle.rdm_script.specs.declared.fields.Protocol.{Protocol}
 use Rattle.rdm_script.specs.declared.fields.PoolSizes.{PoolSizes}
-use Rattle.rdm_script.specs.Results.{◌>>=◌, ◌>>◌, tested, present, placed}
-use Rattle.rdm_script.specs.Values.{known, number, number_or, array_of, found_at}
+use Rattle.rdm_json.specs.Results.{◌>>=◌, ◌>>◌, tested, present, placed}
+use Rattle.rdm_json.specs.Values.{known, number, number_or, array_of, found_at}
 
 -- an object with the keys of a script, which has ranks and says its version
 abbrev pub version_of : Data → Result ℕ Reason

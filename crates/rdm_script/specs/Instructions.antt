@@ -8,11 +8,11 @@ use Rattle.rdm_model.specs.declared.answer.OpName.TheVariants as op
 use Rattle.rdm_model.specs.declared.job.Instr.{Instr}
 use Rattle.rdm_model.specs.declared.job.Instr.TheVariants as instr
 use Rattle.rdm_model.specs.Jobs.{is_u32}
-use Rattle.rdm_script.specs.declared.refusal.Reason.{Reason}
-use Rattle.rdm_script.specs.declared.refusal.Reason.TheVariants.{Shape, Limit}
-use Rattle.rdm_script.specs.declared.value.Form.TheVariants as form
-use Rattle.rdm_script.specs.Results.{◌>>=◌, ◌>>◌, tested, present}
-use Rattle.rdm_script.specs.Values.{known, number, optional, text}
+use Rattle.rdm_json.specs.declared.refusal.Reason.{Reason}
+use Rattle.rdm_json.specs.declared.refusal.Reason.TheVariants.{Shape, Limit}
+use Rattle.rdm_json.specs.declared.value.Form.TheVariants as form
+use Rattle.rdm_json.specs.Results.{◌>>=◌, ◌>>◌, tested, present}
+use Rattle.rdm_json.specs.Values.{known, number, optional, text}
 use Rattle.rdm_script.specs.Contents.{as_length, content_of}
 
 -- the number is below 2^32

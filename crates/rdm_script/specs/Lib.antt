@@ -1,15 +1,13 @@
 -- How a script is read:
-pub mod Results
-pub mod Values
 pub mod Fields
 pub mod Contents
 pub mod Instructions
 pub mod Programs
 pub mod Choices
+-- Which scripts are played, and the whole reader:
+pub mod Played
 pub mod Script
--- What is kept of it while it is read:
+-- What is kept of a script while it is read:
 pub mod Drafts
--- Which scripts are built, and what is known of their jobs:
-pub mod Built
-pub mod FirstPath
+-- What is known of the jobs that come of scripts:
 pub mod Laws

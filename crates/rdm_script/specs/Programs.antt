@@ -8,13 +8,13 @@ use Rattle.rdm_model.specs.declared.job.Instr.{Instr}
 use Rattle.rdm_model.specs.declared.job.Instr.TheVariants.{OpenLife, Insert, Reg, Send, Recv, Note, Await}
 use Rattle.rdm_model.specs.declared.job.Rank.{Rank}
 use Rattle.rdm_model.specs.Jobs.{is_rank_or_none, needs_life, is_open_after, opened_by, features_fit, sent_length}
-use Rattle.rdm_script.specs.declared.place.Place.TheVariants as place
-use Rattle.rdm_script.specs.declared.refusal.BadScript.{BadScript}
-use Rattle.rdm_script.specs.declared.refusal.Reason.{Reason}
-use Rattle.rdm_script.specs.declared.refusal.Reason.TheVariants.{Limit, NoRank, NoLife, OpenTwice, RepeatConnid}
-use Rattle.rdm_script.specs.declared.value.Form.TheVariants as form
-use Rattle.rdm_script.specs.Results.{◌>>=◌, ◌>>◌, tested, placed}
-use Rattle.rdm_script.specs.Values.{known, number_or, array}
+use Rattle.rdm_json.specs.declared.place.Place.TheVariants as place
+use Rattle.rdm_json.specs.declared.refusal.BadScript.{BadScript}
+use Rattle.rdm_json.specs.declared.refusal.Reason.{Reason}
+use Rattle.rdm_json.specs.declared.refusal.Reason.TheVariants.{Limit, NoRank, NoLife, OpenTwice, RepeatConnid}
+use Rattle.rdm_json.specs.declared.value.Form.TheVariants as form
+use Rattle.rdm_json.specs.Results.{◌>>=◌, ◌>>◌, tested, placed}
+use Rattle.rdm_json.specs.Values.{known, number_or, array}
 use Rattle.rdm_script.specs.Instructions.{instr_of}
 
 -- the port that an instruction names

@@ -7,17 +7,17 @@ use Rattle.serde_json.specs.Read.{read}
 use Rattle.rdm_num.specs.declared.limits.EpLimits.{EpLimits}
 use Rattle.rdm_model.specs.declared.job.Job.{Job}
 use Rattle.rdm_model.specs.declared.job.Rank.{Rank}
-use Rattle.rdm_script.specs.declared.place.Place.TheVariants.{Whole}
-use Rattle.rdm_script.specs.declared.refusal.Reason.{Reason}
-use Rattle.rdm_script.specs.declared.refusal.Reason.TheVariants.{TooLong, NotJson, TooBig, Unbuilt}
-use Rattle.rdm_script.specs.declared.refusal.BadScript.{BadScript}
+use Rattle.rdm_json.specs.declared.place.Place.TheVariants.{Whole}
+use Rattle.rdm_json.specs.declared.refusal.Reason.{Reason}
+use Rattle.rdm_json.specs.declared.refusal.Reason.TheVariants.{TooLong, NotJson, TooBig, Unbuilt}
+use Rattle.rdm_json.specs.declared.refusal.BadScript.{BadScript}
 use Rattle.rdm_script.specs.declared.fields.Protocol.{Protocol}
 use Rattle.rdm_script.specs.declared.fields.PoolSizes.{PoolSizes}
-use Rattle.rdm_script.specs.Results.{◌>>=◌, ◌>>◌, tested, placed}
+use Rattle.rdm_json.specs.Results.{◌>>=◌, ◌>>◌, tested, placed}
 use Rattle.rdm_script.specs.Fields.{top_tested, protocol_of, pools_of, ranks_field, choices_field}
 use Rattle.rdm_script.specs.Programs.{ranks_of, is_too_big}
 use Rattle.rdm_script.specs.Choices.{choices_of}
-use Rattle.rdm_script.specs.Built.{is_built}
+use Rattle.rdm_script.specs.Played.{is_played}
 
 -- the most bytes of a script
 abbrev pub script_max : ℕ
@@ -62,13 +62,13 @@ formed_job script = do
   choices ← choices_of 0 (length values) picks
   Ok (record { limits = limits_of protocol pools; inbox = pools.inbox; clock = protocol.clock; ranks = ranks; choices = choices })
 
--- the job, where it is built
-abbrev pub if_built : Data → Job → Result Job BadScript
-if_built script job = if is_built script job then Ok job else whole Unbuilt
+-- the job, where it is played
+abbrev pub if_played : Job → Result Job BadScript
+if_played job = if is_played job then Ok job else whole Unbuilt
 
--- the job that a JSON value says, where it is built
+-- the job that a JSON value says, where it is played
 abbrev pub value_job : Data → Result Job BadScript
-value_job script = formed_job script >>= if_built script
+value_job script = formed_job script >>= if_played
 
 -- the job of a JSON value, where there is one
 abbrev pub read_job : Option Data → Result Job BadScript

@@ -1,12 +1,11 @@
 //! The choices.
 ghost use Rattle.std.specs.Prelude.{◌≡◌, map, length};
 ghost use Rattle.serde_json.specs.View.{view};
-ghost use Rattle.rdm_script.specs.Results.{GivesAs};
+ghost use Rattle.rdm_json.specs.Results.{GivesAs};
 ghost use Rattle.rdm_script.specs.Choices.{as_rank, plain_choice, picking_choice, choice_in, choice_of, choices_of};
 
-use crate::refusal::placed;
-use crate::value::{array_of, number_of, text_of};
 use crate::{Place, Reason, ScriptRefused};
+use rdm_json::{array_of, number_of, placed, text_of};
 use rdm_model::{Choice, Choices};
 use serde_json::Value;
 use std::alloc::Global;

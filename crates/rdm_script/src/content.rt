@@ -2,12 +2,12 @@
 ghost use Rattle.std.specs.Prelude.{◌≡◌, ◌<◌, IfOk, map, length};
 ghost use Rattle.std.specs.List.{list_all};
 ghost use Rattle.serde_json.specs.View.{view};
-ghost use Rattle.rdm_script.specs.Results.{result_map};
+ghost use Rattle.rdm_json.specs.Results.{result_map};
 ghost use Rattle.rdm_script.specs.Contents.{is_hex_digit, hex_value, is_hex, hex_bytes, fill_byte, fill_bytes, as_length, text_content, hex_content, zero_content, fill_of, fill_parts, fill_content, content_of};
 ghost use Rattle.rdm_script.specs.Drafts.{made_content};
 
 use crate::Reason;
-use crate::value::{Form, array, keys_known, number, number_of, text};
+use rdm_json::{Form, array, keys_known, number, number_of, text};
 use rdm_num::{Bytes, LEN_MAX, NoMemory};
 use serde_json::Value;
 use std::alloc::Global;

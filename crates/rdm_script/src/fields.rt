@@ -1,12 +1,11 @@
 //! The keys of the outermost object.
 ghost use Rattle.std.specs.Prelude.{◌≡◌, ◌≤◌, IfOk, length, map, option_map};
 ghost use Rattle.serde_json.specs.View.{view};
-ghost use Rattle.rdm_script.specs.Results.{result_map};
+ghost use Rattle.rdm_json.specs.Results.{result_map};
 ghost use Rattle.rdm_script.specs.Fields.{version_of, top_tested, number_in, number_field, protocol_of, pools_known, pools_of, counted, ranks_field, choices_in, choices_field};
 
-use crate::refusal::placed;
-use crate::value::{Form, array_of, found_at, known, number, number_or, present};
 use crate::{BadScript, FieldName, Place, Reason};
+use rdm_json::{Form, array_of, found_at, known, number, number_or, placed, present};
 use serde_json::Value;
 
 /// The numbers of a script that are no pools.

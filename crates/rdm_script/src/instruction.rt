@@ -1,14 +1,14 @@
 //! What each instruction object says.
 ghost use Rattle.std.specs.Prelude.{◌≡◌};
 ghost use Rattle.serde_json.specs.View.{view};
-ghost use Rattle.rdm_script.specs.Results.{result_map, present};
+ghost use Rattle.rdm_json.specs.Results.{result_map, present};
 ghost use Rattle.rdm_script.specs.Instructions.{as_u32, as_port, open_of, insert_of, reg_of, send_of, want_of, recv_of, cancel_of, note_of, await_of, wait_of, close_of, word_of, said, instr_of};
 ghost use Rattle.rdm_script.specs.Drafts.{made};
 
 use crate::Reason;
 use crate::content::{as_length, content_of};
 use crate::draft::Draft;
-use crate::value::{Form, known, number, optional, text};
+use rdm_json::{Form, known, number, optional, text};
 use rdm_model::{Instr, OpName};
 use rdm_num::{Connid, Life, PortNo, RecvNo, RecvReq, RegionNo, SendReq, Want};
 use serde_json::Value;

@@ -1,10 +1,9 @@
 //! What is known of every job.
-ghost use Rattle.rdm_script.specs.Laws.{FormedAreFair, BuiltAreFair, BuiltAreFirst};
+ghost use Rattle.rdm_script.specs.Laws.{FormedAreFair, ReadAreFair, ReadArePlayed};
 
-/// A job of a well formed script is fair. So is a job that comes of a script, and it is the job of
-/// one sender and one receiver.
-pub fn built_jobs()
+/// A job of a well formed script is fair. So is a job that comes of a script, and it is played.
+pub fn read_jobs()
     ensures formed { FormedAreFair }
-    ensures fair { BuiltAreFair }
-    ensures first { BuiltAreFirst }
+    ensures fair { ReadAreFair }
+    ensures played { ReadArePlayed }
 {}

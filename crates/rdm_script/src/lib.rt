@@ -5,21 +5,16 @@ mod choices;
 mod content;
 mod draft;
 mod fields;
-mod first_path;
 mod instruction;
 mod laws;
-mod messages;
-mod place;
+mod played;
 mod program;
 mod ranks;
-mod refusal;
 mod script;
 #[cfg(test)]
 mod tests;
 mod totals;
-mod value;
 
-pub use laws::built_jobs;
-pub use place::{FieldName, Place};
-pub use refusal::{BadScript, Reason, ScriptRefused};
+pub use laws::read_jobs;
+pub use rdm_json::{BadScript, FieldName, Place, Reason, ScriptRefused};
 pub use script::job_of;

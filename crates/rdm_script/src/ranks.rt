@@ -2,17 +2,16 @@
 ghost use Rattle.std.specs.Prelude.{◌≡◌, ◌<◌, ◌^◌, [], IfOk, map, length};
 ghost use Rattle.serde_json.specs.View.{view};
 ghost use Rattle.rdm_model.specs.Jobs.{features_fit};
-ghost use Rattle.rdm_script.specs.Results.{result_map, GivesAs};
+ghost use Rattle.rdm_json.specs.Results.{result_map, GivesAs};
 ghost use Rattle.rdm_script.specs.Programs.{next_instr, program_of, rank_parts, rank_of, ranks_of};
 ghost use Rattle.rdm_script.specs.Drafts.{made, made_rank};
 
 use crate::draft::Draft;
 use crate::instruction::instr_of;
 use crate::program::Program;
-use crate::refusal::placed;
-use crate::value::{Form, array, known, number_or};
 use crate::{Place, Reason, ScriptRefused};
 use rdm_hdr::has_bit;
+use rdm_json::{Form, array, known, number_or, placed};
 use rdm_model::{Instr, Ops, Rank};
 use rdm_num::{NoMemory, OPS_MAX};
 use serde_json::Value;

@@ -1,7 +1,7 @@
 //! From the bytes of a script to its job.
 ghost use Rattle.std.specs.Prelude.{◌≡◌, ◌<◌, ◌^◌, length, map};
 ghost use Rattle.serde_json.specs.View.{view};
-ghost use Rattle.rdm_script.specs.Results.{Gives, GivesAs};
+ghost use Rattle.rdm_json.specs.Results.{Gives, GivesAs};
 ghost use Rattle.rdm_script.specs.Script.{job_in, text_job, value_job, formed_job, limits_of, programs_of};
 ghost use Rattle.rdm_script.specs.Drafts.{made_rank};
 
@@ -9,7 +9,7 @@ use crate::choices::choices_of;
 use crate::fields::{
     PoolSizes, Protocol, choices_field, pools_of, protocol_of, ranks_field, top_tested,
 };
-use crate::first_path::is_built;
+use crate::played::is_played;
 use crate::ranks::{RankDraft, make_ranks, ranks_of};
 use crate::totals::is_too_big;
 use crate::{BadScript, Place, Reason, ScriptRefused};
@@ -51,12 +51,12 @@ fn whole(why: Reason) -> ScriptRefused
     ScriptRefused::Bad(BadScript { place, why })
 }
 
-/// The job of a JSON value, where it is built.
+/// The job of a JSON value, where it is played.
 fn value_job(alloc: Global, script: &Value) -> Result<Job, ScriptRefused>
     ensures { Gives result (value_job (view script.now)) }
 {
     let job = formed_job(alloc, script)?;
-    if is_built(script, &job) {
+    if is_played(&job) {
         Ok(job)
     } else {
         Err(whole(Reason::Unbuilt))

@@ -1,3 +1,3 @@
 pub mod Known
 pub mod Whole
-pub mod FirstPath
+pub mod PlayedJobs

@@ -6,11 +6,11 @@ use Rattle.std.specs.Io.KnownBytes.{IsAtEnd, Keeps}
 use Rattle.rdm_model.specs.declared.job.Job.{Job}
 use Rattle.rdm_model.specs.declared.report.Report.{Report}
 use Rattle.rdm_model.specs.Played.{IsPlayed}
-use Rattle.rdm_script.specs.declared.refusal.Reason.TheVariants.{TooLong}
+use Rattle.rdm_json.specs.declared.refusal.Reason.TheVariants.{TooLong}
 use Rattle.rdm_script.specs.Script.{job_in, text_job, whole, script_max}
 use Rattle.rdm_top.specs.Reads.{IsRead}
 use Rattle.rdm_top.specs.Promise.{Plays}
-use Rattle.rdm_top.proofs.FirstPath.{is_fair-job_in}
+use Rattle.rdm_top.proofs.PlayedJobs.{is_fair-job_in}
 use Rattle.rdm_law.proofs.PlaysRight.{plays_right}
 use Rattle.rdm_law.proofs.Bounded.{is_bounded}
 use Rattle.rdm_law.proofs.TheLaw.{the_headline}

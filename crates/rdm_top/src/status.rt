@@ -1,6 +1,6 @@
 //! How a call ended.
 ghost use Rattle.std.specs.Prelude.{◌≡◌};
-ghost use Rattle.rdm_top.specs.Exits.{exit_code};
+ghost use Rattle.rdm_top.specs.Exits.{exit_code, has_line};
 
 use rdm_script::BadScript;
 use std::fmt;
@@ -35,9 +35,21 @@ impl Status {
             Status::Memory => 6,
         }
     }
+
+    /// The program prints a line. At Done and Stuck the report says by itself how its job ended.
+    pub fn has_line(self) -> bool
+        ensures { result ≡ has_line self }
+    {
+        !matches!(self, Status::Done | Status::Stuck)
+    }
 }
 
 impl fmt::Display for Status {
+    ghost use Rattle.std.specs.Prelude.{Some};
+    ghost use Rattle.rdm_top.specs.Exits.{status_text};
+
+    ghost output = { λ status. Some (status_text status) };
+
     fn fmt<W: fmt::Write>(&self, f: &mut fmt::Formatter<W>) -> fmt::Result {
         match self {
             Status::Done => write!(f, "done"),

@@ -1,10 +1,7 @@
-mod order;
-
 ghost use Rattle.std.specs.Prelude.{◌≤◌};
 
 use crate::{Status, job};
-use rdm_io::{MemSink, MemSource, Source};
-use rdm_script::{BadScript, Place, Reason};
+use rdm_io::{MemSink, MemSource};
 use std::alloc::{AllocError, Global};
 use std::test::Fail;
 
@@ -66,59 +63,6 @@ fn a_message_is_played(rt: HostRuntime) -> Result<(), Fail> {
         let (status, out) = replayed(alloc, HELLO, step, Vec::new(alloc), Vec::new(alloc))?;
         assert_eq!(rt; status, Status::Done, "in steps of {step}");
         assert_eq!(rt; out.given(), REPORT.as_bytes(), "in steps of {step}");
-    }
-    Ok(())
-}
-
-#[test]
-fn a_program_that_waits_for_too_much_is_stuck(rt: HostRuntime) -> Result<(), Fail> {
-    let alloc = rt.alloc();
-    let script = HELLO.replace(alloc, r#""count":1}]}]}"#, r#""count":2}]}]}"#)?;
-    let (status, out) = replayed(alloc, script.as_str(), 64, Vec::new(alloc), Vec::new(alloc))?;
-    assert_eq!(rt; status, Status::Stuck);
-    let text = str::from_utf8(out.given())?;
-    assert_eq!(rt; text.lines().nth(1), Some("status stuck"));
-    let line = "rank 1 stuck 3 of 4 NotYet Wait 1 2 dropped 0 0 waiting 0";
-    assert!(rt; text.lines().any(|l| l == line), "{text}");
-    Ok(())
-}
-
-#[test]
-fn a_script_that_is_not_built_is_refused(rt: HostRuntime) -> Result<(), Fail> {
-    let alloc = rt.alloc();
-    for (script, why, line) in [
-        (
-            r#"{"version":1,"ranks":[{"ops":[]}]}"#,
-            Reason::Unbuilt,
-            "bad script: Unbuilt at whole",
-        ),
-        ("{}", Reason::Shape, "bad script: Shape at whole"),
-        ("{", Reason::NotJson, "bad script: NotJson at whole"),
-        ("", Reason::NotJson, "bad script: NotJson at whole"),
-    ] {
-        let place = Place::Whole;
-        let (status, out) = replayed(alloc, script, 64, Vec::new(alloc), Vec::new(alloc))?;
-        assert_eq!(rt; status, Status::BadScript(BadScript { place, why }));
-        assert_eq!(rt; status.to_string(alloc)?.as_str(), line);
-        assert!(rt; out.given().is_empty(), "nothing is given");
-    }
-    Ok(())
-}
-
-#[test]
-fn other_words_are_no_command(rt: HostRuntime) -> Result<(), Fail> {
-    let alloc = rt.alloc();
-    let twice = vec![in alloc; "replay".to_string(alloc)?, "replay".to_string(alloc)?]?;
-    let other = vec![in alloc; "Replay".to_string(alloc)?]?;
-    let none: Vec<String> = Vec::new(alloc);
-    for words in [twice.as_slice(), other.as_slice(), none.as_slice()] {
-        let mut src = MemSource::new(b"{}".to_vec(alloc)?, 2, Vec::new(alloc));
-        let mut out = MemSink::new(alloc, 65_536, 64, Vec::new(alloc))?;
-        let status = job(alloc, words, &mut src, &mut out);
-        assert_eq!(rt; status, Status::Usage);
-        assert_eq!(rt; status.to_string(alloc)?.as_str(), "usage: rdm replay");
-        assert!(rt; out.given().is_empty(), "nothing is given");
-        assert_eq!(rt; src.read(&mut [0; 4]), Ok(2), "nothing was read");
     }
     Ok(())
 }

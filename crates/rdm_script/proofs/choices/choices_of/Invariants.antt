@@ -1,6 +1,6 @@
 use Rattle.std.proofs.Common.{◌≡◌, length, map, drop}
 use Rattle.serde_json.specs.View.{view}
-use Rattle.rdm_script.specs.Results.{with_front}
+use Rattle.rdm_json.specs.Results.{with_front}
 use Rattle.rdm_script.specs.Choices.{choices_of}
 use Rattle.rdm_script.proofs.choices.choices_of.Given as goal
 

@@ -1,9 +1,9 @@
 use Rattle.std.proofs.Common.{map, drop, ◌+◌}
 use Rattle.serde_json.specs.View.{view}
-use Rattle.rdm_script.specs.declared.place.Place.TheVariants.{Op}
+use Rattle.rdm_json.specs.declared.place.Place.TheVariants.{Op}
 use Rattle.rdm_script.specs.Drafts.{made}
 use Rattle.rdm_script.proofs.Programs.{program_of-next}
-use Rattle.rdm_script.proofs.Seen.{view-next, placed-seen}
+use Rattle.rdm_json.proofs.Seen.{view-next, placed-seen}
 use Rattle.rdm_script.proofs.ranks.program_of.Goals as goal
 
 pub loop-value-preserved : goal.loop-value-preserved

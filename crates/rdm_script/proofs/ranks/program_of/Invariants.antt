@@ -1,6 +1,6 @@
 use Rattle.std.proofs.Common.{◌≡◌, [], map, drop, reverse}
 use Rattle.serde_json.specs.View.{view}
-use Rattle.rdm_script.specs.Results.{with_front}
+use Rattle.rdm_json.specs.Results.{with_front}
 use Rattle.rdm_script.specs.Programs.{program_of}
 use Rattle.rdm_script.proofs.ranks.program_of.Given as goal
 

@@ -3,7 +3,7 @@ use Rattle.std.specs.Str.{IsUtf8, is_utf8}
 use Rattle.std.proofs.lemmas.Str.{is_utf8-from_IsUtf8, IsUtf8-from_is_utf8}
 use Rattle.serde_json.specs.Read.{read}
 use Rattle.rdm_script.specs.Script.{text_job, read_job, whole}
-use Rattle.rdm_script.specs.declared.refusal.Reason.TheVariants.{NotJson}
+use Rattle.rdm_json.specs.declared.refusal.Reason.TheVariants.{NotJson}
 use Rattle.rdm_script.proofs.script.text_job.Goals as goal
 
 -- bytes that are no JSON text

@@ -1,4 +1,4 @@
-use Rattle.rdm_top.proofs.FirstPath.{is_fair-job_in, stays_built-job_in}
+use Rattle.rdm_top.proofs.PlayedJobs.{is_fair-job_in, stays_built-job_in}
 use Rattle.std.proofs.Common.{ℕ, List, sym, ◌∙◌, subst}
 use Rattle.std.specs.Io.KnownBytes.{Appends}
 use Rattle.rdm_top.specs.Reads.{IsRead}
