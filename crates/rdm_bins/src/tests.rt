@@ -1,16 +1,37 @@
 use crate::Bins;
-use rdm_match::{Arrived, Matcher, PostedRecv};
+use rdm_match::{Arrived, PostedRecv};
 use rdm_num::{Connid, Life, MsgNo, NoMemory, PortNo, RecvNo, Want};
-use std::alloc::Global;
 use std::process::Abort;
 use std::test::Fail;
 
-fn life(port: u32, connid: u32) -> Life {
-    Life {
-        port: PortNo(port),
-        connid: Connid(connid),
-    }
+/// The life that most messages come from.
+const ONE: Life = Life {
+    port: PortNo(0),
+    connid: Connid(5),
+};
+
+/// A life of another port.
+const OTHER: Life = Life {
+    port: PortNo(1),
+    connid: Connid(7),
+};
+
+/// A later life of that port.
+const LATER: Life = Life {
+    port: PortNo(1),
+    connid: Connid(8),
+};
+
+/// What comes to the bins, and what they answer.
+#[derive(Clone, Copy)]
+enum Step {
+    Post(PostedRecv, Option<Arrived>),
+    Arrive(Arrived, Option<PostedRecv>),
+    WouldTake(Arrived, Option<RecvNo>),
+    Cancel(RecvNo, bool),
 }
+
+use Step::{Arrive, Cancel, Post, WouldTake};
 
 /// A tagged receive from any source.
 fn tagged(id: u64, tag: u64, ignore: u64) -> PostedRecv {
@@ -30,12 +51,8 @@ fn untagged(id: u64, from: Option<Life>) -> PostedRecv {
     }
 }
 
-/// A message of the life 0.5 with a tag, or without one.
-fn message(no: u32, tag: Option<u64>) -> Arrived {
-    message_of(life(0, 5), no, tag)
-}
-
-fn message_of(life: Life, no: u32, tag: Option<u64>) -> Arrived {
+/// A message with a tag, or without one.
+fn message(life: Life, no: u32, tag: Option<u64>) -> Arrived {
     Arrived {
         life,
         no: MsgNo(no),
@@ -51,200 +68,91 @@ fn post(rt: &impl Abort, bins: &mut Bins, r: PostedRecv) -> Result<Option<Arrive
     bins.post(r)
 }
 
-#[test]
-fn one_call_after_another(rt: HostRuntime) -> Result<(), Fail> {
-    let mut bins = Bins::new(rt.alloc());
-    assert!(rt; post(&rt, &mut bins, tagged(0, 256, 255))?.is_none());
-    assert!(rt; bins.arrive(message(0, Some(513)))?.is_none());
-    assert!(rt; bins.arrive(message(1, Some(257)))? == Some(tagged(0, 256, 255)));
-    assert!(rt; post(&rt, &mut bins, untagged(1, None))?.is_none());
-    assert!(rt; post(&rt, &mut bins, tagged(2, 513, 0))? == Some(message(0, Some(513))));
-    assert!(rt; bins.would_take(&message(2, None)) == Some(RecvNo(1)));
-    assert!(rt; bins.cancel(RecvNo(1)));
-    assert!(rt; !bins.cancel(RecvNo(1)));
-    let forgotten = bins.forget(rt.alloc(), life(9, 9))?;
-    assert!(rt; forgotten.arrived.as_slice().is_empty());
-    assert!(rt; forgotten.posted.as_slice().is_empty());
+/// The bins answer each step as it says.
+fn run(rt: &impl Abort, bins: &mut Bins, steps: &[Step]) -> Result<(), NoMemory> {
+    for step in steps {
+        match step {
+            Post(r, taken) => assert!(rt; post(rt, bins, *r)? == *taken),
+            Arrive(a, taker) => assert!(rt; bins.arrive(*a)? == *taker),
+            WouldTake(a, taker) => assert!(rt; bins.would_take(a) == *taker),
+            Cancel(id, was_posted) => assert!(rt; bins.cancel(*id) == *was_posted),
+        }
+    }
     Ok(())
 }
 
 #[test]
 fn the_earlier_receive_takes_whichever_bin_it_waits_in(rt: HostRuntime) -> Result<(), Fail> {
     let mut bins = Bins::new(rt.alloc());
-    assert!(rt; post(&rt, &mut bins, tagged(0, 0, u64::MAX))?.is_none());
-    assert!(rt; post(&rt, &mut bins, tagged(1, 7, 0))?.is_none());
-    assert!(rt; post(&rt, &mut bins, tagged(2, 7, 0))?.is_none());
-    assert!(rt; post(&rt, &mut bins, tagged(3, 4, 3))?.is_none());
-    assert!(rt; bins.would_take(&message(0, Some(7))) == Some(RecvNo(0)));
-    assert!(rt; bins.arrive(message(0, Some(7)))? == Some(tagged(0, 0, u64::MAX)));
-    assert!(rt; bins.arrive(message(1, Some(7)))? == Some(tagged(1, 7, 0)));
-    assert!(rt; bins.cancel(RecvNo(2)));
-    assert!(rt; bins.arrive(message(2, Some(7)))? == Some(tagged(3, 4, 3)));
-    assert!(rt; bins.arrive(message(3, Some(7)))?.is_none());
+    let steps = [
+        Post(tagged(0, 0, u64::MAX), None),
+        Post(tagged(1, 7, 0), None),
+        Post(tagged(2, 7, 0), None),
+        Post(tagged(3, 4, 3), None),
+        WouldTake(message(ONE, 0, Some(7)), Some(RecvNo(0))),
+        Arrive(message(ONE, 0, Some(7)), Some(tagged(0, 0, u64::MAX))),
+        Arrive(message(ONE, 1, Some(7)), Some(tagged(1, 7, 0))),
+        Cancel(RecvNo(2), true),
+        Cancel(RecvNo(2), false),
+        Arrive(message(ONE, 2, Some(7)), Some(tagged(3, 4, 3))),
+        Arrive(message(ONE, 3, Some(7)), None),
+        // The bits that are ignored.
+        Post(tagged(4, 256, 255), None),
+        Arrive(message(ONE, 4, Some(513)), None),
+        Arrive(message(ONE, 5, Some(257)), Some(tagged(4, 256, 255))),
+        Post(tagged(5, 513, 0), Some(message(ONE, 4, Some(513)))),
+    ];
+    run(&rt, &mut bins, &steps)?;
     Ok(())
 }
 
 #[test]
 fn the_first_message_that_fits_is_taken(rt: HostRuntime) -> Result<(), Fail> {
     let mut bins = Bins::new(rt.alloc());
-    assert!(rt; bins.arrive(message(0, Some(2)))?.is_none());
-    assert!(rt; bins.arrive(message_of(life(1, 7), 0, Some(1)))?.is_none());
-    assert!(rt; bins.arrive(message(1, Some(1)))?.is_none());
-    assert!(rt; bins.arrive(message(2, None))?.is_none());
     let named = PostedRecv {
-        from: Some(life(0, 5)),
+        from: Some(ONE),
         ..tagged(0, 1, 1)
     };
-    assert!(rt; post(&rt, &mut bins, named)? == Some(message(1, Some(1))));
-    assert!(rt; post(&rt, &mut bins, tagged(1, 0, u64::MAX))? == Some(message(0, Some(2))));
-    assert!(rt; post(&rt, &mut bins, untagged(2, Some(life(1, 7))))?.is_none());
-    assert!(rt; post(&rt, &mut bins, untagged(3, None))? == Some(message(2, None)));
-    assert!(rt; post(&rt, &mut bins, tagged(4, 1, 0))? == Some(message_of(life(1, 7), 0, Some(1))));
+    let steps = [
+        Arrive(message(ONE, 0, Some(2)), None),
+        Arrive(message(OTHER, 0, Some(1)), None),
+        Arrive(message(ONE, 1, Some(1)), None),
+        Arrive(message(ONE, 2, None), None),
+        Post(named, Some(message(ONE, 1, Some(1)))),
+        Post(tagged(1, 0, u64::MAX), Some(message(ONE, 0, Some(2)))),
+        Post(untagged(2, Some(OTHER)), None),
+        WouldTake(message(OTHER, 1, None), Some(RecvNo(2))),
+        WouldTake(message(LATER, 0, None), None),
+        Post(untagged(3, None), Some(message(ONE, 2, None))),
+        Post(tagged(4, 1, 0), Some(message(OTHER, 0, Some(1)))),
+    ];
+    run(&rt, &mut bins, &steps)?;
     Ok(())
 }
 
 #[test]
 fn a_forgotten_life_goes_from_both_lists(rt: HostRuntime) -> Result<(), Fail> {
     let mut bins = Bins::new(rt.alloc());
-    assert!(rt; post(&rt, &mut bins, untagged(0, Some(life(1, 7))))?.is_none());
-    assert!(rt; post(&rt, &mut bins, untagged(1, Some(life(0, 5))))?.is_none());
-    assert!(rt; bins.arrive(message_of(life(1, 7), 0, Some(1)))?.is_none());
-    assert!(rt; bins.arrive(message(0, Some(2)))?.is_none());
-    let forgotten = bins.forget(rt.alloc(), life(1, 7))?;
-    let messages = [message_of(life(1, 7), 0, Some(1))];
-    let receives = [untagged(0, Some(life(1, 7)))];
+    let receives = [untagged(0, Some(OTHER)), untagged(2, Some(OTHER))];
+    let messages = [message(OTHER, 0, Some(1)), message(OTHER, 1, Some(3))];
+    let before = [
+        Post(receives[0], None),
+        Post(untagged(1, Some(ONE)), None),
+        Post(receives[1], None),
+        Arrive(messages[0], None),
+        Arrive(message(ONE, 0, Some(2)), None),
+        Arrive(messages[1], None),
+    ];
+    run(&rt, &mut bins, &before)?;
+    let forgotten = bins.forget(rt.alloc(), OTHER)?;
     assert!(rt; forgotten.arrived.as_slice() == messages.as_slice());
     assert!(rt; forgotten.posted.as_slice() == receives.as_slice());
-    assert!(rt; !bins.cancel(RecvNo(0)));
-    assert!(rt; bins.cancel(RecvNo(1)));
-    assert!(rt; post(&rt, &mut bins, tagged(3, 0, u64::MAX))? == Some(message(0, Some(2))));
-    assert!(rt; post(&rt, &mut bins, tagged(4, 0, u64::MAX))?.is_none());
-    Ok(())
-}
-
-/// The next of a row of numbers that jump about.
-fn next(number: u64) -> u64 {
-    number
-        .wrapping_mul(6_364_136_223_846_793_005)
-        .wrapping_add(1_442_695_040_888_963_407)
-}
-
-/// One of three lives, two of them of one port.
-fn any_life(number: u64) -> Life {
-    match (number >> 20) % 3 {
-        0 => life(0, 5),
-        1 => life(1, 7),
-        _ => life(1, 8),
-    }
-}
-
-/// One of four tags.
-fn any_tag(number: u64) -> u64 {
-    (number >> 24) % 4
-}
-
-/// A tagged or untagged receive, from a source or from any, with some bits compared.
-fn any_receive(number: u64, id: u64) -> PostedRecv {
-    let from = if (number >> 30) % 3 == 0 {
-        Some(any_life(number))
-    } else {
-        None
-    };
-    let ignore = match (number >> 34) % 8 {
-        0 => Some(1),
-        1 => Some(2),
-        2 => Some(u64::MAX),
-        3 => None,
-        _ => Some(0),
-    };
-    PostedRecv {
-        id: RecvNo(id),
-        from,
-        want: ignore.map(|ignore| Want {
-            tag: any_tag(number),
-            ignore,
-        }),
-    }
-}
-
-/// A tagged or untagged message.
-fn any_message(number: u64, no: u32) -> Arrived {
-    let tag = if (number >> 38) % 8 == 0 {
-        None
-    } else {
-        Some(any_tag(number))
-    };
-    message_of(any_life(number), no, tag)
-}
-
-/// Posts in both, and tells whether they answer alike.
-#[tactic(auto, using(rdm_match::proofs::Cancelled::vain_cancel))]
-fn post_in_both(
-    rt: &impl Abort,
-    plain: &mut Matcher,
-    bins: &mut Bins,
-    r: PostedRecv,
-) -> Result<bool, NoMemory> {
-    let was_plain = plain.cancel(r.id);
-    let was_binned = bins.cancel(r.id);
-    assert!(rt; !was_plain);
-    assert!(rt; !was_binned);
-    let taken = plain.post(r)?;
-    Ok(bins.post(r)? == taken)
-}
-
-/// Lets a message arrive at both, and tells whether they answer alike.
-fn arrive_at_both(plain: &mut Matcher, bins: &mut Bins, a: Arrived) -> Result<bool, NoMemory> {
-    let would_take = plain.would_take(&a);
-    let told_alike = bins.would_take(&a) == would_take;
-    let taker = plain.arrive(a)?;
-    Ok(told_alike && bins.arrive(a)? == taker)
-}
-
-/// Forgets a life in both, and tells whether they give the same.
-fn forget_in_both(
-    alloc: Global,
-    plain: &mut Matcher,
-    bins: &mut Bins,
-    life: Life,
-) -> Result<bool, NoMemory> {
-    let one = plain.forget(alloc, life)?;
-    let other = bins.forget(alloc, life)?;
-    Ok(
-        one.arrived.as_slice() == other.arrived.as_slice()
-            && one.posted.as_slice() == other.posted.as_slice(),
-    )
-}
-
-#[test]
-fn both_matchers_answer_alike(rt: HostRuntime) -> Result<(), Fail> {
-    let mut plain = Matcher::new(rt.alloc());
-    let mut bins = Bins::new(rt.alloc());
-    let mut number = 1u64;
-    for step in 0..4_000u32 {
-        number = next(number);
-        let id = u64::from(step);
-        match (number >> 42) % 16 {
-            0 => {
-                let at = RecvNo((number >> 46) % 4_000);
-                let was_posted = plain.cancel(at);
-                assert!(rt; bins.cancel(at) == was_posted);
-            }
-            1 => {
-                if (number >> 46) % 16 == 0 {
-                    let life = any_life(number);
-                    assert!(rt; forget_in_both(rt.alloc(), &mut plain, &mut bins, life)?);
-                }
-            }
-            2..=8 => {
-                let r = any_receive(number, id);
-                assert!(rt; post_in_both(&rt, &mut plain, &mut bins, r)?);
-            }
-            _ => {
-                let a = any_message(number, step);
-                assert!(rt; arrive_at_both(&mut plain, &mut bins, a)?);
-            }
-        }
-    }
+    let after = [
+        Cancel(RecvNo(0), false),
+        Cancel(RecvNo(1), true),
+        Post(tagged(3, 0, u64::MAX), Some(message(ONE, 0, Some(2)))),
+        Post(tagged(4, 0, u64::MAX), None),
+    ];
+    run(&rt, &mut bins, &after)?;
     Ok(())
 }

@@ -1,69 +1,103 @@
 use crate::{Cq, CqFull};
 use rdm_num::{Completion, Outcome, RecvNo, SendNo};
+use std::process::Abort;
 use std::test::Fail;
 
-fn sent(number: u64) -> Completion {
-    Completion::Send {
-        send: SendNo(number),
-        gone: false,
+/// What comes to a queue, and what it answers.
+#[derive(Clone, Copy)]
+enum Call {
+    /// A place is reserved, unless it is refused, and the completion is written into it.
+    Note(What, Result<(), CqFull>),
+    /// A place is reserved, unless it is refused, and given back.
+    Reserve(Result<(), CqFull>),
+    Poll(Option<What>),
+    IsEmpty(bool),
+}
+
+use Call::{IsEmpty, Note, Poll, Reserve};
+
+/// A completion of those that stand below.
+#[derive(Clone, Copy)]
+enum What {
+    Sent(u64),
+    Cancelled(u64),
+}
+
+use What::{Cancelled, Sent};
+
+fn completion(what: What) -> Completion {
+    match what {
+        Sent(number) => Completion::Send {
+            send: SendNo(number),
+            gone: false,
+        },
+        Cancelled(number) => Completion::Recv {
+            recv: RecvNo(number),
+            outcome: Outcome::Cancelled,
+        },
     }
 }
 
-fn cancelled(number: u64) -> Completion {
-    Completion::Recv {
-        recv: RecvNo(number),
-        outcome: Outcome::Cancelled,
-    }
-}
-
-/// Reserves a place and writes the completion into it; tells whether there was a place.
-fn note(cq: &mut Cq, completion: Completion) -> bool {
-    match cq.reserve() {
-        Ok(()) => {
-            cq.write(completion);
-            true
-        }
-        Err(CqFull) => false,
-    }
-}
-
-#[test]
-fn one_place_is_reserved_written_and_polled(rt: HostRuntime) -> Result<(), Fail> {
-    let mut cq = Cq::new(rt.alloc(), 1)?;
-    if cq.reserve().is_ok() {
-        assert!(rt; cq.reserve() == Err(CqFull));
-        cq.write(sent(3));
-    }
-    assert!(rt; cq.reserve() == Err(CqFull));
-    assert!(rt; cq.is_full());
-    assert!(rt; cq.poll() == Some(sent(3)));
-    assert!(rt; cq.poll() == None);
-    if cq.reserve() == Ok(()) {
-        cq.unreserve();
-    }
-    assert!(rt; !cq.is_full());
+/// Reserves a place and writes the completion into it.
+fn note(cq: &mut Cq, completion: Completion) -> Result<(), CqFull> {
+    cq.reserve()?;
+    cq.write(completion);
     Ok(())
+}
+
+/// Reserves a place and gives it back.
+fn reserve(cq: &mut Cq) -> Result<(), CqFull> {
+    cq.reserve()?;
+    cq.unreserve();
+    Ok(())
+}
+
+/// The queue answers each call as it says.
+fn run(rt: &impl Abort, cq: &mut Cq, calls: &[Call]) {
+    for call in calls {
+        match call {
+            Note(what, answer) => assert!(rt; note(cq, completion(*what)) == *answer),
+            Reserve(answer) => assert!(rt; reserve(cq) == *answer),
+            Poll(answer) => assert!(rt; cq.poll() == answer.map(completion)),
+            IsEmpty(is_empty) => assert!(rt; cq.is_empty() == *is_empty),
+        }
+    }
 }
 
 #[test]
 fn completions_come_in_order(rt: HostRuntime) -> Result<(), Fail> {
     let mut cq = Cq::new(rt.alloc(), 2)?;
-    assert!(rt; cq.is_empty());
-    assert!(rt; note(&mut cq, sent(0)));
-    assert!(rt; note(&mut cq, cancelled(0)));
-    assert!(rt; !note(&mut cq, sent(1)));
-    assert!(rt; cq.poll() == Some(sent(0)));
-    assert!(rt; note(&mut cq, sent(2)));
-    assert!(rt; cq.poll() == Some(cancelled(0)));
-    assert!(rt; cq.poll() == Some(sent(2)));
-    assert!(rt; cq.is_empty());
+    let calls = [
+        IsEmpty(true),
+        Note(Sent(3), Ok(())),
+        IsEmpty(false),
+        Reserve(Ok(())),
+        Reserve(Ok(())),
+        Note(Cancelled(0), Ok(())),
+        Reserve(Err(CqFull)),
+        Note(Sent(2), Err(CqFull)),
+        Poll(Some(Sent(3))),
+        Note(Sent(2), Ok(())),
+        Poll(Some(Cancelled(0))),
+        Poll(Some(Sent(2))),
+        Poll(None),
+        IsEmpty(true),
+    ];
+    run(&rt, &mut cq, &calls);
     Ok(())
 }
 
 #[test]
-fn without_a_place_each_reserve_is_refused(rt: HostRuntime) -> Result<(), Fail> {
-    let mut cq = Cq::new(rt.alloc(), 0)?;
-    assert!(rt; cq.reserve() == Err(CqFull));
-    assert!(rt; cq.poll() == None);
+fn reserved_places_are_taken(rt: HostRuntime) -> Result<(), Fail> {
+    let mut cq = Cq::new(rt.alloc(), 1)?;
+    if cq.reserve().is_ok() {
+        run(&rt, &mut cq, &[Note(Sent(3), Err(CqFull)), IsEmpty(true)]);
+    }
+    let mut without_a_place = Cq::new(rt.alloc(), 0)?;
+    run(
+        &rt,
+        &mut without_a_place,
+        &[Reserve(Err(CqFull)), Poll(None)],
+    );
     Ok(())
 }

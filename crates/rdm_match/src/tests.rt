@@ -3,12 +3,34 @@ use rdm_num::{Connid, Life, MsgNo, NoMemory, PortNo, RecvNo, Want};
 use std::process::Abort;
 use std::test::Fail;
 
-fn life(port: u32, connid: u32) -> Life {
-    Life {
-        port: PortNo(port),
-        connid: Connid(connid),
-    }
+/// The life that most messages come from.
+const ONE: Life = Life {
+    port: PortNo(0),
+    connid: Connid(5),
+};
+
+/// A life of another port.
+const OTHER: Life = Life {
+    port: PortNo(1),
+    connid: Connid(7),
+};
+
+/// A later life of that port.
+const LATER: Life = Life {
+    port: PortNo(1),
+    connid: Connid(8),
+};
+
+/// What comes to a matcher, and what it answers.
+#[derive(Clone, Copy)]
+enum Step {
+    Post(PostedRecv, Option<Arrived>),
+    Arrive(Arrived, Option<PostedRecv>),
+    WouldTake(Arrived, Option<RecvNo>),
+    Cancel(RecvNo, bool),
 }
+
+use Step::{Arrive, Cancel, Post, WouldTake};
 
 /// A tagged receive from any source.
 fn tagged(id: u64, tag: u64, ignore: u64) -> PostedRecv {
@@ -28,12 +50,8 @@ fn untagged(id: u64, from: Option<Life>) -> PostedRecv {
     }
 }
 
-/// A message of the life 0.5 with a tag, or without one.
-fn message(no: u32, tag: Option<u64>) -> Arrived {
-    message_of(life(0, 5), no, tag)
-}
-
-fn message_of(life: Life, no: u32, tag: Option<u64>) -> Arrived {
+/// A message with a tag, or without one.
+fn message(life: Life, no: u32, tag: Option<u64>) -> Arrived {
     Arrived {
         life,
         no: MsgNo(no),
@@ -53,91 +71,89 @@ fn post(
     matcher.post(r)
 }
 
-#[test]
-fn one_call_after_another(rt: HostRuntime) -> Result<(), Fail> {
-    let mut matcher = Matcher::new(rt.alloc());
-    assert!(rt; post(&rt, &mut matcher, tagged(0, 256, 255))?.is_none());
-    assert!(rt; matcher.arrive(message(0, Some(513)))?.is_none());
-    assert!(rt; matcher.arrive(message(1, Some(257)))? == Some(tagged(0, 256, 255)));
-    assert!(rt; post(&rt, &mut matcher, untagged(1, None))?.is_none());
-    assert!(rt; post(&rt, &mut matcher, tagged(2, 513, 0))? == Some(message(0, Some(513))));
-    assert!(rt; matcher.would_take(&message(2, None)) == Some(RecvNo(1)));
-    assert!(rt; matcher.cancel(RecvNo(1)));
-    assert!(rt; !matcher.cancel(RecvNo(1)));
-    let forgotten = matcher.forget(rt.alloc(), life(9, 9))?;
-    assert!(rt; forgotten.arrived.as_slice().is_empty());
-    assert!(rt; forgotten.posted.as_slice().is_empty());
+/// The matcher answers each step as it says.
+fn run(rt: &impl Abort, matcher: &mut Matcher, steps: &[Step]) -> Result<(), NoMemory> {
+    for step in steps {
+        match step {
+            Post(r, taken) => assert!(rt; post(rt, matcher, *r)? == *taken),
+            Arrive(a, taker) => assert!(rt; matcher.arrive(*a)? == *taker),
+            WouldTake(a, taker) => assert!(rt; matcher.would_take(a) == *taker),
+            Cancel(id, was_posted) => assert!(rt; matcher.cancel(*id) == *was_posted),
+        }
+    }
     Ok(())
 }
 
 #[test]
 fn the_first_that_fits_is_taken(rt: HostRuntime) -> Result<(), Fail> {
     let mut matcher = Matcher::new(rt.alloc());
-    assert!(rt; matcher.arrive(message(0, Some(1)))?.is_none());
-    assert!(rt; matcher.arrive(message(1, Some(1)))?.is_none());
-    assert!(rt; post(&rt, &mut matcher, tagged(0, 1, 0))? == Some(message(0, Some(1))));
-    assert!(rt; post(&rt, &mut matcher, tagged(1, 1, 0))? == Some(message(1, Some(1))));
-    assert!(rt; post(&rt, &mut matcher, tagged(2, 1, 0))?.is_none());
-    assert!(rt; post(&rt, &mut matcher, tagged(3, 0, u64::MAX))?.is_none());
-    assert!(rt; matcher.arrive(message(2, Some(1)))? == Some(tagged(2, 1, 0)));
-    assert!(rt; matcher.arrive(message(3, Some(1)))? == Some(tagged(3, 0, u64::MAX)));
+    let steps = [
+        Arrive(message(ONE, 0, Some(1)), None),
+        Arrive(message(ONE, 1, Some(1)), None),
+        Post(tagged(0, 1, 0), Some(message(ONE, 0, Some(1)))),
+        Post(tagged(1, 1, 0), Some(message(ONE, 1, Some(1)))),
+        Post(tagged(2, 1, 0), None),
+        Post(tagged(3, 0, u64::MAX), None),
+        Arrive(message(ONE, 2, Some(1)), Some(tagged(2, 1, 0))),
+        Arrive(message(ONE, 3, Some(1)), Some(tagged(3, 0, u64::MAX))),
+        // The bits that are ignored.
+        Post(tagged(4, 256, 255), None),
+        Arrive(message(ONE, 4, Some(513)), None),
+        Arrive(message(ONE, 5, Some(257)), Some(tagged(4, 256, 255))),
+        Post(tagged(5, 513, 0), Some(message(ONE, 4, Some(513)))),
+    ];
+    run(&rt, &mut matcher, &steps)?;
     Ok(())
 }
 
 #[test]
-fn tagged_and_untagged_never_meet(rt: HostRuntime) -> Result<(), Fail> {
+fn some_never_meet(rt: HostRuntime) -> Result<(), Fail> {
     let mut matcher = Matcher::new(rt.alloc());
-    assert!(rt; post(&rt, &mut matcher, tagged(0, 0, u64::MAX))?.is_none());
-    assert!(rt; matcher.arrive(message(0, None))?.is_none());
-    assert!(rt; matcher.would_take(&message(1, Some(7))) == Some(RecvNo(0)));
-    assert!(rt; post(&rt, &mut matcher, untagged(1, None))? == Some(message(0, None)));
-    Ok(())
-}
-
-#[test]
-fn named_receives_stand_among_those_from_any_source(rt: HostRuntime) -> Result<(), Fail> {
-    let mut matcher = Matcher::new(rt.alloc());
-    assert!(rt; post(&rt, &mut matcher, untagged(0, Some(life(1, 7))))?.is_none());
-    assert!(rt; post(&rt, &mut matcher, untagged(1, None))?.is_none());
-    assert!(rt; post(&rt, &mut matcher, untagged(2, Some(life(0, 5))))?.is_none());
-    assert!(rt; matcher.would_take(&message_of(life(1, 8), 0, None)) == Some(RecvNo(1)));
-    assert!(rt; matcher.arrive(message(0, None))? == Some(untagged(1, None)));
-    assert!(rt; matcher.arrive(message(1, None))? == Some(untagged(2, Some(life(0, 5)))));
-    assert!(rt; matcher.arrive(message_of(life(1, 8), 0, None))?.is_none());
-    assert!(rt;
-        matcher.arrive(message_of(life(1, 7), 0, None))? == Some(untagged(0, Some(life(1, 7))))
-    );
+    let steps = [
+        // The tagged and the untagged.
+        Post(tagged(0, 0, u64::MAX), None),
+        Arrive(message(ONE, 0, None), None),
+        WouldTake(message(ONE, 1, Some(7)), Some(RecvNo(0))),
+        Post(untagged(1, None), Some(message(ONE, 0, None))),
+        Cancel(RecvNo(0), true),
+        Cancel(RecvNo(0), false),
+        // A named source, and messages from others.
+        Post(untagged(2, Some(OTHER)), None),
+        Post(untagged(3, None), None),
+        Post(untagged(4, Some(ONE)), None),
+        WouldTake(message(LATER, 0, None), Some(RecvNo(3))),
+        Arrive(message(ONE, 1, None), Some(untagged(3, None))),
+        Arrive(message(ONE, 2, None), Some(untagged(4, Some(ONE)))),
+        Arrive(message(LATER, 0, None), None),
+        Arrive(message(OTHER, 0, None), Some(untagged(2, Some(OTHER)))),
+    ];
+    run(&rt, &mut matcher, &steps)?;
     Ok(())
 }
 
 #[test]
 fn a_forgotten_life_goes_from_both_lists(rt: HostRuntime) -> Result<(), Fail> {
     let mut matcher = Matcher::new(rt.alloc());
-    assert!(rt; post(&rt, &mut matcher, untagged(0, Some(life(1, 7))))?.is_none());
-    assert!(rt; post(&rt, &mut matcher, untagged(1, Some(life(0, 5))))?.is_none());
-    assert!(rt; post(&rt, &mut matcher, untagged(2, Some(life(1, 7))))?.is_none());
-    assert!(rt;
-        matcher
-            .arrive(message_of(life(1, 7), 0, Some(1)))?
-            .is_none()
-    );
-    assert!(rt; matcher.arrive(message(0, Some(2)))?.is_none());
-    assert!(rt;
-        matcher
-            .arrive(message_of(life(1, 7), 1, Some(3)))?
-            .is_none()
-    );
-    let forgotten = matcher.forget(rt.alloc(), life(1, 7))?;
-    let messages = [
-        message_of(life(1, 7), 0, Some(1)),
-        message_of(life(1, 7), 1, Some(3)),
+    let receives = [untagged(0, Some(OTHER)), untagged(2, Some(OTHER))];
+    let messages = [message(OTHER, 0, Some(1)), message(OTHER, 1, Some(3))];
+    let before = [
+        Post(receives[0], None),
+        Post(untagged(1, Some(ONE)), None),
+        Post(receives[1], None),
+        Arrive(messages[0], None),
+        Arrive(message(ONE, 0, Some(2)), None),
+        Arrive(messages[1], None),
     ];
-    let receives = [untagged(0, Some(life(1, 7))), untagged(2, Some(life(1, 7)))];
+    run(&rt, &mut matcher, &before)?;
+    let forgotten = matcher.forget(rt.alloc(), OTHER)?;
     assert!(rt; forgotten.arrived.as_slice() == messages.as_slice());
     assert!(rt; forgotten.posted.as_slice() == receives.as_slice());
-    assert!(rt; !matcher.cancel(RecvNo(0)));
-    assert!(rt; matcher.cancel(RecvNo(1)));
-    assert!(rt; post(&rt, &mut matcher, tagged(3, 0, u64::MAX))? == Some(message(0, Some(2))));
-    assert!(rt; post(&rt, &mut matcher, tagged(4, 0, u64::MAX))?.is_none());
+    let after = [
+        Cancel(RecvNo(0), false),
+        Cancel(RecvNo(1), true),
+        Post(tagged(3, 0, u64::MAX), Some(message(ONE, 0, Some(2)))),
+        Post(tagged(4, 0, u64::MAX), None),
+    ];
+    run(&rt, &mut matcher, &after)?;
     Ok(())
 }

@@ -1,67 +1,86 @@
 use crate::{Early, EarlyMessage, EarlyRefused, Heard, Window};
 use rdm_num::{Bytes, Connid, Head, Life, MsgNo, NoMemory, PortNo, Shape};
+use std::alloc::Global;
+use std::process::Abort;
 use std::test::Fail;
 
-fn life(port: u32, connid: u32) -> Life {
-    Life {
-        port: PortNo(port),
-        connid: Connid(connid),
-    }
+/// What comes to a window, and what it answers.
+#[derive(Clone, Copy)]
+enum Call {
+    /// A number is heard if it is new: then so many enter by it.
+    Hear(u32, Option<u64>),
+    /// Each number from the first to before the second is new, and one enters by it.
+    HearAll(u32, u32),
+    State(u32, Heard),
 }
 
-/// An eager message with that tag.
-fn head(tag: u64) -> Head {
-    Head {
-        tag: Some(tag),
-        cq_data: None,
-        length: 2,
-        shape: Shape::Eager,
-    }
-}
+use Call::{Hear, HearAll, State};
+use Heard::{Entered, New, Waiting};
 
 /// Hears a number that is new. None where it is not.
 fn hear(window: &mut Window, number: u32) -> Result<Option<u64>, NoMemory> {
     match window.state(MsgNo(number)) {
-        Heard::New => Ok(Some(window.hear(MsgNo(number))?)),
-        Heard::Waiting | Heard::Entered => Ok(None),
+        New => Ok(Some(window.hear(MsgNo(number))?)),
+        Waiting | Entered => Ok(None),
     }
 }
 
-/// Holds a message that is not held yet. None where it is.
-fn hold(early: &mut Early, life: Life, number: u32) -> Option<Result<(), EarlyRefused>> {
-    match early.get(life, MsgNo(number)) {
-        None => Some(early.hold(life, MsgNo(number), head(7))),
-        Some(_held) => None,
+/// A window from that number on answers each call as it says.
+fn run(rt: &impl Abort, alloc: Global, first: u32, calls: &[Call]) -> Result<(), NoMemory> {
+    let mut window = Window::new(alloc, first);
+    for call in calls {
+        match call {
+            Hear(number, risen) => assert!(rt; hear(&mut window, *number)? == *risen),
+            HearAll(from, to) => {
+                for number in *from..*to {
+                    assert!(rt; hear(&mut window, number)? == Some(1));
+                }
+            }
+            State(number, state) => assert!(rt; window.state(MsgNo(*number)) == *state),
+        }
     }
-}
-
-/// Adds a piece to a message that is held, and tells whether it is.
-fn add(early: &mut Early, life: Life, number: u32, bytes: Bytes) -> Result<bool, NoMemory> {
-    let is_held = early.get(life, MsgNo(number)).is_some();
-    if is_held {
-        early.add(life, MsgNo(number), 4, bytes)?;
-    }
-    Ok(is_held)
-}
-
-/// The message has the tag and that one piece.
-fn is_piece(message: &EarlyMessage, tag: u64, bytes: &[u8]) -> bool {
-    let has_tag = message.head.tag == Some(tag);
-    match message.parts.as_slice() {
-        [(offset, part)] => has_tag && *offset == 4 && part.as_slice() == bytes,
-        _ => false,
-    }
+    Ok(())
 }
 
 #[test]
 fn numbers_enter_in_order(rt: HostRuntime) -> Result<(), Fail> {
-    let mut window = Window::new(rt.alloc(), 0);
-    assert!(rt; hear(&mut window, 2)? == Some(0));
-    assert!(rt; window.state(MsgNo(2)) == Heard::Waiting);
-    assert!(rt; hear(&mut window, 0)? == Some(1));
-    assert!(rt; hear(&mut window, 1)? == Some(2));
-    assert!(rt; window.state(MsgNo(1)) == Heard::Entered);
-    assert!(rt; window.state(MsgNo(3)) == Heard::New);
+    let in_order = [
+        Hear(2, Some(0)),
+        State(2, Waiting),
+        Hear(0, Some(1)),
+        Hear(1, Some(2)),
+        State(1, Entered),
+        State(3, New),
+    ];
+    run(&rt, rt.alloc(), 0, &in_order)?;
+    let from_ten = [
+        State(9, Entered),
+        State(10, New),
+        Hear(10, Some(1)),
+        State(10, Entered),
+    ];
+    run(&rt, rt.alloc(), 10, &from_ten)?;
+    let the_last = [
+        Hear(u32::MAX, Some(0)),
+        Hear(u32::MAX - 1, Some(2)),
+        State(u32::MAX, Entered),
+        Hear(u32::MAX, None),
+    ];
+    run(&rt, rt.alloc(), u32::MAX - 1, &the_last)?;
+    let far_above_the_ring = [
+        Hear(1024, Some(0)),
+        Hear(2048, Some(0)),
+        Hear(4_000_000_000, Some(0)),
+        State(0, New),
+        Hear(0, Some(1)),
+        State(1024, Waiting),
+        HearAll(1, 1023),
+        Hear(1023, Some(2)),
+        State(2048, Waiting),
+        State(4_000_000_000, Waiting),
+        State(4_000_000_001, New),
+    ];
+    run(&rt, rt.alloc(), 0, &far_above_the_ring)?;
     Ok(())
 }
 
@@ -71,103 +90,155 @@ fn falling_numbers_enter_at_once(rt: HostRuntime) -> Result<(), Fail> {
     for number in (1..3000u32).rev() {
         assert!(rt; hear(&mut window, number)? == Some(0));
     }
-    assert!(rt; window.state(MsgNo(1)) == Heard::Waiting);
-    assert!(rt; window.state(MsgNo(2999)) == Heard::Waiting);
+    assert!(rt; window.state(MsgNo(2999)) == Waiting);
     assert!(rt; hear(&mut window, 0)? == Some(3000));
-    assert!(rt; window.state(MsgNo(2999)) == Heard::Entered);
-    assert!(rt; window.state(MsgNo(3000)) == Heard::New);
+    assert!(rt; window.state(MsgNo(2999)) == Entered);
     Ok(())
 }
 
-#[test]
-fn the_last_number_enters(rt: HostRuntime) -> Result<(), Fail> {
-    let mut window = Window::new(rt.alloc(), 4_294_967_294);
-    assert!(rt; hear(&mut window, 4_294_967_295)? == Some(0));
-    assert!(rt; hear(&mut window, 4_294_967_294)? == Some(2));
-    assert!(rt; window.state(MsgNo(4_294_967_295)) == Heard::Entered);
-    assert!(rt; hear(&mut window, 4_294_967_295)? == None);
-    Ok(())
+/// What comes to the early messages, and what they answer.
+#[derive(Clone, Copy)]
+enum EarlyCall {
+    /// A message is held if it was not.
+    Hold(Life, u32, Option<Result<(), EarlyRefused>>),
+    /// A message that is held has the bytes from 4 on.
+    Add(Life, u32, [u8; 2]),
+    /// A message is held, with those bytes from 4 on.
+    Holds(Life, u32, [u8; 2]),
+    IsHeld(Life, u32, bool),
+    /// A message is taken out, with those bytes from 4 on.
+    Take(Life, u32, [u8; 2]),
+    Forget(Life),
+    IsFull(bool),
 }
 
-#[test]
-fn numbers_below_the_first_have_entered(rt: HostRuntime) -> Result<(), Fail> {
-    let mut window = Window::new(rt.alloc(), 10);
-    assert!(rt; window.state(MsgNo(9)) == Heard::Entered);
-    assert!(rt; window.state(MsgNo(10)) == Heard::New);
-    assert!(rt; hear(&mut window, 10)? == Some(1));
-    assert!(rt; window.state(MsgNo(10)) == Heard::Entered);
-    Ok(())
-}
+use EarlyCall::{Add, Forget, Hold, Holds, IsFull, IsHeld, Take};
 
-#[test]
-fn numbers_far_above_the_ring_wait(rt: HostRuntime) -> Result<(), Fail> {
-    let mut window = Window::new(rt.alloc(), 0);
-    assert!(rt; hear(&mut window, 1024)? == Some(0));
-    assert!(rt; hear(&mut window, 2048)? == Some(0));
-    assert!(rt; hear(&mut window, 4_000_000_000)? == Some(0));
-    assert!(rt; window.state(MsgNo(0)) == Heard::New);
-    assert!(rt; hear(&mut window, 0)? == Some(1));
-    assert!(rt; window.state(MsgNo(1024)) == Heard::Waiting);
-    for number in 1..1023u32 {
-        assert!(rt; hear(&mut window, number)? == Some(1));
+fn life(port: u32, connid: u32) -> Life {
+    Life {
+        port: PortNo(port),
+        connid: Connid(connid),
     }
-    assert!(rt; hear(&mut window, 1023)? == Some(2));
-    assert!(rt; window.state(MsgNo(2048)) == Heard::Waiting);
-    assert!(rt; window.state(MsgNo(4_000_000_000)) == Heard::Waiting);
-    assert!(rt; window.state(MsgNo(4_000_000_001)) == Heard::New);
+}
+
+/// An eager message.
+fn head() -> Head {
+    Head {
+        tag: Some(7),
+        cq_data: None,
+        length: 2,
+        shape: Shape::Eager,
+    }
+}
+
+/// Holds a message that is not held yet. None where it is.
+fn hold(early: &mut Early, life: Life, no: MsgNo) -> Option<Result<(), EarlyRefused>> {
+    match early.get(life, no) {
+        None => Some(early.hold(life, no, head())),
+        Some(_held) => None,
+    }
+}
+
+/// Adds a piece to a message that is held, and tells whether it is.
+fn add(early: &mut Early, life: Life, no: MsgNo, bytes: Bytes) -> Result<bool, NoMemory> {
+    let is_held = early.get(life, no).is_some();
+    if is_held {
+        early.add(life, no, 4, bytes)?;
+    }
+    Ok(is_held)
+}
+
+/// The message has the tag and those bytes from 4 on.
+fn is_piece(message: &EarlyMessage, bytes: &[u8]) -> bool {
+    let has_tag = message.head.tag == Some(7);
+    match message.parts.as_slice() {
+        [(offset, part)] => has_tag && *offset == 4 && part.as_slice() == bytes,
+        _ => false,
+    }
+}
+
+/// A message that is held, and has those bytes from 4 on.
+fn holds(early: &Early, life: Life, no: MsgNo, bytes: &[u8]) -> bool {
+    match early.get(life, no) {
+        Some(message) => is_piece(message, bytes),
+        None => false,
+    }
+}
+
+/// Takes a message out that is held, and has those bytes from 4 on.
+fn take(early: &mut Early, life: Life, no: MsgNo, bytes: &[u8]) -> bool {
+    match early.take(life, no) {
+        Some(message) => is_piece(&message, bytes),
+        None => false,
+    }
+}
+
+/// So many places for early messages answer each call as it says.
+fn run_early(
+    rt: &impl Abort,
+    alloc: Global,
+    size: usize,
+    calls: &[EarlyCall],
+) -> Result<(), NoMemory> {
+    let mut early = Early::new(alloc, size)?;
+    for call in calls {
+        match call {
+            Hold(life, no, answer) => {
+                assert!(rt; hold(&mut early, *life, MsgNo(*no)) == *answer);
+            }
+            Add(life, no, bytes) => {
+                let bytes = Bytes::from_slice(alloc, bytes)?;
+                assert!(rt; add(&mut early, *life, MsgNo(*no), bytes)?);
+            }
+            Holds(life, no, bytes) => assert!(rt; holds(&early, *life, MsgNo(*no), bytes)),
+            IsHeld(life, no, is_held) => {
+                assert!(rt; early.get(*life, MsgNo(*no)).is_some() == *is_held);
+            }
+            Take(life, no, bytes) => assert!(rt; take(&mut early, *life, MsgNo(*no), bytes)),
+            Forget(life) => early.forget(*life),
+            IsFull(is_full) => assert!(rt; early.is_full() == *is_full),
+        }
+    }
     Ok(())
 }
 
 #[test]
-fn one_place_holds_one_message(rt: HostRuntime) -> Result<(), Fail> {
-    let mut early = Early::new(rt.alloc(), 1)?;
-    assert!(rt; !early.is_full());
-    assert!(rt; hold(&mut early, life(0, 5), 0) == Some(Ok(())));
-    assert!(rt; early.is_full());
-    assert!(rt;
-        add(
-            &mut early,
-            life(0, 5),
-            0,
-            Bytes::from_slice(rt.alloc(), b"ab")?
-        )?
-    );
-    assert!(rt; hold(&mut early, life(0, 5), 1) == Some(Err(EarlyRefused::Full)));
-    let is_held = match early.get(life(0, 5), MsgNo(0)) {
-        Some(message) => is_piece(message, 7, b"ab"),
-        None => false,
-    };
-    assert!(rt; is_held);
-    let was_held = match early.take(life(0, 5), MsgNo(0)) {
-        Some(message) => is_piece(&message, 7, b"ab"),
-        None => false,
-    };
-    assert!(rt; was_held);
-    assert!(rt; early.get(life(0, 5), MsgNo(0)).is_none());
-    assert!(rt; hold(&mut early, life(0, 5), 1) == Some(Ok(())));
-    early.forget(life(0, 5));
-    assert!(rt; early.get(life(0, 5), MsgNo(1)).is_none());
-    assert!(rt; !early.is_full());
-    Ok(())
-}
-
-#[test]
-fn another_life_is_not_forgotten(rt: HostRuntime) -> Result<(), Fail> {
-    let mut early = Early::new(rt.alloc(), 5)?;
-    assert!(rt; hold(&mut early, life(1, 7), 0) == Some(Ok(())));
-    assert!(rt; hold(&mut early, life(1, 7), 4_294_967_295) == Some(Ok(())));
-    assert!(rt; hold(&mut early, life(1, 6), 9) == Some(Ok(())));
-    assert!(rt; hold(&mut early, life(1, 8), 0) == Some(Ok(())));
-    assert!(rt; hold(&mut early, life(0, 7), 0) == Some(Ok(())));
-    assert!(rt; early.is_full());
-    early.forget(life(1, 7));
-    assert!(rt; early.get(life(1, 7), MsgNo(0)).is_none());
-    assert!(rt; early.get(life(1, 7), MsgNo(4_294_967_295)).is_none());
-    assert!(rt; early.get(life(1, 6), MsgNo(9)).is_some());
-    assert!(rt; early.get(life(1, 8), MsgNo(0)).is_some());
-    assert!(rt; early.get(life(0, 7), MsgNo(0)).is_some());
-    assert!(rt; !early.is_full());
-    early.forget(life(2, 0));
-    assert!(rt; early.get(life(0, 7), MsgNo(0)).is_some());
+fn places_hold_messages(rt: HostRuntime) -> Result<(), Fail> {
+    let one = life(0, 5);
+    let one_place = [
+        IsFull(false),
+        Hold(one, 0, Some(Ok(()))),
+        IsFull(true),
+        Add(one, 0, *b"ab"),
+        Hold(one, 0, None),
+        Hold(one, 1, Some(Err(EarlyRefused::Full))),
+        Holds(one, 0, *b"ab"),
+        Take(one, 0, *b"ab"),
+        IsHeld(one, 0, false),
+        Hold(one, 1, Some(Ok(()))),
+        Forget(one),
+        IsHeld(one, 1, false),
+        IsFull(false),
+    ];
+    run_early(&rt, rt.alloc(), 1, &one_place)?;
+    let (two, older, later, other) = (life(1, 7), life(1, 6), life(1, 8), life(0, 7));
+    let lives = [
+        Hold(two, 0, Some(Ok(()))),
+        Hold(two, u32::MAX, Some(Ok(()))),
+        Hold(older, 9, Some(Ok(()))),
+        Hold(later, 0, Some(Ok(()))),
+        Hold(other, 0, Some(Ok(()))),
+        IsFull(true),
+        Forget(two),
+        IsHeld(two, 0, false),
+        IsHeld(two, u32::MAX, false),
+        IsHeld(older, 9, true),
+        IsHeld(later, 0, true),
+        IsHeld(other, 0, true),
+        IsFull(false),
+        Forget(life(2, 0)),
+        IsHeld(other, 0, true),
+    ];
+    run_early(&rt, rt.alloc(), 5, &lives)?;
     Ok(())
 }
