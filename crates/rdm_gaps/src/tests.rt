@@ -33,8 +33,8 @@ fn each_place_is_taken_once(rt: HostRuntime) -> Result<(), Fail> {
 #[test]
 fn a_range_that_is_put_back_is_missing(rt: HostRuntime) -> Result<(), Fail> {
     let mut gaps = Gaps::whole(rt.alloc(), 10)?;
-    gaps.reserve(1)?;
-    if gaps.take(2, 3)? {
+    gaps.reserve(2)?;
+    if gaps.take_reserved(2, 3) {
         for (at, missing) in RUNS {
             assert_eq!(rt; gaps.missing_from(at), missing, "at {at}");
         }
