@@ -3,7 +3,7 @@ use Rattle.std.specs.Prelude.{◌≡◌, refl, ℕ, suc, ◌+◌, ◌-◌, ◌�
 use Rattle.std.specs.List.{count_by}
 use Rattle.std.specs.Coded.{Coded, code_by, coded×, coded_list, coded_bool, coded_ℕ}
 
--- places says of each place whether it is missing, and spare for how many ranges there is room to be put back
+-- places says of each place whether it is missing, and spare for how many ranges there is room to be taken or put back
 pub record Missing : Type 0 where
   pub places : List Bool
   pub spare : ℕ
@@ -49,6 +49,11 @@ abbrev pub after_take : {E : Type 0} → Missing → ℕ → ℕ → Result Bool
 after_take m off len (Ok true) = with_taken m off len
 after_take m off len (Ok false) = m
 after_take m off len (Err why) = m
+
+-- what a take where there is room leaves: one that answers true takes one of the spare
+abbrev pub after_reserved_take : Missing → ℕ → ℕ → Bool → Missing
+after_reserved_take m off len true = record { places = with_range false off len m.places; spare = m.spare - 1 }
+after_reserved_take m off len false = m
 
 -- how many places are missing
 abbrev pub count_missing : Missing → ℕ

@@ -2,7 +2,7 @@
 #![tactic(auto)]
 
 ghost use Rattle.std.specs.Prelude.{◌≡◌, ◌+◌, ◌<◌, ◌≤◌, ◌↔◌, ◌==◌, IfOk, IsTrue, OnOk, OnErr};
-ghost use Rattle.rdm_gaps.specs.Places.{AreMissing, AreTaken, all_missing, count_missing, with_spare, with_untaken, after_take};
+ghost use Rattle.rdm_gaps.specs.Places.{AreMissing, AreTaken, all_missing, count_missing, with_spare, with_untaken, after_take, after_reserved_take};
 ghost use Rattle.rdm_gaps.specs.Places as Places;
 
 mod ranges;
@@ -96,25 +96,41 @@ impl Gaps {
         ensures answer { IfOk result (λ taken. IsTrue taken ↔ AreMissing off len self.old.places) }
         ensures after { self.new ≡ after_take self.old off len result }
     {
+        let spare = self.spare;
+        self.gaps.reserve(spare + 1)?;
+        self.spare = spare + 1;
+        let taken = self.take_reserved(off, len);
+        self.spare = spare;
+        Ok(taken)
+    }
+
+    /// Takes the range, if all of it is missing. It can't fail, since there is room.
+    pub fn take_reserved(&mut self, off: u64, len: u64) -> bool
+        requires { 0 < self.old.spare }
+        ensures answer { IsTrue result ↔ AreMissing off len self.old.places }
+        ensures after { self.new ≡ after_reserved_take self.old off len result }
+    {
         if !is_within(self.size, off, len) {
-            return Ok(false);
+            return false;
         }
         if len == 0 {
-            return Ok(true);
+            self.spare -= 1;
+            return true;
         }
         let end = off + len;
         let Some(i) = gap_with(&self.gaps, off) else {
-            return Ok(false);
+            return false;
         };
         if self.gaps[i].end < end {
-            return Ok(false);
+            return false;
         }
-        cut(&mut self.gaps, i, off, end, self.spare)?;
+        cut(&mut self.gaps, i, off, end);
+        self.spare -= 1;
         self.left -= len;
-        Ok(true)
+        true
     }
 
-    /// Makes room to put back `n` ranges.
+    /// Makes room to take or put back `n` ranges.
     pub fn reserve(&mut self, n: u64) -> Result<(), NoMemory>
         ensures ok { OnOk result (self.new ≡ with_spare self.old n) }
         ensures err { OnErr result (self.new ≡ self.old) }

@@ -1,9 +1,7 @@
 //! Gaps in order, as a vector of ranges.
-ghost use Rattle.std.specs.Prelude.{◌≡◌, ◌+◌, ◌<◌, ◌≤◌, length, vec_len, vec_capacity, MatchOption, OnOk, OnErr};
+ghost use Rattle.std.specs.Prelude.{◌≡◌, ◌+◌, ◌<◌, ◌≤◌, length, vec_len, vec_capacity, MatchOption};
 ghost use Rattle.std.specs.List.{All, AllWithin};
 ghost use Rattle.rdm_gaps.specs.Ranges.{AreInOrder, Has, Misses, gap_at, cut_at, fused, put_at};
-
-use std::alloc::AllocError;
 
 /// Missing places, from the first up to the one past the last.
 #[derive(Clone, Copy, Debug)]
@@ -35,26 +33,19 @@ pub fn gap_with(gaps: &[Gap], place: u64) -> Option<usize>
     }
 }
 
-/// Takes the places from `off` up to `end` out of the gap at `i`, and leaves room for `spare` gaps.
-pub fn cut(
-    gaps: &mut Vec<Gap>,
-    i: usize,
-    off: u64,
-    end: u64,
-    spare: usize,
-) -> Result<(), AllocError>
+/// Takes the places from `off` up to `end` out of the gap at `i`, where there is room.
+pub fn cut(gaps: &mut Vec<Gap>, i: usize, off: u64, end: u64)
     requires at { i < vec_len gaps.old }
     requires inside { let gap = gap_at gaps.old.items i in (gap.start ≤ off) × (off < end) × (end ≤ gap.end) }
-    requires room { vec_len gaps.old + spare ≤ vec_capacity gaps.old }
-    ensures ok { OnOk result (gaps.new.items ≡ cut_at gaps.old.items i off end) }
-    ensures err { OnErr result (gaps.new.items ≡ gaps.old.items) }
-    ensures room { vec_len gaps.new + spare ≤ vec_capacity gaps.new }
+    requires room { vec_len gaps.old < vec_capacity gaps.old }
+    ensures items { gaps.new.items ≡ cut_at gaps.old.items i off end }
+    ensures more { vec_len gaps.new ≤ vec_len gaps.old + 1 }
+    ensures capacity { vec_capacity gaps.old ≤ vec_capacity gaps.new }
 {
     let Gap { start, end: stop } = gaps[i];
     if start < off {
+        gaps[i] = Gap { start, end: off };
         if end < stop {
-            gaps.reserve(spare + 1)?;
-            gaps[i] = Gap { start, end: off };
             match gaps.insert(
                 i + 1,
                 Gap {
@@ -65,8 +56,6 @@ pub fn cut(
                 Ok(()) => {}
                 Err(_) => unreachable!(),
             }
-        } else {
-            gaps[i] = Gap { start, end: off };
         }
     } else if end < stop {
         gaps[i] = Gap {
@@ -76,7 +65,6 @@ pub fn cut(
     } else {
         gaps.remove(i);
     }
-    Ok(())
 }
 
 /// Makes one gap of the gap at `i` and the next, if they touch.

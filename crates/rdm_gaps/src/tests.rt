@@ -1,47 +1,45 @@
 use crate::Gaps;
 use std::test::Fail;
 
+/// Takes of a message of ten places, one after another: the range, the answer, and how many places
+/// are missing then.
+const TAKES: [(u64, u64, bool, u64); 9] = [
+    (3, 4, true, 6),
+    (5, 1, false, 6),
+    (0, 0, true, 6),
+    (7, 4, false, 6),
+    (10, 0, true, 6),
+    (11, 0, false, 6),
+    (u64::MAX, 2, false, 6),
+    (0, 3, true, 3),
+    (7, 3, true, 0),
+];
+
+/// Places of a message of ten of which those from 2 up to 5 were taken, and how many are missing from
+/// there on.
+const RUNS: [(u64, u64); 6] = [(0, 2), (1, 1), (2, 0), (4, 0), (5, 5), (10, 0)];
+
 #[test]
 fn each_place_is_taken_once(rt: HostRuntime) -> Result<(), Fail> {
     let mut gaps = Gaps::whole(rt.alloc(), 10)?;
-    assert_eq!(rt; gaps.missing(), 10);
-    assert_eq!(rt; gaps.take(3, 4)?, true);
-    assert_eq!(rt; gaps.missing(), 6);
-    assert_eq!(rt; gaps.take(5, 1)?, false);
-    assert_eq!(rt; gaps.take(0, 0)?, true);
-    assert_eq!(rt; gaps.take(7, 4)?, false);
-    assert_eq!(rt; gaps.take(0, 3)?, true);
-    assert_eq!(rt; gaps.take(7, 3)?, true);
+    for (off, len, taken, missing) in TAKES {
+        assert_eq!(rt; gaps.take(off, len)?, taken, "at {off}");
+        assert_eq!(rt; gaps.missing(), missing, "at {off}");
+    }
     assert!(rt; gaps.is_empty());
-    gaps.reserve(1)?;
-    gaps.untake(3, 4);
-    assert_eq!(rt; gaps.missing(), 4);
     Ok(())
 }
 
 #[test]
-fn an_empty_range_is_missing_up_to_the_end(rt: HostRuntime) -> Result<(), Fail> {
-    let mut gaps = Gaps::whole(rt.alloc(), 4)?;
-    assert_eq!(rt; gaps.take(4, 0)?, true);
-    assert_eq!(rt; gaps.take(5, 0)?, false);
-    assert_eq!(rt; gaps.take(u64::MAX, 2)?, false);
-    assert_eq!(rt; gaps.missing(), 4);
-    let mut none = Gaps::whole(rt.alloc(), 0)?;
-    assert!(rt; none.is_empty());
-    assert_eq!(rt; none.take(0, 0)?, true);
-    assert_eq!(rt; none.take(0, 1)?, false);
-    Ok(())
-}
-
-#[test]
-fn places_are_missing_up_to_the_first_that_is_not(rt: HostRuntime) -> Result<(), Fail> {
+fn a_range_that_is_put_back_is_missing(rt: HostRuntime) -> Result<(), Fail> {
     let mut gaps = Gaps::whole(rt.alloc(), 10)?;
-    assert_eq!(rt; gaps.take(2, 3)?, true);
-    assert_eq!(rt; gaps.missing_from(0), 2);
-    assert_eq!(rt; gaps.missing_from(1), 1);
-    assert_eq!(rt; gaps.missing_from(2), 0);
-    assert_eq!(rt; gaps.missing_from(4), 0);
-    assert_eq!(rt; gaps.missing_from(5), 5);
-    assert_eq!(rt; gaps.missing_from(10), 0);
+    gaps.reserve(2)?;
+    if gaps.take_reserved(2, 3) {
+        for (at, missing) in RUNS {
+            assert_eq!(rt; gaps.missing_from(at), missing, "at {at}");
+        }
+        gaps.untake(2, 3);
+    }
+    assert_eq!(rt; gaps.missing_from(0), 10);
     Ok(())
 }

@@ -1,21 +1,33 @@
 // What no clause says: that memory is had, and that two threads write two parts of a block.
 ghost use Rattle.std.specs.Prelude.{◌≡◌, ◌≤◌, length};
 
-use crate::uses::{release_both, write, write_both};
+use crate::uses::{release_both, write_both};
 use crate::{Block, Home, home_law, release};
 use std::test::Fail;
 
+/// The bytes of a block, the places of a part of it, and the bytes once that part is filled.
+const FILLED: [(&[u8], usize, usize, &[u8]); 4] = [
+    (b"abcdef", 1, 3, b"axxxef"),
+    (b"ab", 0, 2, b"xx"),
+    (b"ab", 2, 0, b"ab"),
+    (b"", 0, 0, b""),
+];
+
 #[test]
-fn parts_of_hello(rt: HostRuntime) -> Result<(), Fail> {
-    let whole = Block::make(rt.alloc(), b"hello")?;
-    let (left, mut right) = whole.split(2);
-    let he = left.bytes() == b"he".as_slice();
-    let llo = right.bytes() == b"llo".as_slice();
-    right.bytes_mut().copy_from_slice(b"LLO");
-    let joined = left.join(right);
-    let written = joined.bytes() == b"heLLO".as_slice();
-    release(joined);
-    assert!(rt; he && llo && written);
+fn a_part_is_filled_between_two_others(rt: HostRuntime) -> Result<(), Fail> {
+    for (bytes, at, len, filled) in FILLED {
+        let whole = Block::make(rt.alloc(), bytes)?;
+        let at = at.min(whole.len());
+        let (front, rest) = whole.split(at);
+        let len = len.min(rest.len());
+        let (mut middle, back) = rest.split(len);
+        middle.bytes_mut().fill(b'x');
+        let placed = middle.start() == at && back.start() == at + len;
+        let whole = front.join(middle).join(back);
+        let same = whole.bytes() == filled;
+        release(whole);
+        assert!(rt; placed && same, "at {at}");
+    }
     Ok(())
 }
 
@@ -24,49 +36,9 @@ fn two_threads_write_two_parts(rt: HostRuntime) -> Result<(), Fail> {
     let whole = Block::make(rt.alloc(), b"hello world")?;
     let whole = write_both(&rt, whole, b"HELLO", b"-WORLD");
     let written = whole.bytes() == b"HELLO-WORLD".as_slice();
-    release(whole);
+    let (front, back) = whole.split(5);
+    release_both(front, back);
     assert!(rt; written);
-    Ok(())
-}
-
-#[test]
-fn a_part_between_two_others(rt: HostRuntime) -> Result<(), Fail> {
-    let whole = Block::make(rt.alloc(), b"abcdef")?;
-    let (front, back) = whole.split(1);
-    let (mut middle, back) = back.split(3);
-    let placed = middle.start() == 1 && middle.len() == 3 && back.start() == 4 && back.len() == 2;
-    write(&mut middle, b"BCD");
-    let apart = front.bytes() == b"a".as_slice() && back.bytes() == b"ef".as_slice();
-    let whole = front.join(middle).join(back);
-    let joined = whole.bytes() == b"aBCDef".as_slice();
-    release(whole);
-    assert!(rt; placed && apart && joined);
-    Ok(())
-}
-
-#[test]
-fn empty_parts(rt: HostRuntime) -> Result<(), Fail> {
-    let whole = Block::make(rt.alloc(), b"ab")?;
-    let (first, whole) = whole.split(0);
-    let (whole, last) = whole.split(2);
-    let placed = first.start() == 0 && first.len() == 0 && last.start() == 2 && last.len() == 0;
-    let (left, right) = whole.split(1);
-    let (right, middle) = right.split(1);
-    let whole = first.join(left).join(right).join(middle).join(last);
-    let same = whole.bytes() == b"ab".as_slice();
-    release(whole);
-    assert!(rt; placed && same);
-    Ok(())
-}
-
-#[test]
-fn an_empty_block(rt: HostRuntime) -> Result<(), Fail> {
-    let whole = Block::make(rt.alloc(), b"")?;
-    let (left, mut right) = whole.split(0);
-    right.bytes_mut().copy_from_slice(b"");
-    let none = left.len() == 0 && right.bytes().is_empty();
-    release_both(left, right);
-    assert!(rt; none);
     Ok(())
 }
 
@@ -92,12 +64,10 @@ fn a_part_is_out_and_at_home_again(rt: HostRuntime) -> Result<(), Fail> {
     let whole = Block::make(rt.alloc(), b"hello")?;
     match Home::new(rt.alloc(), whole) {
         Ok(mut home) => {
-            let while_out = home.len() == 5 && is_home_while_out(&mut home);
-            let back = home.get(1, 3).is_some();
-            let whole = home.close();
-            let same = whole.bytes() == b"hello".as_slice();
-            release(whole);
-            assert!(rt; !while_out && back && same);
+            let while_out = is_home_while_out(&mut home);
+            let back = home.get(1, 3) == Some(b"ell".as_slice());
+            release(home.close());
+            assert!(rt; !while_out && back);
         }
         Err(whole) => release(whole),
     }

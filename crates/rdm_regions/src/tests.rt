@@ -11,7 +11,16 @@ const TEN: [u8; 10] = [10, 11, 12, 13, 14, 15, 16, 17, 18, 19];
 
 const ZERO: RegionNo = RegionNo(0);
 
-const ONE: RegionNo = RegionNo(1);
+/// Ranges, each by its region, place and length; whether a send may hold it while the first five bytes
+/// are held, and what comes of a lease of it then.
+const RANGES: [(u32, u64, u64, bool, Result<usize, RegionRefused>); 6] = [
+    (0, 4, 2, true, Err(RegionRefused::Busy)),
+    (0, 5, 5, true, Ok(5)),
+    (0, 2, 0, true, Ok(0)),
+    (0, 8, 3, false, Err(RegionRefused::Range)),
+    (0, u64::MAX, u64::MAX, false, Err(RegionRefused::Range)),
+    (1, 0, 1, false, Err(RegionRefused::NoRegion)),
+];
 
 /// Registers ten bytes, and tells whether the region has the number 0.
 fn register(alloc: Global, regions: &mut Regions) -> bool
@@ -76,6 +85,22 @@ fn read_beside(
     }
 }
 
+/// Each of the ranges is held and leased as it should be.
+fn are_answered(regions: &mut Regions) -> bool
+    requires { regions.old.leased ≡ finite.empty }
+    ensures { regions.new.leased ≡ finite.empty }
+{
+    let mut right = true;
+    for (region, at, len, held, leased) in RANGES {
+        let region = RegionNo(region);
+        let may_hold = regions.may_hold(region, at, len);
+        let may_lease = regions.may_lease(region, at, len);
+        let size = out_and_back(regions, OpId(0), region, at, len);
+        right = right & (may_hold == held) & (may_lease == leased.is_ok()) & (size == leased);
+    }
+    right
+}
+
 #[test]
 fn held_and_leased_ranges(rt: HostRuntime) -> Result<(), Fail> {
     let alloc = rt.alloc();
@@ -83,28 +108,15 @@ fn held_and_leased_ranges(rt: HostRuntime) -> Result<(), Fail> {
     let mut regions = Regions::new(alloc);
     let registered = register(alloc, &mut regions);
     let held = hold(&mut regions, 0, 5);
-    let across = out_and_back(&mut regions, OpId(0), ZERO, 4, 2);
+    let answered = are_answered(&mut regions);
     let beside = read_beside(&mut regions, &mut to);
-    let back = out_and_back(&mut regions, OpId(0), ZERO, 5, 5);
-    let no_region = out_and_back(&mut regions, OpId(1), ONE, 0, 1);
-    let range = out_and_back(&mut regions, OpId(1), ZERO, 8, 3);
-    let far = regions.may_hold(ZERO, u64::MAX, u64::MAX);
-    let nothing = regions.may_lease(ZERO, 2, 0);
-    let over = regions.may_lease(ZERO, 4, 1);
     regions.drop_hold(OpId(0));
     let all = out_and_back(&mut regions, OpId(1), ZERO, 0, 10);
     regions.close();
-    assert!(rt; registered);
-    assert!(rt; held == Ok(()));
-    assert!(rt; across == Err(RegionRefused::Busy));
-    assert!(rt; beside == Ok([Ok(()), Err(RegionRefused::Busy), Ok(())]));
-    assert!(rt; to.as_slice() == [10, 11, 12, 13, 14].as_slice());
-    assert!(rt; back == Ok(5));
-    assert!(rt; no_region == Err(RegionRefused::NoRegion));
-    assert!(rt; range == Err(RegionRefused::Range));
-    assert!(rt; !far);
-    assert!(rt; nothing);
-    assert!(rt; !over);
-    assert!(rt; all == Ok(10));
+    assert!(rt; registered && answered);
+    assert_eq!(rt; held, Ok(()));
+    assert_eq!(rt; beside, Ok([Ok(()), Err(RegionRefused::Busy), Ok(())]));
+    assert_eq!(rt; to.as_slice(), [10, 11, 12, 13, 14].as_slice());
+    assert_eq!(rt; all, Ok(10));
     Ok(())
 }

@@ -9,11 +9,10 @@ pub release-requires : goal.release-requires
 release-requires g c =
     let made = c.in_ok-part.ensures.0 in
     let fresh = c.in-Ok.ensures in
-    let first = place_keeps c.fill_lent-filled.new.landing 4 (codes "e") c.place.result in
-    let second = place_keeps c.place.new.self 0 (codes "abc") c.place-in-Ok.result in
-    let start = ap (λ (l : Landed). l.tiles.start) c.place-in-Ok.ensures.after ∙ second.start ∙ ap (λ (l : Landed). l.tiles.start) c.place.ensures.after ∙ first.start ∙ c.fill_lent-filled.ensures.start ∙ ap (λ (l : Landed). l.tiles.start) fresh in
-    let whole = ap (λ (l : Landed). l.tiles.whole) c.place-in-Ok.ensures.after ∙ second.whole ∙ ap (λ (l : Landed). l.tiles.whole) c.place.ensures.after ∙ first.whole ∙ c.fill_lent-filled.ensures.whole ∙ ap (λ (l : Landed). l.tiles.whole) fresh in
-    let places = ap capacity c.place-in-Ok.ensures.after ∙ second.places ∙ ap capacity c.place.ensures.after ∙ first.places ∙ c.fill_lent-filled.ensures.capacity ∙ ap capacity fresh ∙ length-map c.in_ok-part.part.bytes Some in
+    let kept = place_keeps c.fill_lent-filled.new.landing 0 (codes "abc") c.place.result in
+    let start = ap (λ (l : Landed). l.tiles.start) c.place.ensures.after ∙ kept.start ∙ c.fill_lent-filled.ensures.start ∙ ap (λ (l : Landed). l.tiles.start) fresh in
+    let whole = ap (λ (l : Landed). l.tiles.whole) c.place.ensures.after ∙ kept.whole ∙ c.fill_lent-filled.ensures.whole ∙ ap (λ (l : Landed). l.tiles.whole) fresh in
+    let places = ap capacity c.place.ensures.after ∙ kept.places ∙ c.fill_lent-filled.ensures.capacity ∙ ap capacity fresh ∙ length-map c.in_ok-part.part.bytes Some in
     let back = c.into_part-part.ensures in
     let bytes = length-map c.into_part-part.result.bytes Some in
     let all = ap length back.3 in

@@ -1,9 +1,9 @@
-use Rattle.std.proofs.Common.{refl, sym, ap, subst, ◌∙◌, arith}
-use Rattle.rdm_gaps.specs.Places.{Missing, with_taken}
+use Rattle.std.proofs.Common.{true, ◌-◌, refl, sym, ap, subst, ◌∙◌, arith}
+use Rattle.rdm_gaps.specs.Places.{Missing, after_reserved_take}
 use Rattle.rdm_gaps.specs.Ranges.{places_of, AreApart, total}
 use Rattle.rdm_gaps.proofs.Answered.{found, says_no, says_yes, more_than, not_within, empty_is_missing, none_is_not, ends_early, has_all}
 use Rattle.rdm_gaps.proofs.Takes.{cut_found}
-use Rattle.rdm_gaps.proofs.Gaps.take.Goals as goal
+use Rattle.rdm_gaps.proofs.Gaps.take_reserved.Goals as goal
 
 pub returns-then-not-is_within-clause-answer : goal.returns-then-not-is_within-clause-answer
 returns-then-not-is_within-clause-answer c =
@@ -37,8 +37,8 @@ returns-clause-answer c =
     let f = found c.args.off c.in-Some.i c.index.result.now _ g.gaps.items c.deref.ensures.value c.in-Some.ensures c.index.ensures in
     says_yes (has_all g.size c.args.off c.args.len g.gaps.items c.args.self.now places c.self.invariant.apart c.in-Some.i c.index.result.now f c.if-index-end.false (c.if-not-is_within.ensures.0 refl))
 
-pub overflow_sub-self : goal.overflow_sub-self
-overflow_sub-self c =
+pub overflow_sub-self-3 : goal.overflow_sub-self-3
+overflow_sub-self-3 c =
     let g = c.self.inside in
     let f = found c.args.off c.in-Some.i c.index.result.now _ g.gaps.items c.deref.ensures.value c.in-Some.ensures c.index.ensures in
     let cut = cut_found g.size c.args.off c.args.len c.in-Some.i c.index.result.now g.gaps.items c.self.invariant.apart c.if-len-eq0.false f c.if-index-end.false in
@@ -51,9 +51,9 @@ invariant_of-self-2 c =
     let cut = cut_found g.size c.args.off c.args.len c.in-Some.i c.index.result.now g.gaps.items c.self.invariant.apart c.if-len-eq0.false f c.if-index-end.false in
     record {
       fits = c.self.invariant.fits;
-      apart = subst (AreApart 0 g.size) (sym c.in_ok-cut.ensures.ok) cut.apart;
-      left = let e = ap total c.in_ok-cut.ensures.ok in omega (arith, e, cut.count, c.self.invariant.left);
-      room = c.in_ok-cut.ensures.room;
+      apart = subst (AreApart 0 g.size) (sym c.cut.ensures.items) cut.apart;
+      left = let e = ap total c.cut.ensures.items in omega (arith, e, cut.count, c.self.invariant.left);
+      room = let spare = ap (λ (m : Missing). m.spare) c.self.view_is in omega (arith, c.cut.ensures.more, c.cut.ensures.capacity, c.self.invariant.room, c.requires, spare);
     }
 
 pub returns-clause-after : goal.returns-clause-after
@@ -61,4 +61,4 @@ returns-clause-after c =
     let g = c.self.inside in
     let f = found c.args.off c.in-Some.i c.index.result.now _ g.gaps.items c.deref.ensures.value c.in-Some.ensures c.index.ensures in
     let cut = cut_found g.size c.args.off c.args.len c.in-Some.i c.index.result.now g.gaps.items c.self.invariant.apart c.if-len-eq0.false f c.if-index-end.false in
-    ap (λ l. record { places = l; spare = g.spare }) (ap (places_of 0 g.size) c.in_ok-cut.ensures.ok ∙ cut.places) ∙ ap (λ m. with_taken m c.args.off c.args.len) c.self.view_is
+    ap (λ l. record { places = l; spare = g.spare - 1 }) (ap (places_of 0 g.size) c.cut.ensures.items ∙ cut.places) ∙ ap (λ m. after_reserved_take m c.args.off c.args.len true) c.self.view_is
