@@ -15,7 +15,6 @@ use Rattle.rdm_model.specs.declared.job.Instr.TheVariants.{OpenLife, Insert, Reg
 use Rattle.rdm_model.specs.Jobs.{is_fair, law_ops}
 use Rattle.rdm_model.specs.Owns.{rank_of, no_rank}
 use Rattle.rdm_model.specs.Worlds.{new_world}
-use Rattle.rdm_model.proofs.Members.{member-append_cases}
 use Rattle.rdm_law.proofs.Headers.{common_length, eager_room_is}
 use Rattle.rdm_law.proofs.PlainDeeds.{IsPlainOp}
 use Rattle.rdm_law.proofs.PlainPorts.{PlainJob}
@@ -26,6 +25,7 @@ use Rattle.rdm_script.specs.Built.{send_fits, recv_fits, message_max}
 use Rattle.rdm_script.specs.FirstPath.{IsFirstPath, sending, receiving}
 use Rattle.rdm_script.specs.Script.{job_in}
 use Rattle.rdm_script.proofs.Built.{built_are_first, built_are_fair}
+use Rattle.rdm_lists.proofs.Members.{member-append_cases}
 
 -- beside a tag and a raw address a packet has room for the longest send
 longest_room : (limits : EpLimits) → eager_room true false true limits ≡ message_max limits.mtu
