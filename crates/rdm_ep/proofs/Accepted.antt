@@ -1,14 +1,14 @@
 -- Accepted receives have numbers of their own, and the matcher sees them as they are kept.
 use Rattle.std.proofs.Common.{◌≡◌, ℕ, ◌<◌, List, [], ◌∷◌, ◌++◌, length, refl, arith, inl, inr, sym, subst}
 use Rattle.std.proofs.lemmas.List.{length-append, append-nil}
-use Rattle.rdm_num.specs.Lists.{Member}
+use Rattle.rdm_lists.specs.Lists.{Member}
 use Rattle.rdm_model.specs.declared.job.Instr.TheVariants.{Recv}
 use Rattle.rdm_model.specs.Deeds.{Deed, Did}
 use Rattle.rdm_model.specs.Matches.{Receive, receive, receives, received_by, with_received}
-use Rattle.rdm_model.proofs.Members.{member-append_cases}
 use Rattle.rdm_ep.specs.Receiving.{posted_recv}
 use Rattle.rdm_ep.specs.Keeps.{posted_of}
 use Rattle.rdm_ep.proofs.Apart.{ApartBy, apart_push}
+use Rattle.rdm_lists.proofs.Members.{member-append_cases}
 
 -- the number of a receive
 abbrev pub number_of : Receive → ℕ

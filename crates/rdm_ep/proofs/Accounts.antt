@@ -5,7 +5,7 @@ use Rattle.std.proofs.lemmas.Bool.{le-ltb, eq-eqb}
 use Rattle.std.proofs.lemmas.List.{map-append}
 use Rattle.std.proofs.lemmas.Option.{unwrap_or-slice_get, slice_get-get_or}
 use Rattle.std.proofs.Math.Seq.{take-suc, take-length}
-use Rattle.rdm_num.specs.Lists.{or_else, below}
+use Rattle.rdm_lists.specs.Lists.{or_else, below}
 use Rattle.rdm_num.specs.Pieces.{Piece, byte_in, byte_at, covers}
 use Rattle.rdm_num.specs.declared.numbers.Life.{Life}
 use Rattle.rdm_num.specs.declared.head.Head.{Head}
@@ -21,12 +21,13 @@ use Rattle.rdm_model.specs.Matches.{pairs}
 use Rattle.rdm_model.specs.Parts.{piece_by, carried_by, carried_pieces, has_landed}
 use Rattle.rdm_model.specs.Local.{heads_by, bytes_by}
 use Rattle.rdm_ep.specs.Plain.{IsPlain}
-use Rattle.rdm_model.proofs.Members.{same_life-refl}
-use Rattle.rdm_model.proofs.Lists.{each_below_from, map_same}
 use Rattle.rdm_model.proofs.Matches.{heard_still}
 use Rattle.rdm_model.proofs.Grows.{heads_by_heard, heads_grow}
 use Rattle.rdm_model.proofs.SameMatches.{carried_pieces_same}
 use Rattle.rdm_ep.proofs.Told.{whole, heard_came, unheard_nothing, tells_or_silent}
+use Rattle.rdm_lists.proofs.Same.{map_same}
+use Rattle.rdm_lists.proofs.Below.{each_below_from}
+use Rattle.rdm_num.proofs.Lives.{same_life-refl}
 
 -- a place of a whole message
 whole_at : (bytes : List ℕ) (place : ℕ) → byte_at (whole bytes ∷ []) place ≡ slice_get bytes place

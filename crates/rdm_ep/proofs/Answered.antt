@@ -2,7 +2,7 @@
 use Rattle.std.proofs.Common.{◌≡◌, ℕ, ◌+◌, Bool, true, false, cond, List, [], ◌∷◌, length, map, Option, Some, None, refl, ap, ◌∙◌, sym, get_or}
 use Rattle.std.specs.Prelude.{◌&&◌, ◌||◌, ◌==◌, nat_lt, nat_le, is_none}
 use Rattle.std.specs.List.{list_any}
-use Rattle.rdm_num.specs.Lists.{first_case}
+use Rattle.rdm_lists.specs.Lists.{first_case}
 use Rattle.rdm_num.specs.Pieces.{overlaps}
 use Rattle.rdm_num.specs.declared.numbers.PortNo.{PortNo}
 use Rattle.rdm_num.specs.declared.numbers.Life.{Life}
@@ -27,8 +27,8 @@ use Rattle.rdm_ep.specs.Sending as Ep
 use Rattle.rdm_ep.specs.Receiving as Er
 use Rattle.rdm_ep.specs.Answers.{why_of_send, why_of_recv, next_of_send, next_of_recv, life_scene}
 use Rattle.rdm_ep.specs.Keeps.{posted_of, outbound_of, Keeps}
-use Rattle.rdm_ep.proofs.Apart.{list_any-map}
 use Rattle.rdm_ep.proofs.Counts.{tx_agrees, rx_agrees, cq_agrees, regions_agree}
+use Rattle.rdm_lists.proofs.Filters.{list_any-map}
 
 -- the answer of a send by its tests and numbers
 unfoldable send_cases : (a b c d e f g : Bool) → (send message : ℕ) → Next

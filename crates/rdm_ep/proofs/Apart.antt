@@ -1,44 +1,10 @@
 -- Lists whose elements have numbers of their own.
-use Rattle.std.proofs.Common.{◌≡◌, ℕ, Bool, true, false, cond, not, List, [], ◌∷◌, ◌++◌, map, Some, refl, inl, inr, ap, ◌∙◌, sym}
+use Rattle.std.proofs.Common.{◌≡◌, ℕ, Bool, true, false, cond, not, List, [], ◌∷◌, ◌++◌, Some, refl, inl, inr, ap, ◌∙◌, sym}
 use Rattle.std.specs.Prelude.{◌==◌, ◌&&◌, ◌||◌, find, filter}
-use Rattle.std.specs.List.{list_any}
 use Rattle.std.proofs.lemmas.Bool.{eq-eqb, ne_eqb}
-use Rattle.rdm_num.specs.Lists.{Member, without_first}
-use Rattle.rdm_model.proofs.Members.{member-append_cases, member-filter, find_member}
-
--- a filter that all elements pass
-pub filter_all : {A : Type 0} (t : A → Bool) (xs : List A) → ((x : A) → Member x xs → t x ≡ true) → filter t xs ≡ xs
-filter_all t [] h = refl
-filter_all t (x ∷ xs) h = let a = h x (inl refl) in let b = filter_all t xs (λ y m. h y (inr m)) in rw (a, b) refl
-
--- a filter that no element passes
-pub filter_nothing : {A : Type 0} (t : A → Bool) (xs : List A) → ((x : A) → Member x xs → t x ≡ false) → filter t xs ≡ []
-filter_nothing t [] h = refl
-filter_nothing t (x ∷ xs) h = let a = h x (inl refl) in let b = filter_nothing t xs (λ y m. h y (inr m)) in rw (a, b) refl
-
--- a filter by two tests that agree on the list
-pub filter_where : {A : Type 0} (p q : A → Bool) (xs : List A) → ((x : A) → Member x xs → p x ≡ q x) → filter p xs ≡ filter q xs
-filter_where p q [] h = refl
-filter_where p q (x ∷ xs) h = let a = h x (inl refl) in let b = filter_where p q xs (λ y m. h y (inr m)) in rw (a, b) refl
-
--- a filter after a filter is one by both tests
-pub filter_both : {A : Type 0} (p q : A → Bool) (xs : List A) → filter (λ x. p x && q x) xs ≡ filter q (filter p xs)
-filter_both p q [] = refl
-filter_both p q (x ∷ xs) =
-    elim (p x) as (λ b. cond (b && q x) (x ∷ filter (λ y. p y && q y) xs) (filter (λ y. p y && q y) xs) ≡ filter q (cond b (x ∷ filter p xs) (filter p xs))) [
-      | true ↦ ap (λ ys. cond (q x) (x ∷ ys) ys) (filter_both p q xs)
-      | false ↦ filter_both p q xs
-    ]
-
--- none of a mapped list passes, or some does
-pub list_any-map : {A B : Type 0} (f : A → B) (t : B → Bool) (xs : List A) → list_any t (map f xs) ≡ list_any (λ x. t (f x)) xs
-list_any-map f t [] = refl
-list_any-map f t (x ∷ xs) = ap (λ b. t (f x) || b) (list_any-map f t xs)
-
--- no element passes
-pub list_any_none : {A : Type 0} (t : A → Bool) (xs : List A) → ((x : A) → Member x xs → t x ≡ false) → list_any t xs ≡ false
-list_any_none t [] h = refl
-list_any_none t (x ∷ xs) h = let a = h x (inl refl) in let b = list_any_none t xs (λ y m. h y (inr m)) in rw (a, b) refl
+use Rattle.rdm_lists.specs.Lists.{Member, without_first}
+use Rattle.rdm_lists.proofs.Members.{member-append_cases, member-filter, find_member}
+use Rattle.rdm_lists.proofs.Filters.{filter_all}
 
 -- no two elements have one number
 abbrev pub ApartBy : {A : Type 0} → (A → ℕ) → List A → Type 0

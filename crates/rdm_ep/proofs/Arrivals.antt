@@ -2,7 +2,7 @@
 use Rattle.std.proofs.Common.{◌≡◌, ℕ, ◌+◌, ◌⊎◌, inl, inr, List, [], ◌∷◌, ◌++◌, map, length, Option, Some, None, refl, arith, ap, ◌∙◌, sym, subst}
 use Rattle.std.specs.Prelude.{find, option_map}
 use Rattle.std.proofs.lemmas.List.{append-nil, append_assoc, map-append, length-append}
-use Rattle.rdm_num.specs.Lists.{Member, without_first}
+use Rattle.rdm_lists.specs.Lists.{Member, without_first}
 use Rattle.rdm_num.specs.declared.completion.Completion.{Completion}
 use Rattle.rdm_match.specs.declared.PostedRecv.{PostedRecv}
 use Rattle.rdm_match.specs.declared.Arrived.{Arrived}
@@ -12,7 +12,6 @@ use Rattle.rdm_model.specs.Matches.{Receive}
 use Rattle.rdm_model.specs.Receives.{RecvEnd, Filled, ended_recv, receive_numbered}
 use Rattle.rdm_model.specs.Regions.{after_end, after_ends}
 use Rattle.rdm_model.specs.Completions.{recv_completion, recv_completions}
-use Rattle.rdm_model.proofs.Members.{member-append_cases, find_member, without_member}
 use Rattle.rdm_ep.specs.declared.state.Posted.{Posted}
 use Rattle.rdm_ep.specs.declared.state.Inbound.{Inbound}
 use Rattle.rdm_ep.specs.Receiving.{arrived_message, takes}
@@ -21,7 +20,9 @@ use Rattle.rdm_ep.specs.Keeps.{posted_of, IsToldBy}
 use Rattle.rdm_ep.proofs.Options.{find-map, without-map}
 use Rattle.rdm_ep.proofs.Pairs.{met_by, met_by_arrive, met_by_all}
 use Rattle.rdm_ep.proofs.Live.{seen, live_arrive, live_arrivals, met_found, arrive_waits}
-use Rattle.rdm_ep.proofs.Fills.{IsFill, fill_written, fill_completes, find_where, without_where}
+use Rattle.rdm_ep.proofs.Fills.{IsFill, fill_written, fill_completes}
+use Rattle.rdm_lists.proofs.Members.{member-append_cases, find_member, without_member}
+use Rattle.rdm_lists.proofs.Same.{find_where, without_where}
 
 -- the receives are accepted ones, each under its number
 abbrev pub AreAmong : List Receive → List Receive → Type 0

@@ -2,7 +2,7 @@
 use Rattle.std.proofs.Common.{◌≡◌, ◌≤◌, ℕ, Bool, true, false, not, List, [], ◌∷◌, Option, Some, None, refl, arith, ap, ◌∙◌, sym}
 use Rattle.std.specs.Prelude.{◌&&◌, ◌||◌, ◌==◌, nat_le, nat_lt, is_none, is_some}
 use Rattle.std.proofs.lemmas.Bool.{and_parts, false_from_ne_true, eqb-true, le-leb, le-ltb}
-use Rattle.rdm_num.specs.Lists.{Member, first_case}
+use Rattle.rdm_lists.specs.Lists.{Member, first_case}
 use Rattle.rdm_num.specs.Lives.{same_life}
 use Rattle.rdm_num.specs.declared.numbers.Life.{Life}
 use Rattle.rdm_num.specs.declared.numbers.Connid.{Connid}
@@ -20,7 +20,6 @@ use Rattle.rdm_model.specs.Sources.{is_other, is_malformed, has_raw}
 use Rattle.rdm_model.specs.Named.{is_bad_key, is_no_op}
 use Rattle.rdm_model.specs.Classes.{is_received, is_other_head, is_mismatch, is_overlap, item_class}
 use Rattle.rdm_model.specs.Scenes.{Scene}
-use Rattle.rdm_model.proofs.Members.{same_life-true}
 use Rattle.rdm_ep.specs.declared.state.Inbound.{Inbound}
 use Rattle.rdm_ep.specs.View.{EndpointView, current_in}
 use Rattle.rdm_ep.specs.Entering.{next_in, is_message, is_held_in, is_heard_in}
@@ -28,10 +27,11 @@ use Rattle.rdm_ep.specs.Handling.{inbound_head, is_other_message, is_eager, rtm_
 use Rattle.rdm_ep.specs.Answers.{life_scene}
 use Rattle.rdm_ep.specs.Plain.{IsPlainItem}
 use Rattle.rdm_ep.specs.Keeps.{Keeps}
-use Rattle.rdm_ep.proofs.Apart.{list_any_none}
 use Rattle.rdm_ep.proofs.Groups.{kept_of}
 use Rattle.rdm_ep.proofs.Still.{waiting_heard, held_heard}
 use Rattle.rdm_ep.proofs.Told.{unheard}
+use Rattle.rdm_lists.proofs.Filters.{list_any_none}
+use Rattle.rdm_num.proofs.Lives.{same_life-true}
 
 -- the class by lives and by what the packet says of its source, or else that one
 unfoldable pub by_source : (a b c d : Bool) → Option Class → Option Class

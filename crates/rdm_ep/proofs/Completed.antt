@@ -3,7 +3,7 @@ use Rattle.std.proofs.Common.{◌≡◌, ℕ, Bool, false, not, List, [], ◌∷
 use Rattle.std.specs.Prelude.{◌==◌, filter}
 use Rattle.std.specs.List.{list_any}
 use Rattle.std.proofs.lemmas.Bool.{eq-eqb, ne_eqb}
-use Rattle.rdm_num.specs.Lists.{Member}
+use Rattle.rdm_lists.specs.Lists.{Member}
 use Rattle.rdm_num.specs.declared.completion.Completion.{Completion}
 use Rattle.rdm_model.specs.Deeds.{Deed, Pushed}
 use Rattle.rdm_model.specs.Owns.{Own, Messages}
@@ -15,18 +15,19 @@ use Rattle.rdm_model.specs.Replies.{Reply}
 use Rattle.rdm_model.specs.Turns.{Progress, after_push, after_deed, progress, live_of, live_sends}
 use Rattle.rdm_model.specs.Completions.{recv_completions, ended_sends, send_completion, completions_by, completions}
 use Rattle.rdm_model.specs.Local.{heard_by}
-use Rattle.rdm_model.proofs.Members.{member_list_any}
 use Rattle.rdm_model.proofs.SameRegions.{regions_same}
 use Rattle.rdm_model.proofs.SameTurns.{progress_same, live_sends_same}
 use Rattle.rdm_model.proofs.SameCompletions.{completions_same}
 use Rattle.rdm_model.proofs.Grows.{agree_grows}
 use Rattle.rdm_ep.specs.Plain.{IsPlain}
-use Rattle.rdm_ep.proofs.Apart.{filter_nothing, list_any_none, ApartBy, apart_filter}
+use Rattle.rdm_ep.proofs.Apart.{ApartBy, apart_filter}
 use Rattle.rdm_ep.proofs.Currents.{never_forgotten}
 use Rattle.rdm_ep.proofs.EagerSends.{send_number, sends_apart, has_any}
 use Rattle.rdm_ep.proofs.Progress.{sends_left, push_left, sends_are}
 use Rattle.rdm_ep.proofs.Pushes.{own_progress, own_live_sends, sends_ended, ended_left, live_of_is, live_sends_are}
 use Rattle.rdm_ep.proofs.Ends.{ends_of, ends_step}
+use Rattle.rdm_lists.proofs.Members.{member_list_any}
+use Rattle.rdm_lists.proofs.Filters.{filter_nothing, list_any_none}
 
 -- one of the sends has that number
 abbrev pub has_number : List Sent → ℕ → Bool

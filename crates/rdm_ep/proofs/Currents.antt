@@ -3,16 +3,16 @@ use Rattle.std.proofs.Common.{◌≡◌, ℕ, true, false, cond, not, List, [], 
 use Rattle.std.specs.Prelude.{◌==◌, ◌&&◌}
 use Rattle.std.specs.Bool.{then_some}
 use Rattle.std.proofs.lemmas.Bool.{eqb-true, or_cases}
-use Rattle.rdm_num.specs.Lists.{or_else}
+use Rattle.rdm_lists.specs.Lists.{or_else}
 use Rattle.rdm_num.specs.Lives.{same_life, is_life}
 use Rattle.rdm_num.specs.declared.numbers.Life.{Life}
 use Rattle.rdm_model.specs.declared.job.Instr.TheVariants.{Insert}
 use Rattle.rdm_model.specs.Deeds.{Deed, Did, Took}
 use Rattle.rdm_model.specs.Owns.{Own}
 use Rattle.rdm_model.specs.Currents.{inserted_by, last_inserted, seen_by, first_seen, current, is_current, was_current, is_superseded, other_life, forgotten_by, is_forgotten}
-use Rattle.rdm_model.proofs.Members.{same_life-true, same_life-refl}
 use Rattle.rdm_ep.specs.Plain.{IsPlainDeed, IsPlain}
-use Rattle.rdm_ep.proofs.Options.{or_else-none, or_else-assoc}
+use Rattle.rdm_lists.proofs.Options.{or_else-none, or_else-assoc}
+use Rattle.rdm_num.proofs.Lives.{same_life-true, same_life-refl}
 
 -- a plain deed forgets no life
 pub forgotten_none : (own : Own) (before : List Deed) (d : Deed) → IsPlainDeed own before d → forgotten_by before d ≡ []

@@ -1,7 +1,7 @@
 -- What an endpoint decides is what the handling of a datagram says.
 use Rattle.std.proofs.Common.{◌≡◌, Bool, true, false, not, ◌&&◌, [], ◌∷◌, Option, Some, None, refl, ◌∙◌, ap}
 use Rattle.std.specs.Prelude.{is_none, ◌==◌, if◌then◌else◌}
-use Rattle.rdm_num.specs.Lists.{first_case}
+use Rattle.rdm_lists.specs.Lists.{first_case}
 use Rattle.rdm_num.specs.Lives.{life}
 use Rattle.rdm_num.specs.declared.numbers.Life.{Life}
 use Rattle.rdm_num.specs.declared.numbers.Connid.{Connid}

@@ -4,7 +4,7 @@ use Rattle.std.specs.Prelude.{◌||◌, nat_le, filter, is_some}
 use Rattle.std.specs.List.{list_any}
 use Rattle.std.proofs.lemmas.Bool.{leb-true, le-leb}
 use Rattle.std.proofs.lemmas.List.{length-take}
-use Rattle.rdm_num.specs.Lists.{Member, or_else}
+use Rattle.rdm_lists.specs.Lists.{Member, or_else}
 use Rattle.rdm_num.specs.declared.numbers.Life.{Life}
 use Rattle.rdm_num.specs.declared.request.SendReq.{SendReq}
 use Rattle.rdm_num.specs.declared.limits.EpLimits.{EpLimits}

@@ -4,7 +4,7 @@ use Rattle.std.specs.Prelude.{◌==◌, ◌&&◌, find, filter}
 use Rattle.std.proofs.lemmas.Bool.{and_parts, eqb-true, false_from_ne_true}
 use Rattle.std.proofs.lemmas.List.{map-append, length-append}
 use Rattle.std.proofs.lemmas.List.Elements.{filter-append}
-use Rattle.rdm_num.specs.Lists.{Member, without_first, below}
+use Rattle.rdm_lists.specs.Lists.{Member, without_first, below}
 use Rattle.rdm_num.specs.Lives.{same_life}
 use Rattle.rdm_num.specs.declared.numbers.Life.{Life}
 use Rattle.rdm_match.specs.declared.PostedRecv.{PostedRecv}
@@ -17,11 +17,13 @@ use Rattle.rdm_model.specs.Heard.{has_entered, entering}
 use Rattle.rdm_model.specs.Matches.{receive, receives, matching}
 use Rattle.rdm_model.specs.Completions.{Name}
 use Rattle.rdm_model.specs.Local.{heads_by}
-use Rattle.rdm_model.proofs.Members.{member-append_cases, member-map, same_life-true}
 use Rattle.rdm_ep.specs.Plain.{IsPlain}
-use Rattle.rdm_ep.proofs.Apart.{filter_nothing, ApartBy, apart_push, apart_filter}
+use Rattle.rdm_ep.proofs.Apart.{ApartBy, apart_push, apart_filter}
 use Rattle.rdm_ep.proofs.Entered.{entered_still}
 use Rattle.rdm_ep.proofs.Pairs.{own_matching, message_by, arriving, event_of, matching_step, arriving_enters}
+use Rattle.rdm_lists.proofs.Members.{member-append_cases, member-map}
+use Rattle.rdm_lists.proofs.Filters.{filter_nothing}
+use Rattle.rdm_num.proofs.Lives.{same_life-true}
 
 -- how many elements pass
 abbrev pub count : {A : Type 0} → (A → Bool) → List A → ℕ

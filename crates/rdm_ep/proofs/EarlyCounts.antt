@@ -5,7 +5,7 @@ use Rattle.std.proofs.lemmas.List.{append-nil}
 use Rattle.std.specs.Bool.{then_some}
 use Rattle.std.specs.List.{list_any}
 use Rattle.std.proofs.lemmas.Bool.{and_parts, eqb-true, eq-eqb, and_from, false_from_ne_true}
-use Rattle.rdm_num.specs.Lists.{Member, or_else}
+use Rattle.rdm_lists.specs.Lists.{Member, or_else}
 use Rattle.rdm_num.specs.Lives.{same_life}
 use Rattle.rdm_num.specs.declared.numbers.Life.{Life}
 use Rattle.rdm_num.specs.declared.head.Head.{Head}
@@ -19,14 +19,17 @@ use Rattle.rdm_model.specs.Currents.{is_forgotten}
 use Rattle.rdm_model.specs.Heard.{head_by, heard_head, is_heard}
 use Rattle.rdm_model.specs.Completions.{Name, named_by, heard_names, is_matched, early_count}
 use Rattle.rdm_model.specs.Local.{heads_by}
-use Rattle.rdm_model.proofs.Members.{member-append_cases, member-append_left, member-append_right, member-filter, same_life-true, same_life-refl, then_some_parts}
 use Rattle.rdm_model.proofs.Matches.{pair_heard}
 use Rattle.rdm_ep.specs.Plain.{IsPlain}
-use Rattle.rdm_ep.proofs.Apart.{filter_where, filter_nothing}
 use Rattle.rdm_ep.proofs.Currents.{never_forgotten}
 use Rattle.rdm_ep.proofs.Entered.{heard_stays}
 use Rattle.rdm_ep.proofs.Pairs.{own_matching}
 use Rattle.rdm_ep.proofs.Early.{count, count_first, one_if, named, at_most_one}
+use Rattle.rdm_lists.proofs.Members.{member-append_left, member-append_right, member-append_cases, member-filter}
+use Rattle.rdm_lists.proofs.Options.{then_some_parts}
+use Rattle.rdm_lists.proofs.Same.{filter_where}
+use Rattle.rdm_lists.proofs.Filters.{filter_nothing}
+use Rattle.rdm_num.proofs.Lives.{same_life-true, same_life-refl}
 
 -- no two names are of one message
 abbrev NamesApart : List Name → Type 0

@@ -5,7 +5,7 @@ use Rattle.std.specs.Prelude.{◌&&◌, filter, find}
 use Rattle.std.proofs.lemmas.Bool.{and_from, and_left, eqb-true}
 use Rattle.std.proofs.lemmas.List.{append-nil}
 use Rattle.std.proofs.lemmas.List.Elements.{filter-append}
-use Rattle.rdm_num.specs.Lists.{Member}
+use Rattle.rdm_lists.specs.Lists.{Member}
 use Rattle.rdm_num.specs.declared.numbers.RecvNo.{RecvNo}
 use Rattle.rdm_match.specs.Matcher.{Pair, is_pair, is_recv}
 use Rattle.rdm_model.specs.declared.job.Instr.TheVariants.{Cancel}
@@ -16,14 +16,15 @@ use Rattle.rdm_model.specs.Parts.{has_landed}
 use Rattle.rdm_model.specs.Receives.{RecvEnd, Filled, Withdrawn, ended_recv, is_filled, filled_by, withdrawn_by, recv_ends_by, with_recv_ends, recv_ends}
 use Rattle.rdm_model.specs.Local.{heads_by}
 use Rattle.rdm_ep.specs.Plain.{IsPlain}
-use Rattle.rdm_model.proofs.Members.{member-append_right, member-append_cases, member-map, find_member, some_of}
 use Rattle.rdm_model.proofs.Matches.{member_is_pair, pair_heard}
 use Rattle.rdm_model.proofs.SameReceives.{is_filled_same, recv_ends_same}
 use Rattle.rdm_model.proofs.Grows.{heads_grow}
-use Rattle.rdm_ep.proofs.Apart.{filter_all, filter_nothing}
 use Rattle.rdm_ep.proofs.Currents.{forgotten_none}
 use Rattle.rdm_ep.proofs.Accounts.{heard_landed}
 use Rattle.rdm_ep.proofs.Pairs.{own_matching, event_of, met_by, met_by_all, new_pairs, pairs_step, ids_below, more_receives, new_unpaired}
+use Rattle.rdm_lists.proofs.Members.{member-append_right, member-append_cases, member-map, find_member}
+use Rattle.rdm_lists.proofs.Options.{some_of}
+use Rattle.rdm_lists.proofs.Filters.{filter_all, filter_nothing}
 
 -- each pair is filled
 pub pair_filled : (own : Own) (log : List Deed) (p : Pair) → IsPlain own log → Member p (own_matching own log).pairs

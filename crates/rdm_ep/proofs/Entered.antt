@@ -2,13 +2,14 @@
 use Rattle.std.proofs.Common.{◌≡◌, ℕ, ◌+◌, ◌-◌, true, List, ◌∷◌, ap}
 use Rattle.std.specs.Prelude.{◌&&◌, nat_le, is_some, Option}
 use Rattle.std.proofs.lemmas.Bool.{and_parts, and_from}
-use Rattle.rdm_num.specs.Lists.{each_below}
+use Rattle.rdm_lists.specs.Lists.{each_below}
 use Rattle.rdm_num.specs.declared.numbers.Life.{Life}
 use Rattle.rdm_num.specs.declared.head.Head.{Head}
 use Rattle.rdm_model.specs.Deeds.{Deed}
 use Rattle.rdm_model.specs.Heard.{heard_head, is_heard, heard_below, has_entered}
-use Rattle.rdm_model.proofs.Members.{some_of, each_below_more}
 use Rattle.rdm_model.proofs.Matches.{heard_still}
+use Rattle.rdm_lists.proofs.Options.{some_of}
+use Rattle.rdm_lists.proofs.Below.{each_below_more}
 
 -- what was heard of stays so
 pub heard_stays : (d : Deed) (before : List Deed) (source : Life) (n : ℕ) → is_heard before source n ≡ true → is_heard (d ∷ before) source n ≡ true

@@ -4,12 +4,11 @@ use Rattle.std.specs.Prelude.{◌==◌, ◌&&◌, nat_le, nat_lt, filter, min}
 use Rattle.std.proofs.lemmas.Bool.{eq-eqb, ne_eqb, le-leb, lt-leb, lt-ltb, le-ltb, cases_lt, cases_eq, and_right, false_from_ne_true}
 use Rattle.std.proofs.lemmas.List.{append-nil, map-append}
 use Rattle.std.proofs.lemmas.List.Elements.{filter-append}
-use Rattle.rdm_num.specs.Lists.{below, each_below}
+use Rattle.rdm_lists.specs.Lists.{below, each_below}
 use Rattle.rdm_num.specs.declared.numbers.Life.{Life}
 use Rattle.rdm_model.specs.Deeds.{Deed}
 use Rattle.rdm_model.specs.Heard.{is_heard, heard_below, has_entered, is_next_number, entering}
-use Rattle.rdm_model.proofs.Members.{each_below_at}
-use Rattle.rdm_model.proofs.Lists.{each_below_from}
+use Rattle.rdm_lists.proofs.Below.{each_below_at, each_below_from}
 
 -- the least number of a life that was not heard of
 pub record IsNext (first : ℕ) (log : List Deed) (source : Life) (next : ℕ) : Type 0 where

@@ -1,7 +1,6 @@
 -- What a receive that meets its message writes and completes.
-use Rattle.std.proofs.Common.{◌≡◌, ℕ, ◌-◌, Bool, List, [], ◌∷◌, ◌++◌, map, length, take, Option, Some, refl, ap, ◌∙◌, inl, inr}
-use Rattle.std.specs.Prelude.{find, option_to_list}
-use Rattle.rdm_num.specs.Lists.{Member, without_first}
+use Rattle.std.proofs.Common.{◌≡◌, ℕ, ◌-◌, List, [], ◌∷◌, ◌++◌, map, length, take, Option, Some, ap, ◌∙◌}
+use Rattle.std.specs.Prelude.{option_to_list}
 use Rattle.rdm_num.specs.declared.head.Head.{Head}
 use Rattle.rdm_num.specs.declared.completion.Completion.{Completion}
 use Rattle.rdm_num.specs.declared.completion.Completion.TheVariants.{Recv}
@@ -46,14 +45,3 @@ fill_completes ms rs q r i f =
     ((ms.head a.life a.no.0).length - r.req.len))) f.message
     ∙ ap (λ (h : Head). c (TookOutcome i.life h.tag h.cq_data (take r.req.len (ms.bytes i.life i.no.0)) (h.length - r.req.len))) f.head
     ∙ ap (λ (bytes : List ℕ). c (TookOutcome i.life i.tag i.cq_data (take r.req.len bytes) (length i.bytes - r.req.len))) f.bytes
-
--- a search by two tests that agree on the list
-pub find_where : {A : Type 0} (p q : A → Bool) (xs : List A) → ((x : A) → Member x xs → p x ≡ q x) → find p xs ≡ find q xs
-find_where p q [] h = refl
-find_where p q (x ∷ xs) h = let a = h x (inl refl) in let b = find_where p q xs (λ y m. h y (inr m)) in rw (a, b) refl
-
--- the list without the first element that passes, by two tests that agree on the list
-pub without_where : {A : Type 0} (p q : A → Bool) (xs : List A) → ((x : A) → Member x xs → p x ≡ q x) → without_first p xs ≡ without_first q xs
-unfolding without_first
-without_where p q [] h = refl
-without_where p q (x ∷ xs) h = let a = h x (inl refl) in let b = without_where p q xs (λ y m. h y (inr m)) in rw (a, b) refl

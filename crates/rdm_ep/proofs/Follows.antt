@@ -3,14 +3,14 @@ use Rattle.std.proofs.Common.{◌≡◌, ℕ, zero, suc, ◌+◌, List, [], ◌�
 use Rattle.std.specs.Prelude.{◌==◌, find, remove, slice_get}
 use Rattle.std.proofs.lemmas.Bool.{and_parts, eqb-true}
 use Rattle.std.proofs.lemmas.List.{append-nil, append_assoc}
-use Rattle.rdm_num.specs.Lists.{without_first}
+use Rattle.rdm_lists.specs.Lists.{without_first}
 use Rattle.rdm_num.specs.Lives.{same_life}
 use Rattle.rdm_num.specs.declared.numbers.Life.{Life}
-use Rattle.rdm_model.proofs.Members.{find_member}
 use Rattle.rdm_ep.specs.declared.state.Inbound.{Inbound}
 use Rattle.rdm_ep.specs.Places.{IsPlaced}
 use Rattle.rdm_ep.specs.Entering.{is_message, message_then, following, left_held}
 use Rattle.rdm_ep.proofs.Held.{without_length}
+use Rattle.rdm_lists.proofs.Members.{find_member}
 
 -- nothing follows
 pub record Ends (most : ℕ) (held : List Inbound) (from : Life) (n : ℕ) : Type 0 where

@@ -3,14 +3,13 @@ use Rattle.std.proofs.Common.{◌≡◌, ℕ, Bool, true, false, cond, List, [],
 use Rattle.std.specs.Prelude.{◌||◌, is_none}
 use Rattle.std.specs.List.{list_any}
 use Rattle.std.proofs.lemmas.List.{append-nil, map-append}
-use Rattle.rdm_num.specs.Lists.{or_else}
+use Rattle.rdm_lists.specs.Lists.{or_else}
 use Rattle.rdm_num.specs.Lives.{same_life}
 use Rattle.rdm_num.specs.declared.numbers.Life.{Life}
 use Rattle.rdm_model.specs.Deeds.{Deed, Took, Item}
 use Rattle.rdm_model.specs.Owns.{Own}
 use Rattle.rdm_model.specs.Sends.{known_by, known_word}
 use Rattle.rdm_model.specs.Replies.{Reply, is_from, handshake_by}
-use Rattle.rdm_model.proofs.Members.{same_life-true}
 use Rattle.rdm_ep.specs.declared.state.Peer.{Peer}
 use Rattle.rdm_ep.specs.declared.state.Outbound.{Outbound}
 use Rattle.rdm_ep.specs.View.{EndpointView, current_in}
@@ -18,12 +17,14 @@ use Rattle.rdm_ep.specs.Peers.{peer_in, with_peer, greeted_peer, known_peer}
 use Rattle.rdm_ep.specs.Handling.{with_source, with_greeting}
 use Rattle.rdm_ep.specs.Plain.{IsPlain}
 use Rattle.rdm_ep.specs.Keeps.{greeting}
-use Rattle.rdm_ep.proofs.Options.{or_else-none}
 use Rattle.rdm_ep.proofs.Currents.{of_port, shown_by, current_step}
 use Rattle.rdm_ep.proofs.PeersOf.{peer_kept, peer_changed}
 use Rattle.rdm_ep.proofs.Pushes.{replies_left, replies_step}
 use Rattle.rdm_ep.proofs.Groups.{current_of, LivesKept, SendsKept, OwedKept}
 use Rattle.rdm_ep.proofs.KeepsQuiet.{with_current, with_current_is}
+use Rattle.rdm_lists.proofs.Options.{or_else-none}
+use Rattle.rdm_lists.proofs.Bools.{cond_is_or}
+use Rattle.rdm_num.proofs.Lives.{same_life-true}
 
 -- what is known of lives once a datagram of that one was taken
 abbrev pub greeted_peers : Life → List Peer → List Peer
@@ -75,11 +76,6 @@ greeted_keeps g from peers life same =
 or_true_by : (a b : Bool) → b ≡ true → b ≡ (a || b)
 or_true_by true b h = h
 or_true_by false b h = refl
-
--- a choice of true is an or
-cond_is_or : (a b : Bool) → cond a true b ≡ (a || b)
-cond_is_or true b = refl
-cond_is_or false b = refl
 
 -- a life was greeted before, or is the one that is now
 greeted_is : (from : Life) (peers : List Peer) (life : Life)

@@ -1,9 +1,9 @@
 -- Of plain deeds: nothing is owed but handshakes.
-use Rattle.std.proofs.Common.{◌≡◌, ℕ, Bool, true, false, cond, not, List, [], ◌∷◌, ◌++◌, map, refl, inl, inr, ap, ◌∙◌}
-use Rattle.std.specs.Prelude.{◌&&◌, filter, flat_map}
+use Rattle.std.proofs.Common.{◌≡◌, ℕ, Bool, true, false, cond, not, List, [], ◌∷◌, ◌++◌, map, refl, ap, ◌∙◌}
+use Rattle.std.specs.Prelude.{◌&&◌, filter}
 use Rattle.std.specs.List.{list_any}
 use Rattle.std.proofs.lemmas.List.{append-nil}
-use Rattle.rdm_num.specs.Lists.{Member}
+use Rattle.rdm_lists.specs.Lists.{Member}
 use Rattle.rdm_num.specs.Lives.{same_life}
 use Rattle.rdm_num.specs.declared.numbers.Life.{Life}
 use Rattle.rdm_num.specs.declared.numbers.OpId.{OpId}
@@ -22,9 +22,10 @@ use Rattle.rdm_model.specs.Local.{heads_by}
 use Rattle.rdm_model.proofs.Matches.{pair_heard}
 use Rattle.rdm_model.proofs.Grows.{heads_by_heard}
 use Rattle.rdm_ep.specs.Plain.{IsPlainDeed, IsPlain}
-use Rattle.rdm_ep.proofs.Apart.{filter_all}
 use Rattle.rdm_ep.proofs.Currents.{forgotten_none}
 use Rattle.rdm_ep.proofs.Told.{heard_came}
+use Rattle.rdm_lists.proofs.Same.{flat_map_none}
+use Rattle.rdm_lists.proofs.Filters.{filter_all}
 
 -- nothing is asked for, granted or ended for a message in one packet
 nothing_owed : (own : Own) (b c : Bool) (shape : Shape) (recv : OpId) (size : ℕ) → shape ≡ S.Eager
@@ -50,11 +51,6 @@ pair_owes_nothing own d before p h m =
     (nothing_owed own (not (is_pair (pairs first heads before) p.recv.id.0 p.message.life p.message.no.0))
     (is_filled first heads (d ∷ before) p && not (is_filled first heads before p))
     (heads p.message.life p.message.no.0).shape (record { 0 = p.recv.id.0 }) (window own.limits heads (d ∷ before) p (granted_bytes own.limits heads before p)) e)
-
--- a flat map that gives nothing
-flat_map_none : {A B : Type 0} (f : A → List B) (xs : List A) → ((x : A) → Member x xs → f x ≡ []) → flat_map f xs ≡ []
-flat_map_none f [] h = refl
-flat_map_none f (x ∷ xs) h = let a = h x (inl refl) in let b = flat_map_none f xs (λ y m. h y (inr m)) in rw (a, b) refl
 
 -- a plain deed asks for no bytes of a send
 given_none : (own : Own) (before : List Deed) (sents : List Sent) (d : Deed) → IsPlainDeed own before d → given_by sents d ≡ []

@@ -2,7 +2,7 @@
 use Rattle.std.proofs.Common.{◌≡◌, ℕ, Bool, true, false, cond, List, [], ◌∷◌, Option, Some, None, refl, arith, ap, ◌∙◌, sym}
 use Rattle.std.specs.Prelude.{◌||◌, nat_le, nat_lt, is_some}
 use Rattle.std.proofs.lemmas.Bool.{true≢false, or_parts, ltb-false, and_right}
-use Rattle.rdm_num.specs.Lists.{first_case}
+use Rattle.rdm_lists.specs.Lists.{first_case}
 use Rattle.rdm_num.specs.declared.numbers.Life.{Life}
 use Rattle.rdm_num.specs.declared.numbers.Connid.{Connid}
 use Rattle.rdm_num.specs.declared.numbers.MsgNo.{MsgNo}

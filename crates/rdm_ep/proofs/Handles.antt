@@ -1,11 +1,11 @@
 -- What an endpoint answers to a datagram is what the definitions say.
-use Rattle.std.proofs.Common.{◌≡◌, ℕ, zero, suc, ◌+◌, inl, inr, Bool, true, false, cond, List, [], ◌∷◌, map, length, Option, Some, None, refl, arith, ap, ◌∙◌, sym, subst}
+use Rattle.std.proofs.Common.{◌≡◌, ℕ, suc, ◌+◌, inl, inr, Bool, true, false, cond, List, [], ◌∷◌, map, length, Option, Some, None, refl, arith, ap, ◌∙◌, sym, subst}
 use Rattle.std.proofs.lemmas.Bool.{cases_eq, eq-eqb, ne_eqb}
-use Rattle.std.proofs.lemmas.List.{length-map, length-append}
+use Rattle.std.proofs.lemmas.List.{length-map}
 use Rattle.std.proofs.Math.Bool.{and_assoc}
 use Rattle.std.specs.Prelude.{◌&&◌, ◌||◌, ◌==◌, nat_le, is_none, is_some, find, option_map}
 use Rattle.std.specs.List.{list_any}
-use Rattle.rdm_num.specs.Lists.{below}
+use Rattle.rdm_lists.specs.Lists.{below}
 use Rattle.rdm_num.specs.Lives.{life}
 use Rattle.rdm_num.specs.declared.numbers.Life.{Life}
 use Rattle.rdm_num.specs.declared.numbers.Connid.{Connid}
@@ -47,6 +47,7 @@ use Rattle.rdm_ep.proofs.KeepsMessage.{live_among}
 use Rattle.rdm_ep.proofs.Groups.{kept_of}
 use Rattle.rdm_ep.proofs.Counts.{early_agrees}
 use Rattle.rdm_ep.proofs.Classed.{class_agrees, lives_class_agrees}
+use Rattle.rdm_lists.proofs.Below.{length-below}
 
 -- some element passes where one is found
 any_is_found : {A : Type 0} (t : A → Bool) (xs : List A) → list_any t xs ≡ is_some (find t xs)
@@ -95,18 +96,12 @@ places_agree ports port_log log v from (Spelled (Rtm number tag opt (Eager bytes
 places_agree ports port_log log v from (Spelled (Handshake words connid)) h p k = refl
 places_agree ports port_log log v from item h p k = elim p [ ]
 
--- as many numbers as that
-length_below : (n : ℕ) → length (below n) ≡ n
-unfolding below
-length_below zero = refl
-length_below (suc n) = let r = length_below n in let l = length-append (below n) (n ∷ []) in omega arith
-
 -- the least of numbers in a row, and their count
 entered_row : (n k : ℕ) → entered_of (map (λ i. n + i) (below (suc k))) ≡ Some (record { first = record { 0 = n }; count = suc k })
 unfolding entered_of
 entered_row n k =
     let r = rising n k in
-    let l : length (map (λ (i : ℕ). n + 1 + i) (below k)) ≡ k = length-map (below k) (λ (i : ℕ). n + 1 + i) ∙ length_below k in
+    let l : length (map (λ (i : ℕ). n + 1 + i) (below k)) ≡ k = length-map (below k) (λ (i : ℕ). n + 1 + i) ∙ length-below k in
     rw (r, l) refl
 
 -- no numbers enter

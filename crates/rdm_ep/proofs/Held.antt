@@ -3,12 +3,13 @@ use Rattle.std.proofs.Common.{◌≡◌, ℕ, zero, suc, ◌+◌, ◌<◌, ◌�
 use Rattle.std.specs.Prelude.{◌==◌, ◌||◌, find, is_some}
 use Rattle.std.specs.List.{list_any}
 use Rattle.std.proofs.lemmas.Bool.{and_parts, eqb-true, false_from_ne_true}
-use Rattle.rdm_num.specs.Lists.{Member, without_first}
+use Rattle.rdm_lists.specs.Lists.{Member, without_first}
 use Rattle.rdm_num.specs.Lives.{same_life}
 use Rattle.rdm_num.specs.declared.numbers.Life.{Life}
-use Rattle.rdm_model.proofs.Members.{find_member, without_member, member_list_any, same_life-true, same_life-refl}
 use Rattle.rdm_ep.specs.declared.state.Inbound.{Inbound}
 use Rattle.rdm_ep.specs.Entering.{is_message, held_at, message_then, following, left_held}
+use Rattle.rdm_lists.proofs.Members.{member_list_any, find_member, without_member}
+use Rattle.rdm_num.proofs.Lives.{same_life-true, same_life-refl}
 
 -- messages of a life that follow one another from a number on
 abbrev pub InRun : Life → ℕ → List Inbound → Type 0

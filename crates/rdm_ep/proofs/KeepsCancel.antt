@@ -2,7 +2,7 @@
 use Rattle.std.proofs.Common.{◌≡◌, ℕ, zero, suc, ◌+◌, List, [], ◌∷◌, ◌++◌, map, length, take, Option, Some, None, refl, arith, ap, ◌∙◌, sym, subst}
 use Rattle.std.specs.Prelude.{◌==◌, option_to_list}
 use Rattle.std.proofs.lemmas.List.{append-nil, take-append-drop}
-use Rattle.rdm_num.specs.Lists.{Member, without_first}
+use Rattle.rdm_lists.specs.Lists.{Member, without_first}
 use Rattle.rdm_num.specs.declared.numbers.RecvNo.{RecvNo}
 use Rattle.rdm_num.specs.declared.completion.Completion.{Completion}
 use Rattle.rdm_num.specs.declared.completion.Completion.TheVariants.{Recv}
@@ -10,14 +10,13 @@ use Rattle.rdm_num.specs.declared.completion.Outcome.TheVariants.{Cancelled}
 use Rattle.rdm_match.specs.Matcher.{Matching, after, run}
 use Rattle.rdm_model.specs.declared.job.Instr.TheVariants.{Cancel}
 use Rattle.rdm_model.specs.Deeds.{Deed, Did}
-use Rattle.rdm_model.specs.Owns.{Own, Messages}
+use Rattle.rdm_model.specs.Owns.{Messages}
 use Rattle.rdm_model.specs.Heard.{head_by}
 use Rattle.rdm_model.specs.Matches.{Receive, receives, received_by, with_received}
 use Rattle.rdm_model.specs.Receives.{Withdrawn, ended_recv, receive_numbered}
 use Rattle.rdm_model.specs.Regions.{put, change_at, written_by, after_end, after_ends, region_by}
 use Rattle.rdm_model.specs.Completions.{outcome, recv_completion, recv_completions, is_poll, named_by, heard_names}
 use Rattle.rdm_model.specs.Local.{heard_by}
-use Rattle.rdm_model.proofs.Members.{find_member}
 use Rattle.rdm_ep.specs.View.{EndpointView}
 use Rattle.rdm_ep.specs.Cancelling.{has_number, after_cancel}
 use Rattle.rdm_ep.specs.Plain.{IsPlain}
@@ -32,6 +31,7 @@ use Rattle.rdm_ep.proofs.Completed.{own_completions, own_regions, completions_st
 use Rattle.rdm_ep.proofs.Groups.{next_of, kept_of, keeps_by}
 use Rattle.rdm_ep.proofs.Still.{lives_still, sends_still, owed_still, told_stays, held_stays, heard_more}
 use Rattle.rdm_ep.proofs.KeepsPushed.{completions_more}
+use Rattle.rdm_lists.proofs.Members.{find_member}
 
 -- no bytes that are put change nothing
 put_nothing : (at : ℕ) (region : List ℕ) → put at [] region ≡ region

@@ -2,7 +2,7 @@
 use Rattle.std.proofs.Common.{◌≡◌, ℕ, inl, inr, List, [], ◌∷◌, ◌++◌, map, length, Option, refl, ap, ◌∙◌, sym, subst}
 use Rattle.std.specs.Prelude.{not}
 use Rattle.std.proofs.lemmas.List.{append-nil}
-use Rattle.rdm_num.specs.Lists.{Member}
+use Rattle.rdm_lists.specs.Lists.{Member}
 use Rattle.rdm_num.specs.declared.numbers.Life.{Life}
 use Rattle.rdm_num.specs.declared.numbers.MsgNo.{MsgNo}
 use Rattle.rdm_num.specs.declared.completion.Completion.{Completion}
@@ -19,7 +19,6 @@ use Rattle.rdm_model.specs.Regions.{after_ends, region_by}
 use Rattle.rdm_model.specs.Sends.{known_by, known_word}
 use Rattle.rdm_model.specs.Completions.{recv_completions, is_poll}
 use Rattle.rdm_model.specs.Local.{heads_by, bytes_by, heard_by}
-use Rattle.rdm_model.proofs.Members.{member-filter}
 use Rattle.rdm_ep.specs.declared.state.Peer.{Peer}
 use Rattle.rdm_ep.specs.declared.state.Inbound.{Inbound}
 use Rattle.rdm_ep.specs.View.{EndpointView}
@@ -29,7 +28,6 @@ use Rattle.rdm_ep.specs.Meeting.{meeting_of, with_meeting, after_arrivals}
 use Rattle.rdm_ep.specs.Handling.{inbound_head}
 use Rattle.rdm_ep.specs.Plain.{IsPlain}
 use Rattle.rdm_ep.specs.Keeps.{posted_of, IsToldBy, Keeps}
-use Rattle.rdm_ep.proofs.Options.{or_else-none}
 use Rattle.rdm_ep.proofs.Apart.{apart_numbered}
 use Rattle.rdm_ep.proofs.Accepted.{number_of, receive_numbered_so, receives_apart}
 use Rattle.rdm_ep.proofs.Pairs.{own_matching, arriving, event_of, matching_step, new_pairs, met_by_all}
@@ -42,6 +40,8 @@ use Rattle.rdm_ep.proofs.KeepsPushed.{completions_more}
 use Rattle.rdm_ep.proofs.Greeted.{greeted_peers, met_view, lives_met, sends_met, owed_met}
 use Rattle.rdm_ep.proofs.Arrivals.{AreAmong, Arrivals, arrivals, arrivals_meet}
 use Rattle.rdm_ep.proofs.Runs.{eager}
+use Rattle.rdm_lists.proofs.Members.{member-filter}
+use Rattle.rdm_lists.proofs.Options.{or_else-none}
 
 -- the lists of an endpoint where messages and receives meet hold what the matcher holds
 pub live_among : (own : Own) (log : List Deed) → AreAmong (receives log) (own_live own log)

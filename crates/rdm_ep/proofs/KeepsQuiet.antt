@@ -3,7 +3,7 @@ use Rattle.std.proofs.Common.{◌≡◌, ◌<◌, ℕ, zero, suc, ◌+◌, inl, 
 use Rattle.std.specs.Prelude.{◌==◌, ◌&&◌, ◌||◌, nat_le, nat_lt, is_none}
 use Rattle.std.proofs.lemmas.Bool.{eqb-true, cases_lt, le-leb, lt-leb, le-ltb}
 use Rattle.std.proofs.Math.Seq.{drop-nil}
-use Rattle.rdm_num.specs.Lists.{or_else}
+use Rattle.rdm_lists.specs.Lists.{or_else}
 use Rattle.rdm_num.specs.declared.numbers.Life.{Life}
 use Rattle.rdm_num.specs.declared.completion.Completion.{Completion}
 use Rattle.rdm_model.specs.declared.job.Instr.TheVariants.{Insert, Reg, Note, Await, Wait}
@@ -24,11 +24,12 @@ use Rattle.rdm_ep.specs.Sending.{after_reg, after_insert}
 use Rattle.rdm_ep.specs.Going.{polled_by, after_poll}
 use Rattle.rdm_ep.specs.Plain.{IsPlainDeed, IsPlain}
 use Rattle.rdm_ep.specs.Keeps.{Keeps}
-use Rattle.rdm_ep.proofs.Options.{or_else-none, find-push}
+use Rattle.rdm_ep.proofs.Options.{find-push}
 use Rattle.rdm_ep.proofs.Currents.{of_port, shown_by, current_step}
 use Rattle.rdm_ep.proofs.Completed.{own_completions, regions_step}
 use Rattle.rdm_ep.proofs.Groups.{current_of, kept_of, keeps_by}
 use Rattle.rdm_ep.proofs.Still.{ShowsNoLife, SendsNothing, MeetsNothing, GreetsNobody, lives_still, sends_still, receives_still, messages_still, held_still, owed_still, no_pairs, regions_still, none_completed, completions_still}
+use Rattle.rdm_lists.proofs.Options.{or_else-none}
 
 -- no number is from the first one on and below it
 none_below : (first n : ℕ) → ((nat_le first n && nat_lt n (first + 0)) || false) ≡ false

@@ -2,7 +2,7 @@
 use Rattle.std.proofs.Common.{◌≡◌, ℕ, ◌+◌, List, [], ◌∷◌, ◌++◌, map, length, take, Option, Some, None, refl, arith, ap, ◌∙◌, sym, subst, inl}
 use Rattle.std.specs.Prelude.{find, option_map}
 use Rattle.std.proofs.lemmas.List.{append-nil, length-append, map-append}
-use Rattle.rdm_num.specs.Lists.{Member, without_first}
+use Rattle.rdm_lists.specs.Lists.{Member, without_first}
 use Rattle.rdm_num.specs.declared.numbers.PortNo.{PortNo}
 use Rattle.rdm_num.specs.declared.numbers.Life.{Life}
 use Rattle.rdm_num.specs.declared.request.RecvReq.{RecvReq}
@@ -20,7 +20,6 @@ use Rattle.rdm_model.specs.Receives.{Filled, receive_numbered}
 use Rattle.rdm_model.specs.Regions.{put, change_at, after_ends, region_by}
 use Rattle.rdm_model.specs.Completions.{recv_completions, is_poll, named_by, heard_names}
 use Rattle.rdm_model.specs.Local.{heard_by}
-use Rattle.rdm_model.proofs.Members.{member-append_right, find_member, without_member}
 use Rattle.rdm_ep.specs.declared.state.Posted.{Posted}
 use Rattle.rdm_ep.specs.declared.state.Inbound.{Inbound}
 use Rattle.rdm_ep.specs.View.{EndpointView}
@@ -39,6 +38,7 @@ use Rattle.rdm_ep.proofs.Groups.{next_of, Kept, kept_of, keeps_by}
 use Rattle.rdm_ep.proofs.Still.{lives_still, sends_still, owed_still, told_stays, held_stays, heard_more}
 use Rattle.rdm_ep.proofs.KeepsPushed.{completions_more}
 use Rattle.rdm_ep.proofs.Fills.{IsFill, fill_written, fill_completes}
+use Rattle.rdm_lists.proofs.Members.{member-append_right, find_member, without_member}
 
 -- the receive that the instruction makes
 abbrev pub new_receive : List Deed → RecvReq → Receive

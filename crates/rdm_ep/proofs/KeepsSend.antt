@@ -15,7 +15,6 @@ use Rattle.rdm_model.specs.Currents.{current}
 use Rattle.rdm_model.specs.Regions.{region_by}
 use Rattle.rdm_model.specs.Sends.{Sent, sends_to, known_word, wants_raw, opt_for, new_sent, sent_to_current, range_of, sent_by}
 use Rattle.rdm_model.specs.Completions.{recv_completions, is_poll}
-use Rattle.rdm_model.proofs.Members.{same_life-true}
 use Rattle.rdm_ep.specs.declared.state.Outbound.{Outbound}
 use Rattle.rdm_ep.specs.View.{EndpointView, current_in}
 use Rattle.rdm_ep.specs.Peers.{peer_in, with_peer, sent_peer}
@@ -28,6 +27,7 @@ use Rattle.rdm_ep.proofs.Groups.{CompletionsKept, Kept, kept_of, keeps_by}
 use Rattle.rdm_ep.proofs.Still.{lives_still, receives_still, messages_still, held_still, held_still_by, owed_still, no_pairs, regions_still}
 use Rattle.rdm_ep.proofs.KeepsPushed.{completions_more}
 use Rattle.rdm_ep.proofs.PeersOf.{peer_kept, peer_changed}
+use Rattle.rdm_num.proofs.Lives.{same_life-true}
 
 -- a send as the endpoint keeps it, by its numbers, by what is known of its life, and by the regions
 abbrev pub outbound_by : Own → SendReq → Life → (number message : ℕ) → Option ℕ → List (List ℕ) → Outbound

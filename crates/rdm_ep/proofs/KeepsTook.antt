@@ -4,7 +4,7 @@ use Rattle.std.proofs.Math.Bool.{or-true, or-false}
 use Rattle.std.specs.Prelude.{◌&&◌, ◌||◌, ◌==◌, nat_le, nat_lt, slice_get}
 use Rattle.std.proofs.lemmas.Bool.{eq-eqb, ne_eqb, cases_lt, cases_eq, le-leb, lt-leb, lt-ltb, le-ltb}
 use Rattle.std.proofs.lemmas.List.{length-append}
-use Rattle.rdm_num.specs.Lists.{Member}
+use Rattle.rdm_lists.specs.Lists.{Member}
 use Rattle.rdm_num.specs.Lives.{same_life}
 use Rattle.rdm_num.specs.declared.numbers.Life.{Life}
 use Rattle.rdm_num.specs.declared.numbers.MsgNo.{MsgNo}
@@ -22,7 +22,6 @@ use Rattle.rdm_model.specs.Regions.{region_by}
 use Rattle.rdm_model.specs.Sends.{known_by}
 use Rattle.rdm_model.specs.Completions.{is_poll, named_by, heard_names}
 use Rattle.rdm_model.specs.Local.{heads_by, bytes_by, heard_by}
-use Rattle.rdm_model.proofs.Members.{member-append_cases, same_life-true}
 use Rattle.rdm_ep.specs.declared.state.Peer.{Peer}
 use Rattle.rdm_ep.specs.declared.state.Inbound.{Inbound}
 use Rattle.rdm_ep.specs.View.{EndpointView}
@@ -45,6 +44,8 @@ use Rattle.rdm_ep.proofs.KeepsQuiet.{with_current}
 use Rattle.rdm_ep.proofs.Arrivals.{arrivals}
 use Rattle.rdm_ep.proofs.Runs.{eager, heard_with, next_kept, held_kept, held_is_heard, ComesNext, number_after, next_then, arriving_next, arriving_ahead}
 use Rattle.rdm_ep.proofs.KeepsMessage.{told_heard, heard_told, arrivals_of, message_kept}
+use Rattle.rdm_lists.proofs.Members.{member-append_cases}
+use Rattle.rdm_num.proofs.Lives.{same_life-true}
 
 -- of the life itself: what has entered or is held was heard of before, or is the new one
 heard_here : (own : Own) (log : List Deed) (peers : List Peer) (arrived held : List Inbound) (from : Life) (number : MsgNo) (n : ℕ) → own.limits.first ≤ number.0 → ComesNext own log peers arrived held from number

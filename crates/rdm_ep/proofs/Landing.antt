@@ -1,7 +1,7 @@
 -- Messages and receives that meet.
 use Rattle.std.proofs.Common.{◌≡◌, ℕ, ◌+◌, List, [], ◌∷◌, ◌++◌, take, Some, refl}
 use Rattle.std.specs.Prelude.{slice_get}
-use Rattle.rdm_num.specs.Lists.{without_first}
+use Rattle.rdm_lists.specs.Lists.{without_first}
 use Rattle.rdm_num.specs.declared.completion.Completion.{Completion}
 use Rattle.rdm_model.specs.Regions.{change_at, put}
 use Rattle.rdm_ep.specs.declared.state.Posted.{Posted}

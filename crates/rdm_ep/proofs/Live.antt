@@ -2,11 +2,10 @@
 use Rattle.std.proofs.Common.{◌≡◌, ℕ, ◌<◌, Bool, true, false, not, List, [], ◌∷◌, ◌++◌, map, length, Option, Some, None, refl, arith, ap, ◌∙◌, sym, subst}
 use Rattle.std.proofs.Math.Bool.{or-false, or-true}
 use Rattle.std.specs.Prelude.{◌==◌, ◌&&◌, ◌||◌, filter, find, option_map, is_some}
-use Rattle.std.specs.List.{list_any}
 use Rattle.std.proofs.lemmas.Bool.{ne_eqb, eq-eqb, eqb-true}
 use Rattle.std.proofs.lemmas.List.{append-nil, append_assoc, map-append}
 use Rattle.std.proofs.lemmas.List.Elements.{filter-append}
-use Rattle.rdm_num.specs.Lists.{Member, without_first}
+use Rattle.rdm_lists.specs.Lists.{Member, without_first}
 use Rattle.rdm_match.specs.declared.PostedRecv.{PostedRecv}
 use Rattle.rdm_match.specs.declared.Arrived.{Arrived}
 use Rattle.rdm_match.specs.Matcher.{Arrive, Pair, Matching, accepts, is_recv, after_post, after_arrive, after, run}
@@ -17,14 +16,15 @@ use Rattle.rdm_model.specs.Matches.{Receive, receive, receives, received_by, wit
 use Rattle.rdm_model.specs.Receives.{RecvEnd, Filled, Withdrawn, ended_recv, has_ended, live_receives}
 use Rattle.rdm_model.specs.Local.{heads_by}
 use Rattle.rdm_ep.specs.Plain.{IsPlain}
-use Rattle.rdm_model.proofs.Members.{member-filter, find_member, some_of}
-use Rattle.rdm_model.proofs.Lists.{filter_same}
 use Rattle.rdm_ep.proofs.Options.{find-map, is_some-map, without-map, list_any-push, not_or}
-use Rattle.rdm_ep.proofs.Apart.{filter_where, filter_both, list_any_none, ApartBy, apart_filter, apart_without}
+use Rattle.rdm_ep.proofs.Apart.{ApartBy, apart_filter, apart_without}
 use Rattle.rdm_ep.proofs.Accepted.{number_of, receive_numbered_so, receives_apart}
 use Rattle.rdm_ep.proofs.Pairs.{own_matching, arriving, event_of, matching_step, met_by, met_by_post, met_by_arrive, met_by_all}
-use Rattle.rdm_ep.proofs.Fills.{find_where, without_where}
 use Rattle.rdm_ep.proofs.Ends.{own_ends, ends_of, ends_more, EndedBelow, ended_below}
+use Rattle.rdm_lists.proofs.Members.{member-filter, find_member}
+use Rattle.rdm_lists.proofs.Options.{some_of}
+use Rattle.rdm_lists.proofs.Same.{filter_same, filter_where, find_where, without_where}
+use Rattle.rdm_lists.proofs.Filters.{filter_both, list_any_none}
 
 -- the receives that have not ended, by what the deeds themselves tell
 abbrev pub own_live : Own → List Deed → List Receive

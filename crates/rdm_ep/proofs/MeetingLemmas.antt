@@ -3,11 +3,10 @@ use Rattle.std.proofs.Common.{◌≡◌, ℕ, ◌+◌, ◌-◌, ◌<◌, true, f
 use Rattle.std.specs.Prelude.{find, remove, slice_get}
 use Rattle.std.proofs.lemmas.List.{length-append}
 use Rattle.std.proofs.lemmas.List.Edits.{length-remove}
-use Rattle.rdm_num.specs.Lists.{without_first}
+use Rattle.rdm_lists.specs.Lists.{without_first}
 use Rattle.rdm_num.specs.declared.numbers.Life.{Life}
 use Rattle.rdm_num.specs.declared.completion.Completion.{Completion}
 use Rattle.rdm_model.specs.Regions.{change_at, put}
-use Rattle.rdm_model.proofs.Members.{find_member}
 use Rattle.rdm_ep.specs.declared.state.Posted.{Posted}
 use Rattle.rdm_ep.specs.declared.state.Inbound.{Inbound}
 use Rattle.rdm_ep.specs.Counts.{IsInRange, RangesFit}
@@ -25,6 +24,7 @@ use Rattle.rdm_ep.proofs.Welcomed.{welcomed}
 use Rattle.rdm_ep.proofs.Greeted.{entered_met}
 use Rattle.rdm_ep.proofs.SoundLemmas.{ranges_without}
 use Rattle.rdm_ep.proofs.RegionLemmas.{ranges_put, taken_lies}
+use Rattle.rdm_lists.proofs.Members.{find_member}
 
 -- the lists by themselves
 abbrev pub meeting : List (List ℕ) → List Posted → List Inbound → List Completion → Meeting

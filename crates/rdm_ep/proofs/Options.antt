@@ -3,19 +3,7 @@ use Rattle.std.proofs.Common.{◌≡◌, Bool, true, false, cond, List, [], ◌�
 use Rattle.std.specs.Prelude.{not, ◌&&◌, ◌||◌, find, is_some, option_map}
 use Rattle.std.specs.Bool.{then_some}
 use Rattle.std.specs.List.{list_any}
-use Rattle.rdm_num.specs.Lists.{or_else, without_first}
-
--- nothing comes after
-pub or_else-none : {A : Type 0} (x : Option A) → or_else x None ≡ x
-unfolding or_else
-or_else-none None = refl
-or_else-none (Some x) = refl
-
--- the first of three
-pub or_else-assoc : {A : Type 0} (x y z : Option A) → or_else (or_else x y) z ≡ or_else x (or_else y z)
-unfolding or_else
-or_else-assoc None y z = refl
-or_else-assoc (Some x) y z = refl
+use Rattle.rdm_lists.specs.Lists.{or_else, without_first}
 
 -- what is found in a list with one more element
 pub find-push : {A : Type 0} (t : A → Bool) (xs : List A) (x : A) → find t (xs ++ x ∷ []) ≡ or_else (find t xs) (then_some (t x) x)

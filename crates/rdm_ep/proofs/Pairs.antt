@@ -3,7 +3,7 @@ use Rattle.std.proofs.Common.{◌≡◌, ℕ, ◌<◌, ◌≤◌, true, false, L
 use Rattle.std.specs.Prelude.{find}
 use Rattle.std.proofs.lemmas.Bool.{false_from_ne_true, not-true}
 use Rattle.std.proofs.lemmas.List.{append-nil, append_assoc, length-append}
-use Rattle.rdm_num.specs.Lists.{Member}
+use Rattle.rdm_lists.specs.Lists.{Member}
 use Rattle.rdm_num.specs.declared.numbers.Life.{Life}
 use Rattle.rdm_match.specs.declared.PostedRecv.{PostedRecv}
 use Rattle.rdm_match.specs.declared.Arrived.{Arrived}
@@ -15,11 +15,11 @@ use Rattle.rdm_model.specs.Heard.{has_entered, entering}
 use Rattle.rdm_model.specs.Matches.{receive, receives, received_by, with_received, events_by, matching}
 use Rattle.rdm_model.specs.Local.{heads_by}
 use Rattle.rdm_ep.specs.Plain.{IsPlainDeed, IsPlain}
-use Rattle.rdm_model.proofs.Members.{member-append_cases, member-map, find_member, without_member}
 use Rattle.rdm_model.proofs.Matches.{EventIs, AllArrived, run_keeps, is_pair_member, entering_parts}
 use Rattle.rdm_model.proofs.SameMatches.{matching_same}
 use Rattle.rdm_model.proofs.Grows.{heads_grow}
 use Rattle.rdm_ep.proofs.Entered.{entered_still}
+use Rattle.rdm_lists.proofs.Members.{member-append_cases, member-map, find_member, without_member}
 
 -- the matcher's lists by what the deeds themselves tell
 abbrev pub own_matching : Own → List Deed → Matching

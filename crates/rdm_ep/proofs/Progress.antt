@@ -3,20 +3,22 @@ use Rattle.std.proofs.Common.{◌≡◌, ℕ, ◌<◌, ◌≤◌, Bool, true, fa
 use Rattle.std.specs.Prelude.{◌==◌, ◌&&◌, ◌||◌, filter, slice_get}
 use Rattle.std.proofs.lemmas.Bool.{not-true, eq-eqb, ne_eqb, cases_eq}
 use Rattle.std.proofs.lemmas.List.{append-nil, length-append}
-use Rattle.rdm_num.specs.Lists.{Member}
+use Rattle.rdm_lists.specs.Lists.{Member}
 use Rattle.rdm_pkt.specs.declared.Packet.{Packet}
 use Rattle.rdm_model.specs.Deeds.{Deed, Pushed}
 use Rattle.rdm_model.specs.Owns.{Own, Messages}
 use Rattle.rdm_model.specs.Sends.{Sent, sent_by, with_sent, sends}
 use Rattle.rdm_model.specs.Replies.{Reply}
 use Rattle.rdm_model.specs.Turns.{Progress, Turn, next_send, reply_turn, next_turn, after_turn, after_push, after_deed, progress}
-use Rattle.rdm_model.proofs.Members.{member-append_cases, member-filter}
 use Rattle.rdm_model.proofs.Numbers.{sent_by_is, new_number, send_below}
 use Rattle.rdm_ep.specs.Plain.{IsPlain}
 use Rattle.rdm_ep.proofs.Options.{not_or}
-use Rattle.rdm_ep.proofs.Apart.{filter_all, filter_where, filter_both, ApartBy, apart_filter, apart_one}
+use Rattle.rdm_ep.proofs.Apart.{ApartBy, apart_filter, apart_one}
 use Rattle.rdm_ep.proofs.Currents.{never_forgotten}
 use Rattle.rdm_ep.proofs.EagerSends.{send_number, sends_apart, all_eager, opening, has_any, AreOfOne, unsent, ForgetsNone, first_turn, next_send_is}
+use Rattle.rdm_lists.proofs.Members.{member-append_cases, member-filter}
+use Rattle.rdm_lists.proofs.Same.{filter_where}
+use Rattle.rdm_lists.proofs.Filters.{filter_all, filter_both}
 
 -- no send has a packet that was pushed under a number to come
 abbrev pub NoneBeyond : (ℕ → List Packet) → ℕ → Type 0

@@ -15,11 +15,11 @@ use Rattle.rdm_model.proofs.SameRegions.{sent_by_same, sends_same}
 use Rattle.rdm_model.proofs.SameTurns.{after_push_same, progress_same, live_sends_same}
 use Rattle.rdm_model.proofs.Grows.{agree_grows}
 use Rattle.rdm_ep.specs.Plain.{IsPlain}
-use Rattle.rdm_ep.proofs.Apart.{filter_where}
 use Rattle.rdm_ep.proofs.Currents.{never_forgotten}
 use Rattle.rdm_ep.proofs.EagerSends.{has_any, AreOfOne, unsent, ForgetsNone, over_is, first_turn, next_send_is}
 use Rattle.rdm_ep.proofs.Progress.{NoneBeyond, sends_left, push_left, sends_are}
 use Rattle.rdm_ep.proofs.Greetings.{replies_are, none_taken_back}
+use Rattle.rdm_lists.proofs.Same.{filter_where}
 
 -- the sends of a life, what it has left to push, and its live sends
 abbrev pub own_sends : Own → List Deed → List Sent

@@ -5,7 +5,7 @@ use Rattle.std.specs.Prelude.{◌==◌, ◌&&◌, ◌||◌, nat_le, nat_lt, is_s
 use Rattle.std.specs.Bool.{then_some}
 use Rattle.std.proofs.lemmas.Bool.{and_parts, and_from, eqb-true, eq-eqb, ne_eqb, le-leb, lt-ltb, le-ltb, cases_lt, cases_eq}
 use Rattle.std.proofs.lemmas.List.{map-append}
-use Rattle.rdm_num.specs.Lists.{Member, or_else, below}
+use Rattle.rdm_lists.specs.Lists.{Member, or_else, below}
 use Rattle.rdm_num.specs.Lives.{same_life}
 use Rattle.rdm_num.specs.declared.numbers.Life.{Life}
 use Rattle.rdm_num.specs.declared.numbers.MsgNo.{MsgNo}
@@ -18,7 +18,6 @@ use Rattle.rdm_model.specs.Deeds.{Deed, Took, Spelled}
 use Rattle.rdm_model.specs.Owns.{Own, Heads}
 use Rattle.rdm_model.specs.Heard.{head_by, heard_head, is_heard, entering}
 use Rattle.rdm_model.specs.Local.{heads_by}
-use Rattle.rdm_model.proofs.Members.{same_life-true, same_life-refl}
 use Rattle.rdm_ep.specs.declared.state.Peer.{Peer}
 use Rattle.rdm_ep.specs.declared.state.Inbound.{Inbound}
 use Rattle.rdm_ep.specs.Receiving.{arrived_message}
@@ -29,6 +28,7 @@ use Rattle.rdm_ep.proofs.Entering.{IsNext, entering_is}
 use Rattle.rdm_ep.proofs.Held.{InRun, following_run, following_count, following_any, following_ends}
 use Rattle.rdm_ep.proofs.Pairs.{message_by, arriving}
 use Rattle.rdm_ep.proofs.Groups.{next_of, held_of, HeldKept}
+use Rattle.rdm_num.proofs.Lives.{same_life-true, same_life-refl}
 
 -- the deed of a message in one packet
 abbrev pub eager : Life → MsgNo → Option ℕ → Opt → List ℕ → Deed

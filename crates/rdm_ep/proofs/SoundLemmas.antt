@@ -4,13 +4,13 @@ use Rattle.std.specs.Prelude.{IsTrue, remove}
 use Rattle.std.proofs.Math.ListN.{get_or-append, length-append}
 use Rattle.std.proofs.lemmas.List.{map-append}
 use Rattle.std.proofs.lemmas.List.Edits.{length-remove}
-use Rattle.rdm_num.specs.Lists.{Member, without_first}
+use Rattle.rdm_lists.specs.Lists.{Member, without_first}
 use Rattle.rdm_num.specs.declared.completion.Completion.{Completion}
 use Rattle.rdm_pkt.specs.Grammar.{packet_fits}
-use Rattle.rdm_model.proofs.Members.{member-append_cases, without_member}
 use Rattle.rdm_ep.specs.declared.state.Posted.{Posted}
 use Rattle.rdm_ep.specs.declared.state.Outbound.{Outbound}
 use Rattle.rdm_ep.specs.Counts.{CountsFit, RangesFit, IsInRange, PacketsFit}
+use Rattle.rdm_lists.proofs.Members.{member-append_cases, without_member}
 
 -- receives lie in their regions after one more was registered
 pub ranges_more : {A : Type 0} (f : A → List ℕ) (xs ys : List A) (y : A) (posted : List Posted) → ys ≡ xs ++ y ∷ [] → RangesFit (map f xs) posted → RangesFit (map f ys) posted

@@ -4,7 +4,7 @@ use Rattle.std.specs.Prelude.{is_some, ◌&&◌, ◌==◌}
 use Rattle.std.proofs.Math.Bool.{or-true}
 use Rattle.std.proofs.lemmas.Bool.{and_from, eq-eqb}
 use Rattle.std.proofs.lemmas.List.{append-nil}
-use Rattle.rdm_num.specs.Lists.{Member, or_else, below}
+use Rattle.rdm_lists.specs.Lists.{Member, or_else, below}
 use Rattle.rdm_num.specs.Lives.{same_life}
 use Rattle.rdm_num.specs.declared.numbers.Life.{Life}
 use Rattle.rdm_num.specs.declared.head.Head.{Head}
@@ -22,8 +22,6 @@ use Rattle.rdm_model.specs.Sends.{Sent, sends_to, known_by, known_word, sent_by}
 use Rattle.rdm_model.specs.Replies.{Reply, is_from, handshake_by}
 use Rattle.rdm_model.specs.Completions.{is_poll, poll_count, named_by, heard_names, recv_completions}
 use Rattle.rdm_model.specs.Local.{heads_by, bytes_by}
-use Rattle.rdm_model.proofs.Members.{map-member, member_list_any, same_life-refl, some_of}
-use Rattle.rdm_model.proofs.Lists.{each_below_same}
 use Rattle.rdm_model.proofs.Matches.{arrived_heard}
 use Rattle.rdm_ep.specs.declared.state.Peer.{Peer}
 use Rattle.rdm_ep.specs.declared.state.Posted.{Posted}
@@ -35,7 +33,6 @@ use Rattle.rdm_ep.specs.Entering.{is_message}
 use Rattle.rdm_ep.specs.Handling.{inbound_head}
 use Rattle.rdm_ep.specs.Plain.{IsPlainDeed, IsPlain}
 use Rattle.rdm_ep.specs.Keeps.{posted_of, outbound_of}
-use Rattle.rdm_ep.proofs.Options.{or_else-none}
 use Rattle.rdm_ep.proofs.Currents.{shown_by, current_step}
 use Rattle.rdm_ep.proofs.Accounts.{head_stays, bytes_stay}
 use Rattle.rdm_ep.proofs.Pairs.{own_matching, arriving, event_of, matching_step, met_by_all, new_pairs, pairs_step}
@@ -43,8 +40,12 @@ use Rattle.rdm_ep.proofs.Live.{own_live, live_after, live_arrivals, live_step}
 use Rattle.rdm_ep.proofs.Pushes.{own_sends, own_progress, own_live_sends, new_sends, own_sends_step, replies_left, replies_step, live_left, live_sends_step, ended_left}
 use Rattle.rdm_ep.proofs.Completed.{own_completions, own_regions, completions_step, regions_step}
 use Rattle.rdm_ep.proofs.Ends.{ends_of}
-use Rattle.rdm_ep.proofs.Apart.{filter_nothing}
 use Rattle.rdm_ep.proofs.Groups.{next_of, held_of, LivesKept, SendsKept, ReceivesKept, MessagesKept, HeldKept, OwedKept, RegionsKept, CompletionsKept}
+use Rattle.rdm_lists.proofs.Members.{map-member, member_list_any}
+use Rattle.rdm_lists.proofs.Options.{some_of, or_else-none}
+use Rattle.rdm_lists.proofs.Filters.{filter_nothing}
+use Rattle.rdm_lists.proofs.Below.{each_below_same}
+use Rattle.rdm_num.proofs.Lives.{same_life-refl}
 
 -- the deed shows no life
 abbrev pub ShowsNoLife : Deed → Type 0

@@ -2,7 +2,7 @@
 use Rattle.std.proofs.Common.{◌≡◌, ℕ, true, false, cond, List, [], ◌∷◌, length, Option, Some, None, refl, ◌⊎◌, inl, inr, ap, ◌∙◌, sym}
 use Rattle.std.specs.Prelude.{◌==◌, is_some}
 use Rattle.std.proofs.lemmas.Bool.{eqb-true}
-use Rattle.rdm_num.specs.Lists.{or_else}
+use Rattle.rdm_lists.specs.Lists.{or_else}
 use Rattle.rdm_num.specs.Lives.{same_life}
 use Rattle.rdm_num.specs.Pieces.{Piece}
 use Rattle.rdm_num.specs.declared.numbers.Life.{Life}
@@ -18,7 +18,7 @@ use Rattle.rdm_model.specs.Heard.{head_by, heard_head, is_heard}
 use Rattle.rdm_model.specs.Matches.{pairs}
 use Rattle.rdm_model.specs.Parts.{piece_by, carried_by, carried_pieces}
 use Rattle.rdm_ep.specs.Plain.{IsPlainDeed, IsPlain}
-use Rattle.rdm_model.proofs.Members.{same_life-true}
+use Rattle.rdm_num.proofs.Lives.{same_life-true}
 
 -- bytes from the start of a message
 abbrev pub whole : List ℕ → Piece

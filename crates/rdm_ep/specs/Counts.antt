@@ -1,6 +1,6 @@
 -- The counts of an endpoint's operations, the ranges of its receives, and the packets of its sends.
 use Rattle.std.specs.Prelude.{◌≡◌, ◌<◌, ◌≤◌, ℕ, ◌+◌, IsTrue, List, [], length, get_or}
-use Rattle.rdm_num.specs.Lists.{Member}
+use Rattle.rdm_lists.specs.Lists.{Member}
 use Rattle.rdm_pkt.specs.Grammar.{packet_fits}
 use Rattle.rdm_num.specs.declared.completion.Completion.{Completion}
 use Rattle.rdm_ep.specs.declared.state.Posted.{Posted}

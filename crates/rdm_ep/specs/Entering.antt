@@ -1,7 +1,7 @@
 -- Which messages enter by one that came: it, where it is the next one of its life, and those that were held for it.
 use Rattle.std.specs.Prelude.{ℕ, zero, suc, ◌+◌, Bool, ◌&&◌, ◌||◌, ◌==◌, nat_le, nat_lt, if◌then◌else◌, List, [], ◌∷◌, ◌++◌, length, Option, Some, None, find, is_some}
 use Rattle.std.specs.List.{list_any}
-use Rattle.rdm_num.specs.Lists.{without_first}
+use Rattle.rdm_lists.specs.Lists.{without_first}
 use Rattle.rdm_num.specs.Lives.{same_life}
 use Rattle.rdm_num.specs.declared.numbers.Life.{Life}
 use Rattle.rdm_model.specs.declared.answer.Entered.{Entered}

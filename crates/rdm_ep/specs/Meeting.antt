@@ -1,6 +1,6 @@
 -- Where messages and receives meet.
 use Rattle.std.specs.Prelude.{ℕ, List, [], ◌∷◌, ◌++◌, take, Option, Some, None, find}
-use Rattle.rdm_num.specs.Lists.{without_first}
+use Rattle.rdm_lists.specs.Lists.{without_first}
 use Rattle.rdm_num.specs.declared.completion.Completion.{Completion}
 use Rattle.rdm_model.specs.Regions.{change_at, put}
 use Rattle.rdm_ep.specs.declared.state.Posted.{Posted}

@@ -1,6 +1,6 @@
 -- The first place of a list that passes a test.
 use Rattle.std.specs.Prelude.{◌≡◌, ℕ, ◌<◌, Bool, List, length, find, slice_get, remove, Option, Some, None}
-use Rattle.rdm_num.specs.Lists.{without_first}
+use Rattle.rdm_lists.specs.Lists.{without_first}
 
 -- the element at the place is the first one that passes
 pub record IsPlaced {A : Type 0} (p : A → Bool) (xs : List A) (at : ℕ) : Type 0 where

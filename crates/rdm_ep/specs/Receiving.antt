@@ -1,6 +1,6 @@
 -- What the calls that receive make of an endpoint.
 use Rattle.std.specs.Prelude.{◌≡◌, ◌<◌, ◌≤◌, ⊤, ◌+◌, ◌-◌, Bool, true, false, get_or, ◌||◌, nat_le, [], ◌∷◌, ◌++◌, length, take, Option, Some, None, is_none, find}
-use Rattle.rdm_num.specs.Lists.{first_case, without_first}
+use Rattle.rdm_lists.specs.Lists.{first_case, without_first}
 use Rattle.rdm_num.specs.declared.numbers.PortNo.{PortNo}
 use Rattle.rdm_num.specs.declared.numbers.Life.{Life}
 use Rattle.rdm_num.specs.declared.request.RecvReq.{RecvReq}

@@ -153,7 +153,7 @@ impl Endpoint {
     }
 
     /// The life that an accepted receive names, or why the receive is not accepted.
-    #[tactic(auto, unfolding(crate::specs::Receiving::recv_answer, crate::specs::Receiving::names_nobody, crate::specs::Receiving::named_in, crate::specs::Sending::has_no_region, crate::specs::Sending::is_out_of_range, crate::specs::Sending::cq_is_full, crate::specs::View::cq_in, crate::specs::View::current_in, rdm_num::specs::Lists::first_case))]
+    #[tactic(auto, unfolding(crate::specs::Receiving::recv_answer, crate::specs::Receiving::names_nobody, crate::specs::Receiving::named_in, crate::specs::Sending::has_no_region, crate::specs::Sending::is_out_of_range, crate::specs::Sending::cq_is_full, crate::specs::View::cq_in, crate::specs::View::current_in, rdm_lists::specs::Lists::first_case))]
     fn check_recv(&self, r: &RecvReq) -> Result<Option<Life>, RecvAnswer>
         ensures { MatchResult result (λ f. CanReceive self.now r.now f) (λ a. (a ≡ Receiving.recv_answer self.now r.now) × IsNoReceive a) }
     {

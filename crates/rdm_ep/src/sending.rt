@@ -92,7 +92,7 @@ impl Endpoint {
     }
 
     /// The life and the number of a send's message, or why the send is not accepted.
-    #[tactic(auto, unfolding(crate::specs::Sending::send_answer, crate::specs::Sending::has_no_region, crate::specs::Sending::is_out_of_range, crate::specs::Sending::meets_posted, crate::specs::Sending::has_no_number, crate::specs::Sending::number_to, crate::specs::Sending::number_to_current, crate::specs::Sending::cq_is_full, crate::specs::View::cq_in, crate::specs::View::current_in, rdm_num::specs::Lists::first_case))]
+    #[tactic(auto, unfolding(crate::specs::Sending::send_answer, crate::specs::Sending::has_no_region, crate::specs::Sending::is_out_of_range, crate::specs::Sending::meets_posted, crate::specs::Sending::has_no_number, crate::specs::Sending::number_to, crate::specs::Sending::number_to_current, crate::specs::Sending::cq_is_full, crate::specs::View::cq_in, crate::specs::View::current_in, rdm_lists::specs::Lists::first_case))]
     fn check_send(&self, s: &SendReq) -> Result<AcceptedSend, SendAnswer>
         ensures { MatchResult result (λ a. CanSend self.now s.now a) (λ r. (r ≡ Sending.send_answer self.now s.now) × IsNoSend r) }
     {

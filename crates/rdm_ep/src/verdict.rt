@@ -27,7 +27,7 @@ use std::alloc::Global;
 
 impl Endpoint {
     /// Decides on a load from one life to another. A packet is copied out of its bytes here.
-    #[tactic(auto, unfolding(crate::specs::Verdicts::verdict_in, crate::specs::Verdicts::verdict_of, crate::specs::Verdicts::known_verdict, crate::specs::Verdicts::known_class, crate::specs::Handling::item_class_in, crate::specs::View::current_in, rdm_num::specs::Lists::first_case))]
+    #[tactic(auto, unfolding(crate::specs::Verdicts::verdict_in, crate::specs::Verdicts::verdict_of, crate::specs::Verdicts::known_verdict, crate::specs::Verdicts::known_class, crate::specs::Handling::item_class_in, crate::specs::View::current_in, rdm_lists::specs::Lists::first_case))]
     pub(crate) fn verdict(
         &self,
         alloc: Global,
@@ -47,7 +47,7 @@ impl Endpoint {
     }
 
     /// Decides on a load for this life, from a life whose port has no other current one.
-    #[tactic(auto, unfolding(crate::specs::Verdicts::verdict_of, crate::specs::Verdicts::known_verdict, crate::specs::Verdicts::known_class, crate::specs::Handling::load_class, crate::specs::View::current_in, rdm_num::specs::Lists::first_case, rdm_model::specs::Deeds::item_of, rdm_model::specs::Deeds::packet_item, rdm_model::specs::Sources::is_malformed, rdm_model::specs::Sources::has_raw))]
+    #[tactic(auto, unfolding(crate::specs::Verdicts::verdict_of, crate::specs::Verdicts::known_verdict, crate::specs::Verdicts::known_class, crate::specs::Handling::load_class, crate::specs::View::current_in, rdm_lists::specs::Lists::first_case, rdm_model::specs::Deeds::item_of, rdm_model::specs::Deeds::packet_item, rdm_model::specs::Sources::is_malformed, rdm_model::specs::Sources::has_raw))]
     fn known_verdict(&self, alloc: Global, from: Life, load: &Load) -> Result<Verdict, NoMemory>
         ensures { IfOk result (λ r. r ≡ known_verdict self.now from (item_of load.now)) }
     {
@@ -64,7 +64,7 @@ impl Endpoint {
     }
 
     /// Decides on a packet.
-    #[tactic(auto, unfolding(crate::specs::Verdicts::verdict_of, crate::specs::Verdicts::accepted_of, crate::specs::Verdicts::known_verdict, crate::specs::Verdicts::known_class, crate::specs::Handling::load_class, crate::specs::View::current_in, rdm_num::specs::Lists::first_case, rdm_model::specs::Sources::is_malformed))]
+    #[tactic(auto, unfolding(crate::specs::Verdicts::verdict_of, crate::specs::Verdicts::accepted_of, crate::specs::Verdicts::known_verdict, crate::specs::Verdicts::known_class, crate::specs::Handling::load_class, crate::specs::View::current_in, rdm_lists::specs::Lists::first_case, rdm_model::specs::Sources::is_malformed))]
     fn packet_verdict(&self, from: Life, packet: Packet) -> Result<Verdict, NoMemory>
         ensures { IfOk result (λ r. r ≡ known_verdict self.now from (Spelled packet)) }
     {
@@ -88,7 +88,7 @@ impl Endpoint {
     }
 
     /// Decides on a packet that opens a message.
-    #[tactic(auto, unfolding(crate::specs::Verdicts::verdict_of, crate::specs::Verdicts::accepted_of, crate::specs::Handling::rtm_class, crate::specs::Handling::is_eager, rdm_num::specs::Lists::first_case))]
+    #[tactic(auto, unfolding(crate::specs::Verdicts::verdict_of, crate::specs::Verdicts::accepted_of, crate::specs::Handling::rtm_class, crate::specs::Handling::is_eager, rdm_lists::specs::Lists::first_case))]
     fn opening_verdict(
         &self,
         from: Life,

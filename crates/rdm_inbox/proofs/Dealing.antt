@@ -1,5 +1,5 @@
 -- One more port gets its passes, from the last on.
-use Rattle.std.proofs.Common.{◌≡◌, ℕ, zero, suc, ◌+◌, ◌-◌, ◌<◌, ◌≤◌, List, [], ◌∷◌, ◌++◌, length, map, set, take, cond, sym, refl, ap, ◌∙◌, subst, arith, length-set, Some}
+use Rattle.std.proofs.Common.{◌≡◌, ℕ, ◌+◌, ◌-◌, ◌<◌, ◌≤◌, List, [], ◌∷◌, ◌++◌, length, map, set, take, cond, sym, refl, ap, ◌∙◌, subst, arith, length-set, Some}
 use Rattle.std.specs.Prelude.{slice_get}
 use Rattle.std.proofs.lemmas.Bool.{lt-leb}
 use mathlib.Core.Logic.{dite}
@@ -78,13 +78,3 @@ module _ (tables : List InboxState) (all : List PassesState) (g : AreGathered ta
         })));
     count = length-set parted_now p w ∙ (same ∙ d.count);
   }
-
--- the last of a list, and those before it
-pub last_there : {A : Type 0} (xs : List A) (x : A) → slice_get (xs ++ x ∷ []) (length xs) ≡ Some x
-last_there [] x = refl
-last_there (y ∷ xs) x = last_there xs x
-
-pub before_there : {A : Type 0} (xs : List A) (x : A) (i : ℕ) (y : A) → slice_get xs i ≡ Some y → slice_get (xs ++ x ∷ []) i ≡ Some y
-before_there [] x i y e = absurd (cc)
-before_there (z ∷ xs) x zero y e = e
-before_there (z ∷ xs) x (suc i) y e = before_there xs x i y e

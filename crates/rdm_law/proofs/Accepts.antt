@@ -2,7 +2,7 @@
 use Rattle.std.proofs.Common.{◌≡◌, ℕ, ◌<◌, ◌≤◌, true, List, [], ◌∷◌, ◌++◌, length, Option, Some, None, refl, arith, inl, inr, ◌∙◌, ap, subst}
 use Rattle.std.specs.Prelude.{find}
 use Rattle.std.proofs.lemmas.List.{length-append}
-use Rattle.rdm_num.specs.Lists.{Member}
+use Rattle.rdm_lists.specs.Lists.{Member}
 use Rattle.rdm_match.specs.declared.PostedRecv.{PostedRecv}
 use Rattle.rdm_match.specs.declared.Arrived.{Arrived}
 use Rattle.rdm_match.specs.Matcher.{Event, Post, Arrive, Cancel, Forget, Pair, Matching, accepts, after_post, after_arrive, after, run, is_recv}
@@ -10,7 +10,7 @@ use Rattle.rdm_model.specs.declared.job.Instr.TheVariants.{Insert, Recv, Cancel 
 use Rattle.rdm_model.specs.Deeds.{Deed, Did, Took}
 use Rattle.rdm_model.specs.Owns.{Heads}
 use Rattle.rdm_model.specs.Matches.{receives, received_by, with_received, arrival, events_by, matching, pairs}
-use Rattle.rdm_model.proofs.Members.{member-append_cases, member-filter, member-map, find_member, without_member}
+use Rattle.rdm_lists.proofs.Members.{member-append_cases, member-filter, member-map, find_member, without_member}
 
 -- each pair's receive accepts its message
 abbrev AllAccept : List Pair → Type 0

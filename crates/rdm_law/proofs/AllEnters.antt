@@ -5,7 +5,7 @@ use Rattle.std.specs.Bool.{then_some}
 use Rattle.std.specs.List.{list_any}
 use Rattle.std.proofs.lemmas.Bool.{and_from, or_cases, eq-eqb, le-leb}
 use Rattle.std.proofs.lemmas.Option.{slice_get_within}
-use Rattle.rdm_num.specs.Lists.{Member, or_else, each_below}
+use Rattle.rdm_lists.specs.Lists.{Member, or_else, each_below}
 use Rattle.rdm_num.specs.Lives.{same_life}
 use Rattle.rdm_num.specs.declared.numbers.Life.{Life}
 use Rattle.rdm_num.specs.declared.numbers.MsgNo.{MsgNo}
@@ -30,15 +30,12 @@ use Rattle.rdm_model.specs.Sources.{is_other}
 use Rattle.rdm_model.specs.Settled.{waiting_datagrams}
 use Rattle.rdm_model.specs.Lawful.{life_deeds}
 use Rattle.rdm_model.specs.Standing.{goes, NoneWaits, AllEnter}
-use Rattle.rdm_model.proofs.Members.{slice_get-member, member_list_any, member-filter, same_life-refl, same_life-true}
 use Rattle.rdm_model.proofs.Matches.{pair_heard}
-use Rattle.rdm_model.proofs.Rows.{each_below_from}
 use Rattle.rdm_model.proofs.Opens.{opening_is, some_opening}
 use Rattle.rdm_model.proofs.Numbers.{NewSent, sends_step, new_placed, placed, sends_one, sends_to_append}
 use Rattle.rdm_model.proofs.Turns.{Underway}
 use Rattle.rdm_model.proofs.Pushes.{pushed_of, underway}
 use Rattle.rdm_law.proofs.Lives.{TurnedAt}
-use Rattle.rdm_law.proofs.Received.{slice_get_split}
 use Rattle.rdm_law.proofs.Wired.{own_life}
 use Rattle.rdm_law.proofs.Known.{account, sends_of}
 use Rattle.rdm_law.proofs.SendsAre.{sends_are}
@@ -49,6 +46,10 @@ use Rattle.rdm_law.proofs.Still.{settled_still, at_rest}
 use Rattle.rdm_law.proofs.TurnsPushed.{packet_push, pushed_turned}
 use Rattle.rdm_law.proofs.WholePushed.{none_left, get_none}
 use Rattle.rdm_law.proofs.Meets.{Meet, delivered}
+use Rattle.rdm_lists.proofs.Members.{member-filter, member_list_any}
+use Rattle.rdm_lists.proofs.Places.{slice_get-member, slice_get_split}
+use Rattle.rdm_num.proofs.Lives.{same_life-true, same_life-refl}
+use Rattle.rdm_lists.proofs.Below.{each_below_from}
 
 -- a first value stays
 still_some : (x y : Option Head) → is_some x ≡ true → is_some (or_else x y) ≡ true

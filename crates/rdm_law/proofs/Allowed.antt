@@ -4,7 +4,7 @@ use Rattle.std.specs.Prelude.{◌==◌, sum_by}
 use Rattle.std.proofs.lemmas.Bool.{and_parts, or_parts, ltb-false, eqb-true}
 use Rattle.std.proofs.lemmas.List.{append-nil}
 use Rattle.std.proofs.lemmas.List.Sums.{sum_by-append}
-use Rattle.rdm_num.specs.Lists.{Member}
+use Rattle.rdm_lists.specs.Lists.{Member}
 use Rattle.rdm_num.specs.Lives.{same_life}
 use Rattle.rdm_num.specs.Pieces.{piece_bytes}
 use Rattle.rdm_num.specs.declared.numbers.Life.{Life}
@@ -21,7 +21,6 @@ use Rattle.rdm_model.specs.Classes.{allowed_bytes, is_wrong_grant, is_mismatch}
 use Rattle.rdm_model.specs.Scenes.{Scene}
 use Rattle.rdm_model.specs.Turns.{pieces_in, live_sends}
 use Rattle.rdm_model.specs.Local.{heard_by}
-use Rattle.rdm_model.proofs.Members.{find_member, same_life-true}
 use Rattle.rdm_model.proofs.SameRegions.{sends_same}
 use Rattle.rdm_model.proofs.Grows.{agree_grows}
 use Rattle.rdm_model.proofs.Cuts.{row_within}
@@ -32,6 +31,8 @@ use Rattle.rdm_law.proofs.Lives.{life_scene, LifeStep, LifeLocal}
 use Rattle.rdm_law.proofs.Classed.{IsTaken, taken_parts}
 use Rattle.rdm_law.proofs.LiveSends.{live_parts}
 use Rattle.rdm_law.proofs.Turned.{own_sends}
+use Rattle.rdm_lists.proofs.Members.{find_member}
+use Rattle.rdm_num.proofs.Lives.{same_life-true}
 
 -- how many bytes the openings of a send have together
 abbrev pub opened : Own → Sent → ℕ

@@ -2,15 +2,16 @@
 use Rattle.std.proofs.Common.{◌≡◌, ℕ, zero, suc, ◌+◌, ◌<◌, ◌≤◌, Bool, true, false, cond, List, [], ◌∷◌, ◌++◌, length, Option, Some, None, refl, arith, ◌⊎◌, inl, inr, sym, ◌∙◌, ap, subst}
 use Rattle.std.specs.Prelude.{filter, slice_get}
 use Rattle.std.proofs.lemmas.List.{length-append}
-use Rattle.rdm_num.specs.Lists.{Member}
+use Rattle.rdm_lists.specs.Lists.{Member}
 use Rattle.rdm_model.specs.Deeds.{Deed, Did, PushedNote, Pushed, TookNote, Took, Polled, Nothing}
 use Rattle.rdm_model.specs.Owns.{Own, Messages}
 use Rattle.rdm_model.specs.Currents.{forgotten_by}
 use Rattle.rdm_model.specs.Sends.{sends}
 use Rattle.rdm_model.specs.Replies.{Reply, replies_by}
 use Rattle.rdm_model.specs.Turns.{Turn, Replies, progress, next_turn, next_send, reply_turn, turn}
-use Rattle.rdm_model.proofs.Members.{member-append_cases, member-filter, member-map, slice_get-append, slice_get-member}
 use Rattle.rdm_law.proofs.Queue.{owed, Placed, placed, popped, without, queue, replies_in, queue_replies, next_send_none}
+use Rattle.rdm_lists.proofs.Members.{member-append_cases, member-filter, member-map}
+use Rattle.rdm_lists.proofs.Places.{slice_get-append, slice_get-member}
 
 -- places rise from one number on, below another
 abbrev pub Rising : ℕ → List Placed → ℕ → Type 0

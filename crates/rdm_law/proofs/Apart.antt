@@ -2,10 +2,10 @@
 use Rattle.std.proofs.Common.{◌≡◌, ℕ, zero, suc, true, false, cond, eqb-true, List, [], ◌∷◌, ◌++◌, remove, slice_get, Some, refl, ◌⊎◌, inl, inr, sym, ap, subst}
 use Rattle.std.proofs.lemmas.Bool.{eqb-false}
 use Rattle.std.specs.Prelude.{◌==◌}
-use Rattle.rdm_num.specs.Lists.{Member}
+use Rattle.rdm_lists.specs.Lists.{Member}
 use Rattle.rdm_wire.specs.declared.Datagram.{Datagram}
 use Rattle.rdm_model.specs.Worlds.{put_at}
-use Rattle.rdm_model.proofs.Members.{member-append_left, member-append_right, member-append_cases}
+use Rattle.rdm_lists.proofs.Members.{member-append_left, member-append_right, member-append_cases}
 
 -- what holds of a changed function at a number: where the number is the changed one, and where it is another
 pub put_at_case : {A : Type 0} (P : A → Type 0) (port : ℕ) (x : A) (f : ℕ → A) (p : ℕ) → (p ≡ port → P x) → ((p ≡ port → ⊥) → P (f p)) → P (put_at port x f p)

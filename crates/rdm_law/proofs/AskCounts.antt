@@ -1,9 +1,9 @@
 -- A life takes no more asks than its messages have bytes.
-use Rattle.std.proofs.Common.{◌≡◌, ℕ, zero, suc, ◌+◌, ◌<◌, ◌≤◌, Bool, cond, List, [], ◌∷◌, length, map, refl, arith, ◌⊎◌, inl, inr, sym, ◌∙◌, ap}
-use Rattle.std.proofs.lemmas.Bool.{cases_lt, and_from, eq-eqb}
+use Rattle.std.proofs.Common.{◌≡◌, ℕ, ◌+◌, ◌<◌, ◌≤◌, Bool, cond, List, [], ◌∷◌, length, map, refl, arith, ◌⊎◌, inl, inr, sym, ◌∙◌, ap}
+use Rattle.std.proofs.lemmas.Bool.{and_from, eq-eqb}
 use Rattle.std.proofs.lemmas.List.{length-append, length-map}
 use Rattle.std.specs.Prelude.{◌==◌}
-use Rattle.rdm_num.specs.Lists.{Member, below}
+use Rattle.rdm_lists.specs.Lists.{Member, below}
 use Rattle.rdm_num.specs.Lives.{same_life}
 use Rattle.rdm_num.specs.declared.numbers.Life.{Life}
 use Rattle.rdm_wire.specs.declared.ReadAsk.{ReadAsk}
@@ -15,7 +15,6 @@ use Rattle.rdm_model.specs.Reads.{asked_by, asks_of}
 use Rattle.rdm_model.specs.Sends.{Sent, sent_by, with_sent, sends}
 use Rattle.rdm_model.specs.Local.{heard_by}
 use Rattle.rdm_model.specs.Lawful.{life_deeds}
-use Rattle.rdm_model.proofs.Members.{member-append_left, member-append_right, member-map, same_life-refl}
 use Rattle.rdm_model.proofs.SameRegions.{Agree, agree_before}
 use Rattle.rdm_model.proofs.Grows.{agree_grows}
 use Rattle.rdm_law.proofs.Lives.{LifeLocal}
@@ -25,23 +24,16 @@ use Rattle.rdm_law.proofs.Chains.{ask_known}
 use Rattle.rdm_law.proofs.ClassAsks.{asks_took}
 use Rattle.rdm_law.proofs.ClassEnds.{asks_all_apart, ask_in}
 use Rattle.rdm_law.proofs.ReplyTurns.{asks_apart}
-use Rattle.rdm_law.proofs.Whole.{length-below}
 use Rattle.rdm_law.proofs.Cover.{AllApart}
 use Rattle.rdm_law.proofs.Pigeons.{AreDistinct, distinct_fit}
-use Rattle.rdm_law.proofs.Totals.{total, total-append, total_le, is_ask}
+use Rattle.rdm_law.proofs.Totals.{is_ask}
 use Rattle.rdm_law.proofs.PushCounts.{total_more}
 use Rattle.rdm_law.proofs.OwedBack.{given_owed, agree_trans}
 use Rattle.rdm_law.proofs.ReadLands.{agree_refl}
-
--- a number below n is one of them
-below_member : (n k : ℕ) → k < n → Member k (below n)
-unfolding below
-below_member zero k h = absurd (omega arith)
-below_member (suc n) k h =
-    elim (cases_lt k n) [
-      | inl less ↦ member-append_left k (below n) (n ∷ []) (below_member n k less)
-      | inr more ↦ (let e : n ≡ k = omega arith in member-append_right k (below n) (n ∷ []) (inl e))
-    ]
+use Rattle.rdm_lists.proofs.Members.{member-map}
+use Rattle.rdm_lists.proofs.Below.{length-below, below_member}
+use Rattle.rdm_lists.proofs.Sums.{total, total-append, total_le}
+use Rattle.rdm_num.proofs.Lives.{same_life-refl}
 
 -- asks that are apart and have a byte begin at places of their own
 starts_distinct : (asks : List ReadAsk) → AllApart asks → ((a : ReadAsk) → Member a asks → 0 < a.length) → AreDistinct (map (λ (a : ReadAsk). a.at) asks)

@@ -2,7 +2,7 @@
 use Rattle.std.proofs.Common.{◌≡◌, ℕ, zero, suc, ◌+◌, ◌-◌, ◌<◌, ◌≤◌, true, false, cond, List, [], ◌∷◌, refl, arith, inl, inr, subst}
 use Rattle.std.specs.Prelude.{◌==◌, min, max}
 use Rattle.std.proofs.lemmas.Bool.{and_from, eqb-true, eqb-false, eq-eqb, cases_lt, or_left, or_right, le-leb}
-use Rattle.rdm_num.specs.Lists.{Member}
+use Rattle.rdm_lists.specs.Lists.{Member}
 use Rattle.rdm_num.specs.declared.numbers.OpId.{OpId}
 use Rattle.rdm_num.specs.declared.lists.IovEntry.{IovEntry}
 use Rattle.rdm_num.specs.declared.head.Shape.{Shape}
@@ -11,8 +11,8 @@ use Rattle.rdm_wire.specs.declared.ReadAsk.{ReadAsk}
 use Rattle.rdm_model.specs.Reads.{ask_room, asks_in, asks_from}
 use Rattle.rdm_model.specs.Replies.{asks_for}
 use Rattle.rdm_model.specs.Named.{is_in_entry, is_in_iov}
-use Rattle.rdm_model.proofs.Members.{member-append_cases, member-append_left, member-append_right}
 use Rattle.rdm_law.proofs.Unique.{Unique, unique_none, unique_cons, unique_append}
+use Rattle.rdm_lists.proofs.Members.{member-append_left, member-append_right, member-append_cases}
 
 -- two ranges have a place in common
 abbrev pub Shares : (at len at' len' : ℕ) → Type 0

@@ -16,7 +16,7 @@ use Rattle.rdm_law.proofs.ClassData.{fair_room}
 use Rattle.rdm_law.proofs.Wired.{Played, own_life}
 use Rattle.rdm_law.proofs.Known.{account, sends_of}
 use Rattle.rdm_law.proofs.Named.{pairs_of}
-use Rattle.rdm_law.proofs.Totals.{total, is_push', total_le, total_same, total_plus, total_ones}
+use Rattle.rdm_law.proofs.Totals.{is_push'}
 use Rattle.rdm_law.proofs.EntryCounts.{entry_weight, ops_weight, handled_le}
 use Rattle.rdm_law.proofs.LifeCounts.{deed_weight, deed_le, deed_at, lives_of, lives_distinct, lives_count, lives_weight}
 use Rattle.rdm_law.proofs.Covers.{covered_weight, are_covered, push_life}
@@ -32,6 +32,7 @@ use Rattle.rdm_law.proofs.OwedCounts.{owed_counted}
 use Rattle.rdm_law.proofs.AskCounts.{asks_counted}
 use Rattle.rdm_law.proofs.SendSums.{sent_bytes, sends_few, sends_bytes}
 use Rattle.rdm_law.proofs.Exchange.{send_load, pair_load, pairs_exchanged}
+use Rattle.rdm_lists.proofs.Sums.{total, total_le, total_same, total_plus, total_ones}
 
 -- both ways to count deeds agree
 count_total : (f : Deed → ℕ) (log : List Deed) → deed_count f log ≡ total f log

@@ -2,7 +2,7 @@
 use Rattle.std.proofs.Common.{◌≡◌, ℕ, true, false, cond, ◌&&◌, List, [], ◌∷◌, Option, Some, None, refl, ◌⊎◌, inl, inr, ◌∙◌, ap, subst}
 use Rattle.std.specs.Prelude.{◌==◌, is_some, option_to_list}
 use Rattle.std.proofs.lemmas.Bool.{eqb-true, eq-eqb, and_from}
-use Rattle.rdm_num.specs.Lists.{Member}
+use Rattle.rdm_lists.specs.Lists.{Member}
 use Rattle.rdm_num.specs.Lives.{same_life}
 use Rattle.rdm_num.specs.Pieces.{Piece}
 use Rattle.rdm_num.specs.declared.numbers.Connid.{Connid}
@@ -20,8 +20,10 @@ use Rattle.rdm_model.specs.Owns.{Heads}
 use Rattle.rdm_model.specs.Heard.{heard_head, head_by}
 use Rattle.rdm_model.specs.Matches.{pairs}
 use Rattle.rdm_model.specs.Parts.{piece_by, carried_by, carried_pieces}
-use Rattle.rdm_model.proofs.Members.{member-append_cases, is_some_from, same_life-true, same_life-refl, then_some_parts, some-or_else_left, some-or_else_right}
 use Rattle.rdm_model.proofs.Matches.{is_pair_still, is_pair_member, pair_heard}
+use Rattle.rdm_lists.proofs.Members.{member-append_cases, option_member}
+use Rattle.rdm_lists.proofs.Options.{is_some_from, then_some_parts, some-or_else_left, some-or_else_right}
+use Rattle.rdm_num.proofs.Lives.{same_life-true, same_life-refl}
 
 -- a packet that opens the message brought the piece
 pub record FromRtm (n : ℕ) (item : Item) (x : Piece) : Type 0 where
@@ -103,12 +105,6 @@ brought_still first heads d before source n item x (inr (inl b)) =
     inr (inl (record { recv = b.recv; connid = b.connid; is = b.is; paired = is_pair_still first heads d before b.recv.0 source n b.paired }))
 brought_still first heads d before source n item x (inr (inr b)) =
     inr (inr (record { data' = b.data'; is = b.is; at_is = b.at_is; bytes_are = b.bytes_are; paired = is_pair_still first heads d before b.data'.recv_id.0 source n b.paired }))
-
--- the element of an option is its value
-option_member : {A : Type 0} (o : Option A) (x : A) → Member x (option_to_list o) → o ≡ Some x
-option_member None x h = elim h [ ]
-option_member (Some y) x (inl is) = ap Some is
-option_member (Some y) x (inr never) = elim never [ ]
 
 -- each piece of a message was brought by a datagram that was taken
 pub carried_from : (first : ℕ) (heads : Heads) (log : List Deed) (source : Life) (n : ℕ) (x : Piece) → Member x (carried_pieces first heads log source n)

@@ -2,7 +2,7 @@
 use Rattle.std.proofs.Common.{◌≡◌, ℕ, Bool, true, false, not, List, [], ◌∷◌, Option, Some, None, refl, inl, inr, sym, ◌∙◌, ap, subst}
 use Rattle.std.specs.Prelude.{option_to_list}
 use Rattle.std.proofs.lemmas.Bool.{eq-eqb}
-use Rattle.rdm_num.specs.Lists.{Member}
+use Rattle.rdm_lists.specs.Lists.{Member}
 use Rattle.rdm_num.specs.Pieces.{Piece}
 use Rattle.rdm_num.specs.declared.numbers.Life.{Life}
 use Rattle.rdm_num.specs.declared.numbers.MsgNo.{MsgNo}
@@ -22,13 +22,14 @@ use Rattle.rdm_model.specs.Parts.{piece_by, carried_by, carried_pieces}
 use Rattle.rdm_model.specs.Named.{live_pair, has_shape, is_long_shape, is_read_shape, is_no_op}
 use Rattle.rdm_model.specs.Scenes.{Scene}
 use Rattle.rdm_model.specs.Local.{heard_by}
-use Rattle.rdm_model.proofs.Members.{member-append_left, member-append_right, same_life-refl}
 use Rattle.rdm_model.proofs.Matches.{pair_still, pair_passes, heard_still}
 use Rattle.rdm_model.proofs.SameMatches.{HeadsAgree, matching_same}
 use Rattle.rdm_model.proofs.Grows.{agree_grows}
 use Rattle.rdm_law.proofs.Lives.{life_scene, LifeStep, LifeLocal}
 use Rattle.rdm_law.proofs.Classed.{IsTaken, taken_parts}
 use Rattle.rdm_law.proofs.Landed.{live_pair_parts}
+use Rattle.rdm_lists.proofs.Members.{member-append_left, member-append_right}
+use Rattle.rdm_num.proofs.Lives.{same_life-refl}
 
 -- the pair of a receive for a message of that life
 pub record PairOf (first : ℕ) (heads : Heads) (log : List Deed) (from : Life) (recv : ℕ) : Type 0 where

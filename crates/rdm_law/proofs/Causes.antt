@@ -1,6 +1,6 @@
 -- What a reply of each kind says of the life that owes it.
 use Rattle.std.proofs.Common.{◌≡◌, ℕ, ◌<◌, true, List, [], ◌∷◌, take, drop, Some, inl, inr, ◌∙◌, ap, subst}
-use Rattle.rdm_num.specs.Lists.{Member}
+use Rattle.rdm_lists.specs.Lists.{Member}
 use Rattle.rdm_num.specs.declared.numbers.Life.{Life}
 use Rattle.rdm_num.specs.declared.numbers.Connid.{Connid}
 use Rattle.rdm_num.specs.declared.numbers.OpId.{OpId}
@@ -15,10 +15,10 @@ use Rattle.rdm_model.specs.Matches.{pairs}
 use Rattle.rdm_model.specs.Receives.{is_filled}
 use Rattle.rdm_model.specs.Sends.{Sent, sends, with_sent}
 use Rattle.rdm_model.specs.Replies.{Reply, asks_for, end_for}
-use Rattle.rdm_model.proofs.Members.{member-append_left}
 use Rattle.rdm_model.proofs.Matches.{pair_still}
 use Rattle.rdm_model.proofs.SameReceives.{filled_still}
 use Rattle.rdm_law.proofs.Owed.{shape_in, recv_in, OwedIn}
+use Rattle.rdm_lists.proofs.Members.{member-append_left}
 
 -- an ask is of a pair
 pub record OfAsk (first : ℕ) (heads : Heads) (log : List Deed) (to : Life) (ask : ReadAsk) : Type 0 where

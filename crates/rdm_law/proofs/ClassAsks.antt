@@ -3,7 +3,7 @@ use Rattle.std.proofs.Common.{◌≡◌, ℕ, max, Bool, true, false, cond, List
 use Rattle.std.specs.Prelude.{◌&&◌, ◌==◌, nat_eq}
 use Rattle.std.specs.List.{list_any}
 use Rattle.std.proofs.lemmas.Bool.{and_parts, eqb-true, false_from_ne_true}
-use Rattle.rdm_num.specs.Lists.{Member}
+use Rattle.rdm_lists.specs.Lists.{Member}
 use Rattle.rdm_num.specs.Lives.{same_life}
 use Rattle.rdm_num.specs.Pieces.{overlaps}
 use Rattle.rdm_num.specs.declared.numbers.Life.{Life}
@@ -21,7 +21,6 @@ use Rattle.rdm_model.specs.Reads.{asks_of, asked_by}
 use Rattle.rdm_model.specs.Sends.{Sent}
 use Rattle.rdm_model.specs.Replies.{asks_for}
 use Rattle.rdm_model.specs.Lawful.{life_deeds}
-use Rattle.rdm_model.proofs.Members.{member-append_cases, list_any_member, same_life-true}
 use Rattle.rdm_model.proofs.Rows.{overlap_parts}
 use Rattle.rdm_law.proofs.Distinct.{matching_distinct}
 use Rattle.rdm_law.proofs.Asks.{AsksShare}
@@ -35,6 +34,8 @@ use Rattle.rdm_law.proofs.Named.{pairs_of, pair_known, went_ask, ask_of, head_sh
 use Rattle.rdm_law.proofs.Chains.{AskKnown, ask_known_at, ask_known}
 use Rattle.rdm_law.proofs.Fresh.{taken_before}
 use Rattle.rdm_law.proofs.Arrives.{Arrives}
+use Rattle.rdm_lists.proofs.Members.{member-append_cases, list_any_member}
+use Rattle.rdm_num.proofs.Lives.{same_life-true}
 
 -- a message is in one pair at most
 pub message_one : (job : Job) (history : List Entry) (life' : Life) (p q : Pair) → Member p (pairs_of job history life') → Member q (pairs_of job history life')

@@ -3,7 +3,7 @@ use Rattle.std.proofs.Common.{◌≡◌, ℕ, ◌<◌, Bool, true, false, List, 
 use Rattle.std.specs.Prelude.{is_some}
 use Rattle.std.proofs.lemmas.Bool.{and_parts, and_right, leb-true, not_from_true, false_from_ne_true}
 use Rattle.std.proofs.lemmas.List.{length-take, length-drop}
-use Rattle.rdm_num.specs.Lists.{Member}
+use Rattle.rdm_lists.specs.Lists.{Member}
 use Rattle.rdm_num.specs.Pieces.{Piece, byte_at, covers}
 use Rattle.rdm_num.specs.declared.numbers.Life.{Life}
 use Rattle.rdm_num.specs.declared.numbers.OpId.{OpId}
@@ -31,7 +31,6 @@ use Rattle.rdm_model.specs.Named.{live_pair, is_long_shape, is_read_shape, has_s
 use Rattle.rdm_model.specs.Turns.{is_read}
 use Rattle.rdm_model.specs.Currents.{is_forgotten}
 use Rattle.rdm_model.specs.Lawful.{life_deeds}
-use Rattle.rdm_model.proofs.Members.{some_of, each_below_at}
 use Rattle.rdm_model.proofs.Matches.{pair_passes}
 use Rattle.rdm_law.proofs.Wired.{own_life}
 use Rattle.rdm_law.proofs.Known.{account, known_one}
@@ -45,6 +44,8 @@ use Rattle.rdm_law.proofs.Fresh.{in_range, taken_before, piece_once, piece_withi
 use Rattle.rdm_law.proofs.ClassOverlap.{HeadKnown, data_brings, given_brings}
 use Rattle.rdm_law.proofs.ClassKeys.{not_forgotten_here, sent_size}
 use Rattle.rdm_law.proofs.Allowed.{allowed_within}
+use Rattle.rdm_lists.proofs.Options.{some_of}
+use Rattle.rdm_lists.proofs.Below.{each_below_at}
 
 -- a message of which bytes arrive has not come whole
 pub not_landed : (job : Job) (history : List Entry) (to from : Life) (n : ℕ) (x : Piece) (item : Item) (d : Datagram) → (a : Arrives job history to from item d)

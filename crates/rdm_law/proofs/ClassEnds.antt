@@ -4,7 +4,7 @@ use Rattle.std.specs.Prelude.{not, ◌&&◌, ◌==◌, nat_lt, nat_le, if◌then
 use Rattle.std.specs.List.{list_any}
 use Rattle.std.proofs.lemmas.Bool.{and_parts, eqb-true, eq-eqb, false_from_ne_true}
 use Rattle.std.proofs.lemmas.List.{append-nil}
-use Rattle.rdm_num.specs.Lists.{Member}
+use Rattle.rdm_lists.specs.Lists.{Member}
 use Rattle.rdm_num.specs.Lives.{same_life, op_id}
 use Rattle.rdm_num.specs.Pieces.{Piece}
 use Rattle.rdm_num.specs.declared.numbers.Life.{Life}
@@ -32,7 +32,6 @@ use Rattle.rdm_model.specs.Turns.{progress, is_read, ends_send}
 use Rattle.rdm_model.specs.Named.{live_send, read_from, is_read_send, is_no_op}
 use Rattle.rdm_model.specs.Classes.{is_number, is_early_end, is_mismatch}
 use Rattle.rdm_model.specs.Lawful.{life_deeds}
-use Rattle.rdm_model.proofs.Members.{list_any_member, same_life-true, slice_get-member}
 use Rattle.rdm_model.proofs.Numbers.{made, sent_is_of}
 use Rattle.rdm_law.proofs.Queue.{owed}
 use Rattle.rdm_law.proofs.Answered.{waits_owed}
@@ -53,6 +52,9 @@ use Rattle.rdm_law.proofs.Fresh.{taken_before}
 use Rattle.rdm_law.proofs.Arrives.{Arrives, arriving_scene}
 use Rattle.rdm_law.proofs.ClassAsks.{message_one, asks_took, asked_by_took}
 use Rattle.rdm_law.proofs.ClassKeys.{sent_size, sent_one, not_forgotten_here, read_over}
+use Rattle.rdm_lists.proofs.Members.{list_any_member}
+use Rattle.rdm_lists.proofs.Places.{slice_get-member}
+use Rattle.rdm_num.proofs.Lives.{same_life-true}
 
 -- the asks of a send that a life took share no byte
 asked_by_cases : (peer : Life) (send : ℕ) (d : Deed) → (asked_by peer send d ≡ []) ⊎ ((a : ReadAsk) × (asked_by peer send d ≡ a ∷ []))

@@ -1,9 +1,9 @@
 -- A grant or granted bytes that arrive agree with what was granted.
-use Rattle.std.proofs.Common.{◌≡◌, ℕ, ◌+◌, ◌-◌, ◌<◌, ◌≤◌, Bool, true, false, List, length, Option, Some, None, refl, arith, inl, inr, sym, ◌∙◌, ap, subst}
+use Rattle.std.proofs.Common.{◌≡◌, ℕ, ◌+◌, ◌-◌, ◌<◌, ◌≤◌, true, false, List, length, Option, Some, None, refl, arith, inl, inr, sym, ◌∙◌, ap, subst}
 use Rattle.std.specs.Prelude.{◌==◌, ◌||◌, not, nat_lt}
 use Rattle.std.specs.List.{list_any}
-use Rattle.std.proofs.lemmas.Bool.{cases_lt, eq-eqb, not-true, le-ltb}
-use Rattle.rdm_num.specs.Lists.{Member}
+use Rattle.std.proofs.lemmas.Bool.{cases_lt, eq-eqb, not-true, le-ltb, or_from}
+use Rattle.rdm_lists.specs.Lists.{Member}
 use Rattle.rdm_num.specs.Lives.{op_id}
 use Rattle.rdm_num.specs.Pieces.{piece_bytes}
 use Rattle.rdm_num.specs.declared.numbers.Connid.{Connid}
@@ -28,7 +28,6 @@ use Rattle.rdm_model.specs.Scenes.{Scene}
 use Rattle.rdm_model.specs.Named.{live_send, live_pair, is_long, is_long_send, is_no_op}
 use Rattle.rdm_model.specs.Classes.{passes_grants, allowed_bytes, is_wrong_grant, is_mismatch}
 use Rattle.rdm_model.specs.Lawful.{life_deeds}
-use Rattle.rdm_model.proofs.Members.{list_any_member}
 use Rattle.rdm_law.proofs.Wired.{Played}
 use Rattle.rdm_law.proofs.Known.{account, sends_of}
 use Rattle.rdm_law.proofs.Named.{send_number, head_length}
@@ -46,6 +45,7 @@ use Rattle.rdm_law.proofs.FirstPart.{first_part_opened}
 use Rattle.rdm_law.proofs.Granting.{cts_went}
 use Rattle.rdm_law.proofs.Tiled.{starts_at, tiled}
 use Rattle.rdm_law.proofs.Pushing.{long_live}
+use Rattle.rdm_lists.proofs.Members.{list_any_member}
 
 -- a grant that arrives: its send, of which it grants what comes next
 pub record GrantHere (job : Job) (history : List Entry) (j i : Life) (send recv : OpId) (size : ℕ) : Type 0 where
@@ -132,16 +132,12 @@ grants_name job history i j p s g played granting m =
     let same : k.pair ≡ p = d.once k.pair p k.member granting.member (k.life_is ∙ sym granting.life_is) n in
     sym k.recv_is ∙ ap (λ (x : Pair). x.recv.id.0) same
 
--- where neither of two tests holds
-wrong_false : (b c : Bool) → b ≡ false → c ≡ false → (b || c) ≡ false
-wrong_false b c h k = rw (h, k) refl
-
 -- a grant that lies inside what is not granted, for the receive as before, is right
 grant_right : (s : Scene) (t : Sent) (recv size : ℕ) → allowed_of s.own s.log t + size ≤ length t.message.bytes
     → list_any (λ (g : Grant). not (g.recv == recv)) (grants s.log t.to t.number) ≡ false → is_wrong_grant s recv size (Some t) ≡ false
 unfolding is_wrong_grant allowed_bytes
 grant_right s t recv size l none =
-    wrong_false (nat_lt (length t.message.bytes - allowed_of s.own s.log t) size) (list_any (λ (g : Grant). not (g.recv == recv)) (grants s.log t.to t.number))
+    or_from (nat_lt (length t.message.bytes - allowed_of s.own s.log t) size) (list_any (λ (g : Grant). not (g.recv == recv)) (grants s.log t.to t.number))
     (le-ltb (length t.message.bytes - allowed_of s.own s.log t) size (omega arith)) none
 
 -- a grant that arrives is no Mismatch

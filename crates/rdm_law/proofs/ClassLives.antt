@@ -1,7 +1,7 @@
 -- The class of what a port of a job pushed is that by lives alone.
 use Rattle.std.proofs.Common.{◌≡◌, ℕ, Bool, true, false, List, [], ◌∷◌, Option, Some, None, refl, sym, ◌∙◌, ap, subst}
 use Rattle.std.specs.Prelude.{not, ◌&&◌, is_none}
-use Rattle.rdm_num.specs.Lists.{first_case}
+use Rattle.rdm_lists.specs.Lists.{first_case}
 use Rattle.rdm_num.specs.Lives.{life}
 use Rattle.rdm_num.specs.declared.numbers.PortNo.{PortNo}
 use Rattle.rdm_num.specs.declared.numbers.Connid.{Connid}
@@ -26,10 +26,11 @@ use Rattle.rdm_model.specs.Classes.{is_mismatch, is_overlap, item_class, body_cl
 use Rattle.rdm_model.specs.Local.{own_scene}
 use Rattle.rdm_model.specs.Lawful.{port_deeds, life_deeds}
 use Rattle.rdm_model.specs.Wire.{PushedIn, IsUnhandled, Comes}
-use Rattle.rdm_law.proofs.Lives.{life_of, life_scene, opened_scene, is_connid-true, not-false}
+use Rattle.rdm_law.proofs.Lives.{life_of, life_scene, opened_scene, is_connid-true}
 use Rattle.rdm_law.proofs.Wired.{Played, TakenAs, pushed_taken}
 use Rattle.rdm_law.proofs.Classed.{taken_from}
 use Rattle.rdm_law.proofs.Arrives.{Arrives, arriving_scene}
+use Rattle.std.proofs.lemmas.Bool.{not-false}
 
 -- no test that asks more than lives holds of what came from a life
 pub record IsFree (s : Scene) (from : Life) (item : Item) : Type 0 where

@@ -8,7 +8,7 @@ use Rattle.rdm_model.specs.Currents.{current}
 use Rattle.std.proofs.Common.{◌≡◌, ℕ, Bool, true, false, cond, ◌&&◌, List, [], ◌∷◌, Option, Some, None, refl, inl, inr, sym, ◌∙◌, ap, is_some, subst, is_none, ◌⊎◌, not}
 use Rattle.std.specs.Prelude.{slice_get, ◌==◌}
 use Rattle.std.proofs.lemmas.Bool.{and_from, eq-eqb, not_from_true, and_right, and_left}
-use Rattle.rdm_num.specs.Lists.{Member}
+use Rattle.rdm_lists.specs.Lists.{Member}
 use Rattle.rdm_num.specs.Lives.{same_life, op_id}
 use Rattle.rdm_num.specs.declared.numbers.Life.{Life}
 use Rattle.rdm_num.specs.declared.numbers.Connid.{Connid}
@@ -27,7 +27,6 @@ use Rattle.rdm_model.specs.Replies.{Reply}
 use Rattle.rdm_model.specs.Lawful.{life_deeds}
 use Rattle.rdm_model.specs.Local.{heard_by}
 use Rattle.rdm_model.specs.Turns.{Sends}
-use Rattle.rdm_model.proofs.Members.{same_life-true, or_else_cases, member-append_right}
 use Rattle.rdm_model.proofs.Numbers.{made, sent_is_of}
 use Rattle.rdm_model.proofs.Opens.{opening_is}
 use Rattle.rdm_law.proofs.Lives.{TurnedAt}
@@ -35,6 +34,9 @@ use Rattle.rdm_law.proofs.Wired.{Played, TakenTurn, taken_pushed}
 use Rattle.rdm_law.proofs.Went.{went}
 use Rattle.rdm_law.proofs.Owed.{NewReply, OwedIn}
 use Rattle.rdm_law.proofs.Turned.{turn_member, turn_is}
+use Rattle.rdm_lists.proofs.Members.{member-append_right}
+use Rattle.rdm_lists.proofs.Options.{or_else_cases}
+use Rattle.rdm_num.proofs.Lives.{same_life-true}
 
 -- the headers of a send name its life
 opt_names : (l : Life) (raw : Bool) (cq_data tag : Option ℕ) (opt : Opt) → opt ≡ opt_for l raw cq_data → (is_raw_of l opt.raw && is_connid_of l opt.connid) ≡ true

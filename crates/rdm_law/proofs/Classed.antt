@@ -1,7 +1,7 @@
 -- A datagram that has no class passes each of the tests, and one that passes them has none.
 use Rattle.std.proofs.Common.{◌≡◌, false, ◌&&◌, not, None, refl}
 use Rattle.std.specs.Prelude.{is_none}
-use Rattle.rdm_num.specs.Lists.{first_case}
+use Rattle.rdm_lists.specs.Lists.{first_case}
 use Rattle.rdm_num.specs.declared.numbers.Connid.{Connid}
 use Rattle.rdm_num.specs.declared.numbers.Life.{Life}
 use Rattle.rdm_model.specs.Deeds.{Item, is_connid}

@@ -4,7 +4,7 @@ use Rattle.std.specs.Prelude.{is_some, ◌==◌}
 use Rattle.std.specs.List.{list_any}
 use Rattle.std.proofs.lemmas.Bool.{or_cases, or_right, and_from, cases_lt, eq-eqb}
 use Rattle.std.proofs.lemmas.List.{length-take}
-use Rattle.rdm_num.specs.Lists.{Member}
+use Rattle.rdm_lists.specs.Lists.{Member}
 use Rattle.rdm_num.specs.Lives.{same_life, op_id}
 use Rattle.rdm_num.specs.Pieces.{byte_at, covers}
 use Rattle.rdm_num.specs.declared.numbers.Life.{Life}
@@ -30,9 +30,7 @@ use Rattle.rdm_model.specs.Named.{read_from}
 use Rattle.rdm_model.specs.Currents.{is_forgotten}
 use Rattle.rdm_model.specs.Turns.{is_read, is_over, is_pushed, ends_send, next_packet}
 use Rattle.rdm_model.specs.Lawful.{life_deeds}
-use Rattle.rdm_model.proofs.Members.{member_list_any, same_life-refl}
 use Rattle.rdm_model.proofs.Matches.{member_is_pair}
-use Rattle.rdm_model.proofs.Rows.{each_below_from}
 use Rattle.rdm_model.proofs.Opens.{opened_bytes}
 use Rattle.rdm_model.proofs.Numbers.{sends_one}
 use Rattle.rdm_model.proofs.Pushes.{pushed_of, underway}
@@ -47,6 +45,9 @@ use Rattle.rdm_law.proofs.OwedBack.{end_owed}
 use Rattle.rdm_law.proofs.PushedLands.{pushed_landed}
 use Rattle.rdm_law.proofs.WholePushed.{opened_done, IsAtOnce, at_once_done, whole_over}
 use Rattle.rdm_law.proofs.ReadLands.{Matched, rest_of, owed_taken, asked_landed}
+use Rattle.rdm_lists.proofs.Members.{member_list_any}
+use Rattle.rdm_num.proofs.Lives.{same_life-refl}
+use Rattle.rdm_lists.proofs.Below.{each_below_from}
 
 -- a matched message of which all bytes are there is filled
 filled_from : (job : Job) (history : List Entry) (i j : Life) (p : Pair) (s : Sent) → Matched job history i j p s

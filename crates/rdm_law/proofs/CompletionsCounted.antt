@@ -6,7 +6,7 @@ use Rattle.std.proofs.lemmas.Bool.{or_left, or_right, or_cases, eq-eqb, not-true
 use Rattle.std.proofs.lemmas.List.{length-append, length-map}
 use Rattle.std.proofs.lemmas.List.Elements.{filter-append}
 use Rattle.std.proofs.lemmas.List.Filters.{length-filter_both}
-use Rattle.rdm_num.specs.Lists.{Member}
+use Rattle.rdm_lists.specs.Lists.{Member}
 use Rattle.rdm_num.specs.Lives.{same_life}
 use Rattle.rdm_num.specs.Pieces.{covers}
 use Rattle.rdm_num.specs.declared.completion.Completion.TheVariants.{Recv as RecvCompletion}
@@ -19,12 +19,13 @@ use Rattle.rdm_model.specs.Receives.{RecvEnd, ended_recv, recv_ends, recv_ends_b
 use Rattle.rdm_model.specs.Sends.{Sent, sends}
 use Rattle.rdm_model.specs.Turns.{progress, pieces_in, is_read, is_pushed, is_over, ends_send, live_of, live_sends}
 use Rattle.rdm_model.specs.Completions.{outcome, recv_completion, recv_completions, ended_sends, send_completion, completions_by, completions}
-use Rattle.rdm_model.proofs.Members.{member_list_any, filter-member}
 use Rattle.rdm_model.proofs.SameReceives.{covers_more}
 use Rattle.rdm_model.proofs.Numbers.{sends_step}
 use Rattle.rdm_model.proofs.Opens.{pieces_in-append}
 use Rattle.rdm_model.proofs.Pushes.{pushed_of}
 use Rattle.rdm_model.proofs.Served.{pushed_longer}
+use Rattle.rdm_lists.proofs.Members.{filter-member, member_list_any}
+use Rattle.rdm_lists.proofs.Filters.{filter_length}
 
 -- a filter of a list that passes more has no fewer elements
 weaker : {A : Type 0} (p q r : A → Bool) (xs : List A) → ((x : A) → Member x xs → p x ≡ true → (q x ≡ true) × (r x ≡ true)) → length (filter p xs) ≤ length (filter q (filter r xs))
@@ -88,10 +89,6 @@ ended_count own ms d before =
     let b = length-filter_both after (λ x. not (after x)) (λ x. refl) (filter live sents) in
     omega arith
 
--- a filter has no more elements than its list
-filter_count : {A : Type 0} (p : A → Bool) (xs : List A) → length (filter p xs) ≤ length xs
-filter_count p xs = let b = length-filter_both p (λ x. not (p x)) (λ x. refl) xs in omega arith
-
 -- a deed makes each of its new sends live at most
 live_count : (own : Own) (ms : Messages) (d : Deed) (before : List Deed)
     → length (live_sends own ms (d ∷ before)) + length (ended_sends own ms d before (progress own ms before)) + length (sends own ms before)
@@ -106,7 +103,7 @@ live_count own ms d before =
           let x = ap (λ (ss : List Sent). length (filter live' ss)) new.2 in
           let z = ap length (filter-append live' (sends own ms before) (new.0 ∷ [])) in
           let l = length-append (filter live' (sends own ms before)) (filter live' (new.0 ∷ [])) in
-          let f = filter_count live' (new.0 ∷ []) in
+          let f = filter_length live' (new.0 ∷ []) in
           let y = ap length new.2 in
           let m = length-append (sends own ms before) (new.0 ∷ []) in
           omega arith)

@@ -2,10 +2,10 @@
 use Rattle.std.proofs.Common.{◌≡◌, ℕ, zero, suc, ◌+◌, ◌-◌, ◌<◌, ◌≤◌, min, true, false, cond, List, [], ◌∷◌, ◌++◌, refl, arith, inl, inr, sym, ◌∙◌, ap, subst}
 use Rattle.std.specs.Prelude.{◌&&◌, nat_le, nat_lt, sum_by, fold}
 use Rattle.std.proofs.lemmas.Bool.{and_parts, and_from, leb-true, le-leb, ltb-true, lt-ltb, cases_lt, false_from_ne_true}
-use Rattle.rdm_num.specs.Lists.{Member}
+use Rattle.rdm_lists.specs.Lists.{Member}
 use Rattle.rdm_wire.specs.declared.ReadAsk.{ReadAsk}
-use Rattle.rdm_model.proofs.Members.{member-append_cases}
 use Rattle.rdm_law.proofs.Asks.{AsksShare}
+use Rattle.rdm_lists.proofs.Members.{member-append_cases}
 
 -- no two of the asks share a byte
 abbrev pub AllApart : List ReadAsk → Type 0

@@ -2,7 +2,7 @@
 use Rattle.std.proofs.Common.{◌≡◌, ℕ, ◌+◌, ◌≤◌, true, List, [], ◌∷◌, Option, Some, None, refl, arith, ◌⊎◌, inl, inr, sym, ◌∙◌, ap, subst}
 use Rattle.std.specs.Prelude.{nat_eq, slice_get}
 use Rattle.std.proofs.lemmas.Bool.{eq-eqb, and_from}
-use Rattle.rdm_num.specs.Lists.{Member}
+use Rattle.rdm_lists.specs.Lists.{Member}
 use Rattle.rdm_num.specs.Lives.{life}
 use Rattle.rdm_num.specs.declared.numbers.PortNo.{PortNo}
 use Rattle.rdm_num.specs.declared.numbers.Connid.{Connid}
@@ -34,9 +34,10 @@ use Rattle.rdm_law.proofs.Pushed.{open_push}
 use Rattle.rdm_law.proofs.Wired.{Played, played_before}
 use Rattle.rdm_law.proofs.Lawfully.{own_entry}
 use Rattle.rdm_law.proofs.Opened.{open_opened}
-use Rattle.rdm_law.proofs.Totals.{total, is_push', total_le}
+use Rattle.rdm_law.proofs.Totals.{is_push'}
 use Rattle.rdm_law.proofs.Pigeons.{total_grows}
 use Rattle.rdm_law.proofs.LifeCounts.{deed_at, lives_of, lives_member, is_mine, life_cases, with_keeps}
+use Rattle.rdm_lists.proofs.Sums.{total, total_le}
 
 -- each entry that counts is a deed of one of the lives
 abbrev pub AreCovered : Job → (Deed → ℕ) → List Life → List Entry → Type 0

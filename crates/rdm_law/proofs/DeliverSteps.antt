@@ -1,6 +1,6 @@
 -- Each step keeps what inboxes keep.
 use Rattle.std.proofs.Common.{◌≡◌, ℕ, ◌<◌, List, [], ◌∷◌, ◌++◌, refl, arith, ◌⊎◌, inl, inr, sym, ◌∙◌, ap, subst}
-use Rattle.rdm_num.specs.Lists.{Member}
+use Rattle.rdm_lists.specs.Lists.{Member}
 use Rattle.rdm_wire.specs.declared.Datagram.{Datagram}
 use Rattle.rdm_model.specs.declared.answer.Handled.{Handled}
 use Rattle.rdm_model.specs.declared.entry.Entry.{Entry}
@@ -9,9 +9,9 @@ use Rattle.rdm_model.specs.declared.entry.Act.TheVariants.{Next, Push, Handle, P
 use Rattle.rdm_model.specs.Steps.{count, is_push}
 use Rattle.rdm_model.specs.Wire.{PushedIn, IsOther, IsUnhandled}
 use Rattle.rdm_model.specs.Worlds.{put_at}
-use Rattle.rdm_model.proofs.Members.{member-append_left, member-append_right, member-append_cases}
 use Rattle.rdm_law.proofs.Apart.{put_at_case, put_at_here, Differ, AreApart, apart_push, apart_without, member_around, member_without, member_seam}
 use Rattle.rdm_law.proofs.Delivers.{IsNumbered, AreNumbered, HadWaited, AllHadWaited, Waits, Delivers, pushed_below, more_logs, pushed_still, pushed_before, more_numbered, more_handled, unhandled_still, unhandled_before}
+use Rattle.rdm_lists.proofs.Members.{member-append_left, member-append_right, member-append_cases}
 
 -- the act neither pushes nor handles
 abbrev pub IsQuiet : Act → Type 0

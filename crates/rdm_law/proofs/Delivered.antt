@@ -2,7 +2,7 @@
 use Rattle.std.proofs.Common.{◌≡◌, ℕ, Bool, true, cond, List, [], ◌∷◌, refl, ◌⊎◌, inl, inr, sym, ◌∙◌, ap, subst}
 use Rattle.std.specs.Prelude.{◌==◌}
 use Rattle.std.proofs.lemmas.Bool.{and_from, or_right, eq-eqb, cases_eq}
-use Rattle.rdm_num.specs.Lists.{Member}
+use Rattle.rdm_lists.specs.Lists.{Member}
 use Rattle.rdm_num.specs.Lives.{same_life, life}
 use Rattle.rdm_num.specs.declared.numbers.Life.{Life}
 use Rattle.rdm_num.specs.declared.numbers.PortNo.{PortNo}
@@ -24,20 +24,16 @@ use Rattle.rdm_model.specs.Local.{own_scene, Local}
 use Rattle.rdm_model.specs.Wire.{PushedIn, IsOther, IsUnhandled, Comes, Wire}
 use Rattle.rdm_model.specs.Lawful.{life_deeds}
 use Rattle.rdm_model.specs.Standing.{goes, is_between, drops_between}
-use Rattle.rdm_model.proofs.Members.{same_life-refl}
 use Rattle.rdm_law.proofs.Logs.{at_log_of}
 use Rattle.rdm_law.proofs.Wired.{Played}
 use Rattle.rdm_law.proofs.Handled.{at_life}
 use Rattle.rdm_law.proofs.Delivers.{IsNumbered, AreNumbered, pushed_once}
+use Rattle.rdm_num.proofs.Lives.{same_life-refl, port_is}
 
 -- a datagram of that source and number was handled
 abbrev pub HandledOnce : Datagram → List Entry → Type 0
 HandledOnce d [] = ⊥
 HandledOnce d (e ∷ before) = ((q : Datagram) × (answer : Handled) × (e.act ≡ Handle q answer) × (q.src ≡ d.src) × (q.number ≡ d.number)) ⊎ HandledOnce d before
-
--- ports of one number are one
-pub same_port : (p q : PortNo) → p.0 ≡ q.0 → p ≡ q
-same_port p q h = ap (λ (n : ℕ). let x : PortNo = record { 0 = n } in x) h
 
 -- and so are datagram numbers
 same_number : (p q : DatagramNo) → p.0 ≡ q.0 → p ≡ q
@@ -48,7 +44,7 @@ act_handles : (d : Datagram) (act : Act) → IsOther d act ⊎ ((q : Datagram) �
 act_handles d (Handle q answer) =
     elim (cases_eq q.src.0 d.src.0) [
       | inl a ↦ elim (cases_eq q.number.0 d.number.0) [
-        | inl b ↦ inr (q, answer, refl, same_port q.src d.src a, same_number q.number d.number b)
+        | inl b ↦ inr (q, answer, refl, port_is q.src d.src a, same_number q.number d.number b)
         | inr b ↦ inl (λ s n. b (ap (λ (x : DatagramNo). x.0) n))
       ]
       | inr a ↦ inl (λ s n. a (ap (λ (x : PortNo). x.0) s))
@@ -128,6 +124,6 @@ deed_stays job e before l x m = at_life (λ log. Member x log) job l e before (�
 pub dropped_between : (i j : Life) (d : Datagram) (load : Load) (act : Act) (why : _) → act ≡ Handle d (Dropped why) → d.src.0 ≡ j.port.0 → d.dst ≡ i.port → d.body ≡ Between j.connid i.connid load → drops_between i j act ≡ true
 unfolding drops_between is_between goes
 dropped_between i j d load act why a s t b =
-    let x : ◌≡◌ {A = Life} (life d.src j.connid) j = ap (λ (p : PortNo). let y : Life = record { port = p; connid = j.connid } in y) (same_port d.src j.port s) in
+    let x : ◌≡◌ {A = Life} (life d.src j.connid) j = ap (λ (p : PortNo). let y : Life = record { port = p; connid = j.connid } in y) (port_is d.src j.port s) in
     let z : ◌≡◌ {A = Life} (life d.dst i.connid) i = ap (λ (p : PortNo). let y : Life = record { port = p; connid = i.connid } in y) t in
     rw (a, b) (or_right _ _ (and_from _ _ (ap (λ (l : Life). same_life l j) x ∙ same_life-refl j) (ap (λ (l : Life). same_life l i) z ∙ same_life-refl i)))

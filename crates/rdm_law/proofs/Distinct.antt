@@ -2,7 +2,7 @@
 use Rattle.std.proofs.Common.{◌≡◌, ℕ, ◌+◌, ◌-◌, true, List, [], ◌∷◌, ◌++◌, map, length, Option, Some, None, refl, ◌⊎◌, inl, inr, sym, ◌∙◌, ap, subst}
 use Rattle.std.specs.Prelude.{find, nat_le}
 use Rattle.std.proofs.lemmas.Bool.{and_parts, and_from, not-true}
-use Rattle.rdm_num.specs.Lists.{Member, each_below, without_first, below}
+use Rattle.rdm_lists.specs.Lists.{Member, each_below, without_first, below}
 use Rattle.rdm_num.specs.declared.numbers.Life.{Life}
 use Rattle.rdm_match.specs.declared.PostedRecv.{PostedRecv}
 use Rattle.rdm_match.specs.declared.Arrived.{Arrived}
@@ -13,9 +13,11 @@ use Rattle.rdm_model.specs.Owns.{Heads}
 use Rattle.rdm_model.specs.Currents.{forgotten_by}
 use Rattle.rdm_model.specs.Heard.{heard_head, is_heard, heard_below, has_entered, entering}
 use Rattle.rdm_model.specs.Matches.{arrival, events_by, matching}
-use Rattle.rdm_model.proofs.Members.{member-append_cases, member-filter, each_below_more, some_of, is_some_from, find_member, without_member}
 use Rattle.rdm_model.proofs.Matches.{heard_still, entering_parts}
 use Rattle.rdm_law.proofs.Others.{AllOther, other_member, all_push, all_filter, all_without, first_other, NumbersApart, lacks_number, below_apart, apart_filter, numbers_apart}
+use Rattle.rdm_lists.proofs.Members.{member-append_cases, member-filter, find_member, without_member}
+use Rattle.rdm_lists.proofs.Options.{some_of, is_some_from}
+use Rattle.rdm_lists.proofs.Below.{each_below_more}
 
 -- a set of messages, by sender and number
 abbrev pub Known : Type 1

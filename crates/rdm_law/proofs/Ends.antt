@@ -3,7 +3,7 @@ use Rattle.std.proofs.Common.{◌≡◌, ℕ, Bool, true, ◌&&◌, not, List, [
 use Rattle.std.specs.Prelude.{◌==◌, filter, flat_map}
 use Rattle.std.specs.List.{list_any}
 use Rattle.std.proofs.lemmas.Bool.{eqb-true, and_parts, or_cases, or_left, or_right}
-use Rattle.rdm_num.specs.Lists.{Member}
+use Rattle.rdm_lists.specs.Lists.{Member}
 use Rattle.rdm_num.specs.Lives.{is_life, same_life}
 use Rattle.rdm_num.specs.declared.numbers.Life.{Life}
 use Rattle.rdm_num.specs.declared.numbers.RecvNo.{RecvNo}
@@ -14,11 +14,11 @@ use Rattle.rdm_model.specs.Owns.{Heads}
 use Rattle.rdm_model.specs.Currents.{forgotten_by, is_forgotten}
 use Rattle.rdm_model.specs.Matches.{Receive, receives, pairs}
 use Rattle.rdm_model.specs.Receives.{RecvEnd, Filled, Withdrawn, Gone, ended_recv, has_ended, is_filled, filled_by, concerns, gone_with, withdrawn_by, recv_ends_by, with_recv_ends, recv_ends}
-use Rattle.rdm_model.proofs.Lists.{member-flat_map}
-use Rattle.rdm_model.proofs.Members.{member-append_cases, member-filter, member-map, list_any_member, member_list_any, same_life-refl}
 use Rattle.rdm_model.proofs.Matches.{pair_still}
 use Rattle.rdm_model.proofs.SameReceives.{filled_still}
 use Rattle.rdm_law.proofs.Received.{receives_more}
+use Rattle.rdm_lists.proofs.Members.{member-append_cases, member-filter, member-map, member-flat_map, list_any_member, member_list_any}
+use Rattle.rdm_num.proofs.Lives.{same_life-refl}
 
 -- a receive was matched to a message that came whole
 pub record EndFilled (first : ℕ) (heads : Heads) (log : List Deed) (n : ℕ) : Type 0 where

@@ -3,7 +3,7 @@ use Rattle.std.proofs.Common.{◌≡◌, ℕ, ◌+◌, ◌*◌, ◌≤◌, Bool,
 use Rattle.std.specs.Prelude.{◌==◌, filter, find, flat_map}
 use Rattle.std.proofs.lemmas.Bool.{eq-eqb, and_parts, not-true}
 use Rattle.std.proofs.lemmas.List.{length-append, length-map}
-use Rattle.rdm_num.specs.Lists.{Member}
+use Rattle.rdm_lists.specs.Lists.{Member}
 use Rattle.rdm_num.specs.Lives.{same_life}
 use Rattle.rdm_num.specs.declared.numbers.Life.{Life}
 use Rattle.rdm_match.specs.Matcher.{Pair, Matching, is_recv}
@@ -16,8 +16,6 @@ use Rattle.rdm_model.specs.Matches.{Receive, receives, received_by, with_receive
 use Rattle.rdm_model.specs.Receives.{RecvEnd, Filled, Gone, ended_recv, has_ended, is_filled, filled_by, concerns, gone_with, withdrawn_by, recv_ends_by, with_recv_ends, recv_ends}
 use Rattle.rdm_model.specs.Sends.{sends}
 use Rattle.rdm_model.specs.Completions.{completions}
-use Rattle.rdm_model.proofs.Lists.{filter_same}
-use Rattle.rdm_model.proofs.Members.{member-append_left, member-append_right, map-member, filter-member, list_any_member, member_list_any}
 use Rattle.rdm_model.proofs.Matches.{pairs_extend}
 use Rattle.rdm_model.proofs.SameMatches.{HeadsAgree, matching_same}
 use Rattle.rdm_model.proofs.SameReceives.{is_filled_same, recv_ends_same, filled_still}
@@ -25,7 +23,10 @@ use Rattle.rdm_model.proofs.Grows.{agree_grows}
 use Rattle.rdm_law.proofs.Lives.{LifeLocal, LifeStep, life_scene}
 use Rattle.rdm_law.proofs.Live.{did_posted, posted_recv, earlier_matching}
 use Rattle.rdm_law.proofs.CompletionsCounted.{completions_ended}
-use Rattle.rdm_law.proofs.MatcherSizes.{split, filter_below, filter_more, deed_size, size}
+use Rattle.rdm_law.proofs.MatcherSizes.{split, deed_size, size}
+use Rattle.rdm_lists.proofs.Members.{member-append_left, member-append_right, filter-member, map-member, list_any_member, member_list_any}
+use Rattle.rdm_lists.proofs.Same.{filter_same}
+use Rattle.rdm_lists.proofs.Filters.{filter_length, filter_more}
 
 -- an insert forgets one life at most
 other_most : (life : Life) (o : Option Life) → length (other_life life o) ≤ 1
@@ -187,8 +188,8 @@ ends_counted own log local =
     let first = own.limits.first in
     let heads = (heard_by first log).head in
     let c = counts own log local in
-    let a = filter_below (is_filled first heads log) (pairs first heads log) in
-    let b = filter_below (λ (r : Receive). has_ended (recv_ends first heads log) r.number) (receives log) in
+    let a = filter_length (is_filled first heads log) (pairs first heads log) in
+    let b = filter_length (λ (r : Receive). has_ended (recv_ends first heads log) r.number) (receives log) in
     let e = c.ended in
     let k = c.kept in
     omega arith

@@ -3,7 +3,7 @@ use Rattle.std.proofs.Common.{◌≡◌, ℕ, true, List, [], ◌∷◌, refl, s
 use Rattle.std.specs.Prelude.{nat_eq}
 use Rattle.std.specs.List.{list_any}
 use Rattle.std.proofs.lemmas.Bool.{and_parts, eqb-true}
-use Rattle.rdm_num.specs.Lists.{Member}
+use Rattle.rdm_lists.specs.Lists.{Member}
 use Rattle.rdm_num.specs.Lives.{same_life, op_id}
 use Rattle.rdm_num.specs.declared.numbers.Life.{Life}
 use Rattle.rdm_num.specs.declared.numbers.OpId.{OpId}
@@ -25,12 +25,13 @@ use Rattle.rdm_model.specs.Replies.{end_for}
 use Rattle.rdm_model.specs.Receives.{is_filled}
 use Rattle.rdm_model.specs.Turns.{is_read, ends_send}
 use Rattle.rdm_model.specs.Lawful.{life_deeds}
-use Rattle.rdm_model.proofs.Members.{list_any_member, same_life-true}
 use Rattle.rdm_law.proofs.Owed.{shape_in, recv_in}
 use Rattle.rdm_law.proofs.Causes.{owed_end}
 use Rattle.rdm_law.proofs.Wired.{Played, TakenTurn, Taken, taken_pushed}
 use Rattle.rdm_law.proofs.Known.{account, sends_of, Known}
 use Rattle.rdm_law.proofs.Named.{pairs_of, pair_known, went_reply, head_shape, send_number}
+use Rattle.rdm_lists.proofs.Members.{list_any_member}
+use Rattle.rdm_num.proofs.Lives.{same_life-true}
 
 -- a message whose receive owes an end is read, and the end names its send
 end_shape : (own : Own) (limits : EpLimits) (m : Message) (kind : Kind) (recv send recv' : OpId) (connid : Connid)

@@ -4,7 +4,7 @@ use Rattle.std.specs.Prelude.{◌&&◌, nat_eq, nat_le, filter}
 use Rattle.std.proofs.lemmas.Bool.{and_parts, and_from, cases_Bool, cases_lt, cases_eq, eqb-true, eq-eqb, leb-true, le-leb, not-true, false_from_ne_true}
 use Rattle.std.proofs.lemmas.List.{append-nil, append_assoc, map-append, length-map}
 use Rattle.std.proofs.lemmas.List.Elements.{filter-append}
-use Rattle.rdm_num.specs.Lists.{Member, below, each_below, without_first}
+use Rattle.rdm_lists.specs.Lists.{Member, below, each_below, without_first}
 use Rattle.rdm_num.specs.declared.numbers.Life.{Life}
 use Rattle.rdm_num.specs.declared.numbers.MsgNo.{MsgNo}
 use Rattle.rdm_hdr.specs.declared.Opt.{Opt}
@@ -12,10 +12,11 @@ use Rattle.rdm_pkt.specs.declared.Form.{Form}
 use Rattle.rdm_pkt.specs.declared.Packet.TheVariants.{Rtm}
 use Rattle.rdm_model.specs.Deeds.{Deed, Took, Spelled}
 use Rattle.rdm_model.specs.Heard.{heard_head, is_heard, heard_below, has_entered, entering}
-use Rattle.rdm_model.proofs.Members.{map-member, some_of, is_some_from, last_or_less, each_below_at}
-use Rattle.rdm_model.proofs.Lists.{each_below_from}
 use Rattle.rdm_model.proofs.Matches.{heard_still}
 use Rattle.rdm_law.proofs.Known.{heard_taken}
+use Rattle.rdm_lists.proofs.Members.{map-member}
+use Rattle.rdm_lists.proofs.Options.{some_of, is_some_from}
+use Rattle.rdm_lists.proofs.Below.{last_or_less, each_below_at, each_below_from}
 
 -- without one element, a list has one element less and each other one
 length_without : (x : ℕ) (xs : List ℕ) → Member x xs → suc (length (without_first (λ y. nat_eq y x) xs)) ≡ length xs

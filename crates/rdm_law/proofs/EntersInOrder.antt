@@ -1,10 +1,10 @@
 -- Each sender's messages come to a matcher in the order of their sending, with none left out.
-use Rattle.std.proofs.Common.{◌≡◌, ℕ, ◌+◌, true, false, cond, List, [], ◌∷◌, ◌++◌, length, map, Option, Some, None, refl, arith, inl, inr, sym, ◌∙◌, ap}
+use Rattle.std.proofs.Common.{◌≡◌, ℕ, ◌+◌, true, false, cond, List, [], ◌∷◌, ◌++◌, length, map, Option, None, refl, arith, inl, inr, sym, ◌∙◌, ap}
 use Rattle.std.specs.Prelude.{◌&&◌, ◌==◌, is_some}
 use Rattle.std.specs.Bool.{then_some}
 use Rattle.std.proofs.lemmas.Bool.{cases_Bool, cases_lt}
 use Rattle.std.proofs.lemmas.List.{append-nil, append_assoc, length-map}
-use Rattle.rdm_num.specs.Lists.{below, or_else}
+use Rattle.rdm_lists.specs.Lists.{below, or_else}
 use Rattle.rdm_num.specs.Lives.{same_life}
 use Rattle.rdm_num.specs.declared.numbers.Life.{Life}
 use Rattle.rdm_match.specs.Matcher.{Event, Post, Arrive, Cancel, Forget}
@@ -19,10 +19,11 @@ use Rattle.rdm_model.specs.Currents.{forgotten_by}
 use Rattle.rdm_model.specs.Heard.{head_by, heard_head, is_heard, entering}
 use Rattle.rdm_model.specs.Matches.{arrival, events_by, merge}
 use Rattle.rdm_model.specs.Lawful.{life_deeds, sent_to}
-use Rattle.rdm_model.proofs.Members.{same_life-true, same_life-refl}
 use Rattle.rdm_law.specs.Headline.{numbers_from, numbers_in, EnterInOrder}
-use Rattle.rdm_law.proofs.Whole.{length-below}
 use Rattle.rdm_law.proofs.Enters.{Reach, reach, entering_joins}
+use Rattle.rdm_lists.proofs.Below.{length-below}
+use Rattle.rdm_num.proofs.Lives.{same_life-true, same_life-refl}
+use Rattle.rdm_lists.proofs.Options.{or_else-none}
 
 -- the numbers of events in a row
 numbers-append : (source : Life) (es fs : List Event) → numbers_from source (es ++ fs) ≡ numbers_from source es ++ numbers_from source fs
@@ -64,18 +65,12 @@ not_heard_by source (Took from (Spelled (Rtm number tag opt form))) no' n =
     ]) refl
 not_heard_by source _ no' n = refl
 
--- nothing more
-or_none : {A : Type 0} (o : Option A) → or_else o None ≡ o
-unfolding or_else
-or_none None = refl
-or_none (Some x) = refl
-
 -- a deed that takes nothing of a life leaves what was heard of it
 same_heard : (source : Life) (d : Deed) (before : List Deed) → ((item : Item) → d ≡ Took source item → ⊥) → (n : ℕ) → is_heard (d ∷ before) source n ≡ is_heard before source n
 unfolding is_heard heard_head
 same_heard source d before no' n =
     let e = not_heard_by source d no' n in
-    ap (λ o. is_some (or_else (heard_head before source n) o)) e ∙ ap (λ (o : Option _). is_some o) (or_none (heard_head before source n))
+    ap (λ o. is_some (or_else (heard_head before source n) o)) e ∙ ap (λ (o : Option _). is_some o) (or_else-none (heard_head before source n))
 
 -- the reach of a log is one
 reach_one : (first : ℕ) (log more : List Deed) (source : Life) (r : Reach first log source) (s : Reach first more source)

@@ -2,7 +2,7 @@
 use Rattle.std.proofs.Common.{◌≡◌, ℕ, suc, ◌+◌, ◌≤◌, max, List, [], ◌∷◌, length, take, get_or, Option, Some, None, refl, arith, ◌⊎◌, inl, inr, sym, ◌∙◌, ap, subst}
 use Rattle.std.specs.Prelude.{slice_get, sum_by}
 use Rattle.std.proofs.lemmas.Bool.{cases_eq}
-use Rattle.rdm_num.specs.Lists.{Member}
+use Rattle.rdm_lists.specs.Lists.{Member}
 use Rattle.rdm_wire.specs.declared.Datagram.{Datagram}
 use Rattle.rdm_model.specs.declared.job.Job.{Job}
 use Rattle.rdm_model.specs.declared.job.Rank.{Rank}
@@ -20,8 +20,8 @@ use Rattle.rdm_model.specs.Local.{own_scene, Local}
 use Rattle.rdm_model.specs.Wire.{PushedIn, IsOther, IsUnhandled, Comes, Wire}
 use Rattle.rdm_law.proofs.Logs.{log_of-same, log_of-other}
 use Rattle.rdm_law.proofs.Wired.{Played}
-use Rattle.rdm_law.proofs.Totals.{total, total_same, sum_total, take_out}
 use Rattle.rdm_law.proofs.Pigeons.{total_to, total_to_le, total_to_zero, total_to_at, total_take, total_front, total_places}
+use Rattle.rdm_lists.proofs.Sums.{total, total_same, sum_total, take_out}
 
 -- the weight of an instruction, if there is one
 unfoldable pub weight_of : (Instr → ℕ) → Option Instr → ℕ

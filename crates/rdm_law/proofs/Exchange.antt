@@ -1,6 +1,6 @@
 -- The pairs of all lives are no more than their sends, and neither are their bytes.
 use Rattle.std.proofs.Common.{◌≡◌, ℕ, ◌+◌, ◌≤◌, true, cond, List, [], ◌∷◌, ◌++◌, length, map, refl, arith, inl, inr, sym, ◌∙◌, ap, subst}
-use Rattle.rdm_num.specs.Lists.{Member}
+use Rattle.rdm_lists.specs.Lists.{Member}
 use Rattle.rdm_num.specs.Lives.{same_life}
 use Rattle.rdm_num.specs.declared.numbers.Connid.{Connid}
 use Rattle.rdm_num.specs.declared.numbers.Life.{Life}
@@ -14,7 +14,6 @@ use Rattle.rdm_model.specs.Deeds.{Deed, Did, of_life}
 use Rattle.rdm_model.specs.Owns.{own_of}
 use Rattle.rdm_model.specs.Sends.{Sent}
 use Rattle.rdm_model.specs.Lawful.{port_deeds, life_deeds}
-use Rattle.rdm_model.proofs.Members.{member-append_left, member-append_right, same_life-true, same_life-refl}
 use Rattle.rdm_model.proofs.Numbers.{made}
 use Rattle.rdm_law.proofs.Lives.{at_of_life}
 use Rattle.rdm_law.proofs.Distinct.{matching_distinct}
@@ -23,10 +22,12 @@ use Rattle.rdm_law.proofs.Opened.{IsOpened, open_opened}
 use Rattle.rdm_law.proofs.Wired.{Played}
 use Rattle.rdm_law.proofs.Known.{account, sends_of}
 use Rattle.rdm_law.proofs.Named.{pairs_of, pair_known}
-use Rattle.rdm_law.proofs.Totals.{total, total-append, total-map, total_le, total_swap, take_out}
 use Rattle.rdm_law.proofs.Pigeons.{AreDistinct, one_passes}
 use Rattle.rdm_law.proofs.LifeCounts.{lives_of, lives_distinct, lives_member}
 use Rattle.rdm_law.proofs.SendSums.{sent_bytes}
+use Rattle.rdm_lists.proofs.Members.{member-append_left, member-append_right, map-member}
+use Rattle.rdm_lists.proofs.Sums.{total, total-append, total_le, total_swap, total-map, take_out}
+use Rattle.rdm_num.proofs.Lives.{same_life-true, same_life-refl}
 
 -- elements that each have one of their own in a list weigh no more than that list
 pub injected : {A B : Type 0} (f : A → ℕ) (g : B → ℕ) (R : A → B → Type 0) (xs : List A) (ys : List B) → AreDistinct xs
@@ -92,19 +93,13 @@ unfoldable all_sends : Job → List Entry → List Life → List (Life × Sent)
 all_sends job history [] = []
 all_sends job history (j ∷ ls) = map (λ (s : Sent). (j, s)) (sends_of job history j) ++ all_sends job history ls
 
--- the image of a member
-map_member : {A B : Type 0} (f : A → B) (x : A) (xs : List A) → Member x xs → Member (f x) (map f xs)
-map_member f x [] m = elim m [ ]
-map_member f x (y ∷ xs) (inl is) = inl (ap f is)
-map_member f x (y ∷ xs) (inr m) = inr (map_member f x xs m)
-
 -- a send of one of the lives
 in_sends : (job : Job) (history : List Entry) (ls : List Life) (j : Life) (s : Sent) → Member j ls → Member s (sends_of job history j) → Member {A = Life × Sent} (j, s) (all_sends job history ls)
 unfolding all_sends
 in_sends job history [] j s m k = elim m [ ]
 in_sends job history (l ∷ ls) j s (inl is) k =
     let f : Sent → Life × Sent = λ t. (l, t) in
-    let a : Member (f s) (map f (sends_of job history l)) = map_member f s (sends_of job history l) (subst (λ (x : Life). Member s (sends_of job history x)) (sym is) k) in
+    let a : Member (f s) (map f (sends_of job history l)) = map-member f s (sends_of job history l) (subst (λ (x : Life). Member s (sends_of job history x)) (sym is) k) in
     let b : Member {A = Life × Sent} (j, s) (map f (sends_of job history l)) = subst (λ (x : Life). Member {A = Life × Sent} (x, s) (map f (sends_of job history l))) is a in
     member-append_left {A = Life × Sent} (j, s) (map f (sends_of job history l)) (all_sends job history ls) b
 in_sends job history (l ∷ ls) j s (inr m) k =

@@ -2,7 +2,7 @@
 use Rattle.std.proofs.Common.{◌≡◌, ℕ, Bool, true, false, ◌&&◌, not, List, [], ◌∷◌, ◌++◌, map, refl, ap, subst}
 use Rattle.std.specs.Prelude.{flat_map}
 use Rattle.std.proofs.lemmas.Bool.{and_parts, and_from}
-use Rattle.rdm_num.specs.Lists.{Member}
+use Rattle.rdm_lists.specs.Lists.{Member}
 use Rattle.rdm_match.specs.Matcher.{Pair, is_pair}
 use Rattle.rdm_model.specs.Deeds.{Deed}
 use Rattle.rdm_model.specs.Owns.{Heads}
@@ -10,9 +10,9 @@ use Rattle.rdm_model.specs.Currents.{forgotten_by}
 use Rattle.rdm_model.specs.Matches.{pairs, matching}
 use Rattle.rdm_model.specs.Parts.{has_landed}
 use Rattle.rdm_model.specs.Receives.{RecvEnd, Filled, is_filled, filled_by, withdrawn_by, gone_with, recv_ends_by, with_recv_ends, recv_ends}
-use Rattle.rdm_model.proofs.Members.{member-append_left, member-append_right, filter-member, map-member}
 use Rattle.rdm_model.proofs.Matches.{is_pair_member, pair_still}
 use Rattle.rdm_law.proofs.Numbered.{matching_numbered}
+use Rattle.rdm_lists.proofs.Members.{member-append_left, member-append_right, filter-member, map-member}
 
 -- a pair that is filled was made
 filled_pair : (first : ℕ) (heads : Heads) (d : Deed) (before : List Deed) (p : Pair) → Member p (pairs first heads (d ∷ before)) → is_filled first heads before p ≡ true

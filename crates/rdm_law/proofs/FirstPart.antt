@@ -2,7 +2,7 @@
 use Rattle.std.proofs.Common.{◌≡◌, ℕ, true, false, cond, List, [], ◌∷◌, length, take, Option, Some, None, refl, arith, inl, inr, sym, ◌∙◌, ap, subst}
 use Rattle.std.specs.Prelude.{◌==◌, unwrap_or, ◌&&◌}
 use Rattle.std.proofs.lemmas.Bool.{and_parts, eqb-true}
-use Rattle.rdm_num.specs.Lists.{Member}
+use Rattle.rdm_lists.specs.Lists.{Member}
 use Rattle.rdm_num.specs.Lives.{same_life}
 use Rattle.rdm_num.specs.Pieces.{piece_bytes}
 use Rattle.rdm_num.specs.declared.numbers.Life.{Life}
@@ -29,7 +29,6 @@ use Rattle.rdm_model.specs.Grants.{first_part, first_part_in, first_part_by, fir
 use Rattle.rdm_model.specs.Sends.{Sent}
 use Rattle.rdm_model.specs.Turns.{Sends, packet_piece, pieces_in}
 use Rattle.rdm_model.specs.Lawful.{life_deeds}
-use Rattle.rdm_model.proofs.Members.{or_else_cases, same_life-true}
 use Rattle.rdm_model.proofs.Matches.{pair_heard}
 use Rattle.rdm_law.proofs.Lives.{TurnedAt}
 use Rattle.rdm_law.proofs.Turned.{turn_is}
@@ -38,6 +37,8 @@ use Rattle.rdm_law.proofs.Known.{Known, known_one, account, opened}
 use Rattle.rdm_law.proofs.Named.{head_shape}
 use Rattle.rdm_law.proofs.Windows.{heard_first}
 use Rattle.rdm_law.proofs.Granted.{Granting, own_tells}
+use Rattle.rdm_lists.proofs.Options.{or_else_cases}
+use Rattle.rdm_num.proofs.Lives.{same_life-true}
 
 -- the packet whose first part was taken
 pub record FirstTaken (log : List Deed) (source : Life) (n k : ℕ) : Type 0 where

@@ -4,7 +4,7 @@ use Rattle.std.specs.Prelude.{slice_get, is_some, nat_lt, nat_le}
 use Rattle.std.proofs.lemmas.Bool.{and_from, ltb-false, le-leb}
 use Rattle.std.proofs.lemmas.Option.{slice_get_within}
 use Rattle.std.proofs.lemmas.List.{length-take}
-use Rattle.rdm_num.specs.Lists.{Member, each_below}
+use Rattle.rdm_lists.specs.Lists.{Member, each_below}
 use Rattle.rdm_num.specs.Pieces.{Piece, byte_in, byte_at, is_missing, piece_bytes}
 use Rattle.rdm_num.specs.declared.numbers.Life.{Life}
 use Rattle.rdm_pkt.specs.declared.Packet.{Packet}
@@ -24,7 +24,7 @@ use Rattle.rdm_model.specs.Turns.{Sends, packet_piece, pieces_in, is_read}
 use Rattle.rdm_model.specs.Local.{heard_by}
 use Rattle.rdm_model.specs.Lawful.{life_deeds}
 use Rattle.rdm_model.proofs.Cuts.{row_within, piece_bytes-append}
-use Rattle.rdm_model.proofs.Rows.{overlaps_from, each_below_from}
+use Rattle.rdm_model.proofs.Rows.{overlaps_from}
 use Rattle.rdm_model.proofs.Opens.{pieces_in-append, opened_bytes, openings_bytes}
 use Rattle.rdm_model.proofs.Pushes.{pushed_of, underway}
 use Rattle.rdm_model.proofs.Served.{push_done, done_bytes}
@@ -45,6 +45,7 @@ use Rattle.rdm_law.proofs.Clashes.{Clash}
 use Rattle.rdm_law.proofs.ReplyTurns.{reply_once}
 use Rattle.rdm_law.proofs.SentSizes.{sent_sized}
 use Rattle.rdm_law.proofs.AnswersFit.{ranges_fit}
+use Rattle.rdm_lists.proofs.Below.{each_below_from}
 
 -- what was taken before was another turn
 pub taken_before : (job : Job) (history : List Entry) (to from : Life) (item other : Item) (d : Datagram) → (a : Arrives job history to from item d)

@@ -3,7 +3,7 @@ use Rattle.std.proofs.Common.{◌≡◌, ℕ, ◌+◌, ◌<◌, ◌≤◌, true,
 use Rattle.std.specs.Prelude.{is_some, filter_map, option_to_list}
 use Rattle.std.specs.List.{cons_option}
 use Rattle.std.proofs.lemmas.Bool.{cases_lt}
-use Rattle.rdm_num.specs.Lists.{Member}
+use Rattle.rdm_lists.specs.Lists.{Member}
 use Rattle.rdm_num.specs.Pieces.{Piece, byte_in, byte_at, covers, piece_bytes}
 use Rattle.rdm_num.specs.declared.numbers.Life.{Life}
 use Rattle.rdm_pkt.specs.declared.Packet.{Packet}
@@ -26,7 +26,6 @@ use Rattle.rdm_model.proofs.Cuts.{InRow}
 use Rattle.rdm_model.proofs.Rows.{byte_in_after}
 use Rattle.rdm_model.proofs.Opens.{openings_in_row}
 use Rattle.rdm_model.proofs.Sending.{DataPush}
-use Rattle.rdm_model.proofs.Members.{each_below_at, some_of}
 use Rattle.rdm_model.proofs.SameReceives.{covers_more}
 use Rattle.rdm_model.proofs.Grows.{heads_by_heard}
 use Rattle.rdm_law.proofs.Lives.{TurnedAt}
@@ -39,6 +38,8 @@ use Rattle.rdm_law.proofs.Sent.{carried_part}
 use Rattle.rdm_law.proofs.Whole.{byte_of_piece}
 use Rattle.rdm_law.proofs.Windows.{Tells, is_window}
 use Rattle.rdm_law.proofs.WindowsAt.{WindowAt}
+use Rattle.rdm_lists.proofs.Options.{some_of}
+use Rattle.rdm_lists.proofs.Below.{each_below_at}
 
 -- how many bytes of a send its openings and the grants that were taken allow
 abbrev pub allowed_of : Own → List Deed → Sent → ℕ

@@ -2,7 +2,7 @@
 use Rattle.std.proofs.Common.{◌≡◌, ℕ, ◌+◌, ◌<◌, ◌≤◌, true, false, cond, List, [], ◌∷◌, Some, refl, ◌⊎◌, inl, inr, sym, ◌∙◌, ap, subst}
 use Rattle.std.specs.Prelude.{◌==◌, ◌&&◌, slice_get}
 use Rattle.std.proofs.lemmas.Bool.{and_parts, eqb-true}
-use Rattle.rdm_num.specs.Lists.{Member}
+use Rattle.rdm_lists.specs.Lists.{Member}
 use Rattle.rdm_num.specs.Lives.{same_life, op_id}
 use Rattle.rdm_num.specs.declared.numbers.Connid.{Connid}
 use Rattle.rdm_num.specs.declared.numbers.Life.{Life}
@@ -22,7 +22,6 @@ use Rattle.rdm_model.specs.Grants.{grants_by}
 use Rattle.rdm_model.specs.Sends.{Sent, sends}
 use Rattle.rdm_model.specs.Lawful.{life_deeds}
 use Rattle.rdm_model.specs.Local.{heard_by}
-use Rattle.rdm_model.proofs.Members.{same_life-true}
 use Rattle.rdm_model.proofs.Matches.{pair_still}
 use Rattle.rdm_model.proofs.SameMatches.{pairs_same}
 use Rattle.rdm_model.proofs.SameRegions.{sends_same}
@@ -42,6 +41,7 @@ use Rattle.rdm_law.proofs.WindowsAt.{WindowAt, window_member, owed_window}
 use Rattle.rdm_law.proofs.WindowsSame.{window_stays, answered_stays}
 use Rattle.rdm_law.proofs.Granted.{Granting}
 use Rattle.rdm_law.proofs.Handled.{at_life}
+use Rattle.rdm_num.proofs.Lives.{same_life-true}
 
 -- a place lies in a window of a pair's message whose grant was pushed, and taken by the message's life
 pub record TakenWindow (job : Job) (history : List Entry) (i j : Life) (p : Pair) (y : ℕ) : Type 0 where

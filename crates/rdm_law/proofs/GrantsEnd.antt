@@ -4,7 +4,7 @@ use Rattle.std.specs.Prelude.{min, flat_map, map, nat_lt, not, ◌&&◌}
 use Rattle.std.proofs.Math.Nat.{le-mul_of_pos_right}
 use Rattle.std.proofs.lemmas.Bool.{cases_lt, lt-ltb, and_parts}
 use Rattle.std.proofs.lemmas.Option.{slice_get_within}
-use Rattle.rdm_num.specs.Lists.{Member}
+use Rattle.rdm_lists.specs.Lists.{Member}
 use Rattle.rdm_num.specs.declared.numbers.Life.{Life}
 use Rattle.rdm_num.specs.declared.numbers.OpId.{OpId}
 use Rattle.rdm_num.specs.declared.head.Shape.{Shape}
@@ -18,8 +18,6 @@ use Rattle.rdm_model.specs.Receives.{is_filled}
 use Rattle.rdm_model.specs.Grants.{first_part, window, granted_bytes}
 use Rattle.rdm_model.specs.Sends.{Sent, sends}
 use Rattle.rdm_model.specs.Replies.{Reply, reply, handshake_by, asks_for, grant_for, end_for, pair_items, pair_replies, given_by, replies_by}
-use Rattle.rdm_model.proofs.Members.{member-append_left, member-append_right, map-member}
-use Rattle.rdm_law.proofs.Received.{member_at}
 use Rattle.rdm_law.proofs.Queue.{owed}
 use Rattle.rdm_law.proofs.Owed.{shape_in, recv_in}
 use Rattle.rdm_law.proofs.Windows.{reach}
@@ -49,12 +47,8 @@ use Rattle.rdm_law.proofs.WindowsAt.{window_from}
 use Rattle.rdm_law.proofs.Granted.{Granting, allowed_of, own_tells, covered_within}
 use Rattle.rdm_law.proofs.FirstPart.{first_part_opened, long_shape}
 use Rattle.rdm_law.proofs.Tiled.{tiled}
-
--- an element of one of lists in a row is one of all
-flat_map_member : {A B : Type 0} (f : A → List B) (x : A) (xs : List A) (y : B) → Member x xs → Member y (f x) → Member y (flat_map f xs)
-flat_map_member f x [] y h k = elim h [ ]
-flat_map_member {A} {B} f x (z ∷ xs) y (inl is) k = member-append_left y (f z) (flat_map f xs) (subst (λ (w : A). Member y (f w)) (sym is) k)
-flat_map_member f x (z ∷ xs) y (inr h) k = member-append_right y (f z) (flat_map f xs) (flat_map_member f x xs y h k)
+use Rattle.rdm_lists.proofs.Members.{member-append_left, member-append_right, map-member, flat_map-member}
+use Rattle.rdm_lists.proofs.Places.{member_at}
 
 -- a window with a byte of a long message is granted
 grant_member : (own : Own) (shape : Shape) (recv send : OpId) (credits size : ℕ) → shape ≡ S.LongCts send credits → 0 < size
@@ -97,7 +91,7 @@ window_opens own ms d before p send credits m shape h =
     let shakes = handshake_by own before d in
     let givens = given_by (sends own ms before) d in
     let here : Member r (pair_replies own ms.head d before p) = map-member (reply p.message.life) item (pair_items own ms.head d before p) (items_grant own ms.head d before p send credits shape h) in
-    let there : Member r of_pairs = flat_map_member (pair_replies own ms.head d before) p (pairs own.limits.first ms.head (d ∷ before)) r m here in
+    let there : Member r of_pairs = flat_map-member (pair_replies own ms.head d before) p (pairs own.limits.first ms.head (d ∷ before)) r m here in
     let at = member_at r ((shakes ++ of_pairs) ++ givens) (member-append_left r (shakes ++ of_pairs) givens (member-append_right r shakes of_pairs there)) in (
       length (owed own ms before) + at.0,
       omega arith,

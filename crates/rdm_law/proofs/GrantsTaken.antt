@@ -47,7 +47,7 @@ use Rattle.rdm_law.proofs.Tiled.{starts_at, tiled, allowed_step, one_grant}
 use Rattle.std.proofs.lemmas.Bool.{and_from, eq-eqb}
 use Rattle.std.specs.Prelude.{nat_eq, ◌==◌, ◌&&◌}
 use Rattle.rdm_num.specs.Lives.{same_life}
-use Rattle.rdm_model.proofs.Members.{same_life-refl}
+use Rattle.rdm_num.proofs.Lives.{same_life-refl}
 
 -- a placed push was a push
 pub placed_pushed : (job : Job) (port : ℕ) (c : Connid) (d : Datagram) (k : ℕ) (log : List Entry) → PlacedAt job port c d k log → PushedIn d log

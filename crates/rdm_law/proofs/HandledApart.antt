@@ -1,16 +1,16 @@
 -- The datagrams that a port handled stand apart.
 use Rattle.std.proofs.Common.{◌≡◌, ℕ, List, [], ◌∷◌, ◌++◌, length, refl, arith, inl, inr, subst, length-append}
-use Rattle.rdm_num.specs.Lists.{Member}
+use Rattle.rdm_lists.specs.Lists.{Member}
 use Rattle.rdm_wire.specs.declared.Datagram.{Datagram}
 use Rattle.rdm_model.specs.declared.entry.Entry.{Entry}
 use Rattle.rdm_model.specs.declared.entry.Act.{Act}
 use Rattle.rdm_model.specs.declared.entry.Act.TheVariants.{Next, Push, Handle, Poll}
 use Rattle.rdm_model.specs.Steps.{count}
 use Rattle.rdm_model.specs.Wire.{PushedIn, IsOther, IsUnhandled}
-use Rattle.rdm_model.proofs.Members.{member-append_cases}
 use Rattle.rdm_law.proofs.Apart.{Differ, AreApart}
 use Rattle.rdm_law.proofs.Delivers.{HadWaited, AllHadWaited}
 use Rattle.rdm_law.proofs.Counted.{is_handling}
+use Rattle.rdm_lists.proofs.Members.{member-append_cases}
 
 -- the datagram that an act handled
 unfoldable pub handled_by : Act → List Datagram

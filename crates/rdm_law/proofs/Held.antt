@@ -3,15 +3,15 @@ use Rattle.std.proofs.Common.{◌≡◌, ℕ, Bool, true, false, List, [], ◌�
 use Rattle.std.specs.Prelude.{◌==◌, is_some}
 use Rattle.std.specs.Bool.{then_some}
 use Rattle.std.proofs.lemmas.Bool.{eqb-true, eq-eqb}
-use Rattle.rdm_num.specs.Lists.{Member, or_else}
+use Rattle.rdm_lists.specs.Lists.{Member, or_else}
 use Rattle.rdm_num.specs.declared.numbers.Life.{Life}
 use Rattle.rdm_model.specs.declared.job.Instr.TheVariants.{Insert}
 use Rattle.rdm_model.specs.Deeds.{Deed, Did, Took, Item}
 use Rattle.rdm_model.specs.Currents.{inserted_by, last_inserted, seen_by, first_seen, current, is_current, was_current}
 use Rattle.rdm_model.specs.Owns.{Own, Messages}
 use Rattle.rdm_model.specs.Sends.{Sent, new_sent, sends}
-use Rattle.rdm_model.proofs.Members.{or_else_cases, then_some_parts, some-or_else_left, some-or_else_right}
 use Rattle.rdm_model.proofs.Numbers.{NewSent, made}
+use Rattle.rdm_lists.proofs.Options.{or_else_cases, then_some_parts, some-or_else_left, some-or_else_right}
 
 -- an inserted life is of its port
 inserted_port : (port : ℕ) (d : Deed) (l : Life) → inserted_by port d ≡ Some l → (l.port.0 ≡ port) × (d ≡ Did (Insert l))

@@ -16,10 +16,11 @@ use Rattle.rdm_model.specs.Scenes.{Scene}
 use Rattle.rdm_model.specs.Classes.{class_of}
 use Rattle.rdm_law.proofs.Lawfully.{own_entry}
 use Rattle.rdm_law.proofs.Wired.{Played, played_before}
-use Rattle.rdm_law.proofs.Totals.{total, is_push'}
+use Rattle.rdm_law.proofs.Totals.{is_push'}
 use Rattle.rdm_law.proofs.EntryCounts.{weight_of, op_weight, entry_weight, is_handle}
 use Rattle.rdm_law.proofs.LifeCounts.{deed_at}
 use Rattle.rdm_law.proofs.NoteCounts.{one}
+use Rattle.rdm_lists.proofs.Sums.{total}
 
 -- an act counts as one of its kind
 act_counts : (job : Job) (s : Scene) (log : List Entry) (e : Entry) (ops : List Instr) (act : Act) → ops ≡ (rank_of job e.port.0).ops → Does job class_of s log e act

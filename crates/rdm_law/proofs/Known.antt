@@ -2,7 +2,7 @@
 use Rattle.std.proofs.Common.{◌≡◌, ℕ, ◌-◌, List, [], ◌∷◌, Option, Some, inl, inr, sym, ◌∙◌, ap, subst}
 use Rattle.std.specs.Prelude.{◌&&◌, nat_eq, slice_get}
 use Rattle.std.proofs.lemmas.Bool.{and_parts, eqb-true}
-use Rattle.rdm_num.specs.Lists.{Member}
+use Rattle.rdm_lists.specs.Lists.{Member}
 use Rattle.rdm_num.specs.Lives.{same_life}
 use Rattle.rdm_num.specs.declared.numbers.Life.{Life}
 use Rattle.rdm_num.specs.declared.numbers.MsgNo.{MsgNo}
@@ -24,13 +24,14 @@ use Rattle.rdm_model.specs.Sends.{Sent, sends, sends_to}
 use Rattle.rdm_model.specs.Turns.{Sends}
 use Rattle.rdm_model.specs.Local.{heard_by}
 use Rattle.rdm_model.specs.Lawful.{life_deeds}
-use Rattle.rdm_model.proofs.Members.{or_else_cases, same_life-true, then_some_parts}
 use Rattle.rdm_model.proofs.Numbers.{placed}
 use Rattle.rdm_law.proofs.Owed.{OwedIn}
 use Rattle.rdm_law.proofs.Wired.{Played, TakenTurn, taken_pushed}
 use Rattle.rdm_law.proofs.Turned.{turn_member, turn_rtm}
 use Rattle.rdm_law.proofs.Lives.{TurnedAt}
 use Rattle.rdm_law.proofs.Went.{SentIt, went}
+use Rattle.rdm_lists.proofs.Options.{or_else_cases, then_some_parts}
+use Rattle.rdm_num.proofs.Lives.{same_life-true}
 
 -- what each life knows of the messages to it
 abbrev pub account : Job → List Entry → Life → Messages

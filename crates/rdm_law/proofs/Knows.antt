@@ -3,8 +3,8 @@ use Rattle.std.proofs.Common.{◌≡◌, ℕ, Bool, true, false, List, [], ◌�
 use Rattle.std.specs.Prelude.{not, ◌&&◌, ◌==◌, nat_eq, slice_get}
 use Rattle.std.specs.Bool.{then_some}
 use Rattle.std.specs.List.{list_any}
-use Rattle.std.proofs.lemmas.Bool.{and_parts, or_cases, eqb-true}
-use Rattle.rdm_num.specs.Lists.{Member, first_case}
+use Rattle.std.proofs.lemmas.Bool.{and_parts, or_cases, eqb-true, not-false}
+use Rattle.rdm_lists.specs.Lists.{Member, first_case}
 use Rattle.rdm_num.specs.declared.numbers.PortNo.{PortNo}
 use Rattle.rdm_num.specs.declared.numbers.Connid.{Connid}
 use Rattle.rdm_num.specs.declared.numbers.Life.{Life}
@@ -35,12 +35,14 @@ use Rattle.rdm_model.specs.Classes.{class_of}
 use Rattle.rdm_model.specs.Steps.{Does}
 use Rattle.rdm_model.specs.Local.{own_scene, Local}
 use Rattle.rdm_model.specs.Lawful.{port_deeds, life_deeds}
-use Rattle.rdm_model.proofs.Members.{list_any_member, or_else_cases, member-append_right}
 use Rattle.rdm_law.proofs.Logs.{at_log_of}
-use Rattle.rdm_law.proofs.Lives.{same_connid, same_port, at_of_life, not-false}
+use Rattle.rdm_law.proofs.Lives.{at_of_life}
 use Rattle.rdm_law.proofs.Wired.{Played, played_before, HandledIn, handled_by, comes_of, taken_pushed}
 use Rattle.rdm_law.proofs.Pushed.{PlacedAt}
 use Rattle.rdm_law.proofs.Opened.{IsOpened, open_opened, note_pushed}
+use Rattle.rdm_lists.proofs.Members.{member-append_right, list_any_member}
+use Rattle.rdm_lists.proofs.Options.{or_else_cases}
+use Rattle.rdm_num.proofs.Lives.{port_is, connid_is}
 
 -- a take of a note is of a datagram
 handle_note : (src : PortNo) (body : Body) (answer : Handled) (from : PortNo) (note : NoteBody) → deed_by_handle src body answer ≡ TookNote from note
@@ -98,7 +100,7 @@ opened_still job e before l m =
 -- an open of the life
 pub opens_parts : (l : Life) (d : Deed) → opens l d ≡ true → d ≡ Did (OpenLife l.connid)
 unfolding opens
-opens_parts l (Did (OpenLife c)) h = ap (λ x. Did (OpenLife x)) (same_connid c l.connid (eqb-true c.0 l.connid.0 h))
+opens_parts l (Did (OpenLife c)) h = ap (λ x. Did (OpenLife x)) (connid_is c l.connid (eqb-true c.0 l.connid.0 h))
 opens_parts l _ h = cc
 
 -- a note that tells of the life
@@ -106,7 +108,7 @@ pub tells_parts : (l : Life) (d : Deed) → tells_open l d ≡ true → d ≡ To
 unfolding tells_open
 tells_parts l (TookNote from (OpenedNote c)) h =
     let p = and_parts (nat_eq from.0 l.port.0) (nat_eq c.0 l.connid.0) h in
-    ap (λ x. TookNote x (OpenedNote c)) (same_port from l.port (eqb-true from.0 l.port.0 p.0)) ∙ ap (λ x. TookNote l.port (OpenedNote x)) (same_connid c l.connid (eqb-true c.0 l.connid.0 p.1))
+    ap (λ x. TookNote x (OpenedNote c)) (port_is from l.port (eqb-true from.0 l.port.0 p.0)) ∙ ap (λ x. TookNote l.port (OpenedNote x)) (connid_is c l.connid (eqb-true c.0 l.connid.0 p.1))
 tells_parts l _ h = cc
 
 -- a life that a port knows to be open was opened

@@ -1,8 +1,8 @@
 -- What a life takes comes for the first time.
 use Rattle.std.proofs.Common.{◌≡◌, ℕ, ◌+◌, ◌-◌, ◌<◌, ◌≤◌, Bool, true, false, ◌&&◌, not, List, [], ◌∷◌, length, Option, Some, None, refl, arith, ◌⊎◌, inl, inr, sym, ◌∙◌, ap, subst}
 use Rattle.std.specs.Prelude.{◌==◌, is_some, IsFalse, nat_le, nat_lt}
-use Rattle.std.proofs.lemmas.Bool.{and_parts, not-true, cases_lt, eqb-true}
-use Rattle.rdm_num.specs.Lists.{Member, or_else, each_below}
+use Rattle.std.proofs.lemmas.Bool.{and_parts, not-true, cases_lt, eqb-true, or_parts, not-false}
+use Rattle.rdm_lists.specs.Lists.{Member, or_else, each_below}
 use Rattle.rdm_num.specs.Lives.{same_life}
 use Rattle.rdm_num.specs.Pieces.{Piece, overlaps, byte_in, byte_at, is_missing}
 use Rattle.rdm_num.specs.declared.numbers.Life.{Life}
@@ -28,13 +28,15 @@ use Rattle.rdm_model.specs.Named.{live_pair, has_shape, is_long_shape, is_read_s
 use Rattle.rdm_model.specs.Classes.{is_taken, is_taken_pair, repeats, is_overlap}
 use Rattle.rdm_model.specs.Lawful.{IsApart}
 use Rattle.rdm_model.specs.Local.{heard_by}
-use Rattle.rdm_model.proofs.Members.{or_false, each_below_at, find_member, same_life-true}
 use Rattle.rdm_model.proofs.Matches.{is_pair_member}
 use Rattle.rdm_model.proofs.Rows.{byte_in_some, overlap_parts}
-use Rattle.rdm_law.proofs.Lives.{LifeStep, life_scene, not-false}
+use Rattle.rdm_law.proofs.Lives.{LifeStep, life_scene}
 use Rattle.rdm_law.proofs.Classed.{taken_parts}
 use Rattle.rdm_law.proofs.Numbered.{matching_numbered}
 use Rattle.rdm_law.proofs.Carried.{Brought, carried_parts, carried_heard}
+use Rattle.rdm_lists.proofs.Members.{find_member}
+use Rattle.rdm_lists.proofs.Below.{each_below_at}
+use Rattle.rdm_num.proofs.Lives.{same_life-true}
 
 -- a byte of one of the pieces is there
 pub piece_at : (ps : List Piece) (q : Piece) (place : ℕ) → Member q ps → q.offset ≤ place → place < q.offset + length q.bytes → is_some (byte_at ps place) ≡ true
@@ -154,7 +156,7 @@ rtm_new : (s : Scene) (from : Life) (n : ℕ) (tag : Option ℕ) (opt : Opt) (nu
     → IsApart x (carried_pieces s.own.limits.first s.ms.head s.log from n)
 unfolding is_overlap is_heard
 rtm_new s from n tag opt number form x e h is q m =
-    let o = (or_false (nat_lt number.0 s.own.limits.first) (is_some (heard_head s.log from number.0) && repeats s from number.0 form) h).1 in
+    let o = (or_parts (nat_lt number.0 s.own.limits.first) (is_some (heard_head s.log from number.0) && repeats s from number.0 form) h).1 in
     elim (and_false (is_some (heard_head s.log from number.0)) (repeats s from number.0 form) o) [
       | inl a ↦ absurd (
           let heard = carried_heard s.own.limits.first s.ms.head s.log from n q m in

@@ -3,7 +3,7 @@ use Rattle.std.proofs.Common.{◌≡◌, ℕ, ◌+◌, ◌≤◌, Bool, true, fa
 use Rattle.std.specs.Prelude.{◌&&◌, ◌==◌, nat_eq, slice_get}
 use Rattle.std.specs.List.{list_any}
 use Rattle.std.proofs.lemmas.Bool.{cases_eq, eq-eqb, eqb-true, ne_eqb, and_from, and_parts, and_left, and_right}
-use Rattle.rdm_num.specs.Lists.{Member}
+use Rattle.rdm_lists.specs.Lists.{Member}
 use Rattle.rdm_num.specs.Lives.{same_life, life}
 use Rattle.rdm_num.specs.declared.numbers.PortNo.{PortNo}
 use Rattle.rdm_num.specs.declared.numbers.Connid.{Connid}
@@ -25,13 +25,14 @@ use Rattle.rdm_model.specs.Owns.{rank_of}
 use Rattle.rdm_model.specs.Jobs.{open_count}
 use Rattle.rdm_model.specs.Scenes.{deeds_at}
 use Rattle.rdm_model.specs.Lawful.{port_deeds, life_deeds}
-use Rattle.rdm_model.proofs.Members.{list_any_member, member_list_any, same_life-true, same_life-refl}
 use Rattle.rdm_law.proofs.Logs.{log_of-same, log_of-other, at_log_of}
-use Rattle.rdm_law.proofs.Lives.{at_of_life, same_port, is_connid-from, is_connid-true}
+use Rattle.rdm_law.proofs.Lives.{at_of_life, is_connid-from, is_connid-true}
 use Rattle.rdm_law.proofs.Opened.{IsOpened}
-use Rattle.rdm_law.proofs.Totals.{total, total_le, total_plus}
 use Rattle.rdm_law.proofs.Pigeons.{AreDistinct, one_passes}
 use Rattle.rdm_law.proofs.EntryCounts.{weight_of, op_weight, entry_weight}
+use Rattle.rdm_lists.proofs.Members.{list_any_member, member_list_any}
+use Rattle.rdm_lists.proofs.Sums.{total, total_le, total_plus}
+use Rattle.rdm_num.proofs.Lives.{same_life-true, same_life-refl, port_is}
 
 -- the weight of the instruction that a deed did
 unfoldable pub deed_weight : (Instr → ℕ) → Deed → ℕ
@@ -120,7 +121,7 @@ lives_member job (e ∷ before) l m =
     (λ s k. elim k [
       | inl is ↦
           let d : deed_at job e ≡ Did (OpenLife l.connid) = ap (λ n. deed_of (rank_of job n).ops e.act) s ∙ is in
-          let p : life e.port l.connid ≡ l = ap (λ (q : PortNo). let y : Life = record { port = q; connid = l.connid } in y) (same_port e.port l.port s) in
+          let p : life e.port l.connid ≡ l = ap (λ (q : PortNo). let y : Life = record { port = q; connid = l.connid } in y) (port_is e.port l.port s) in
           subst (λ (x : Life). Member x (with_life e.port (deed_at job e) (lives_of job before))) p
           (subst (λ (x : Deed). Member (life e.port l.connid) (with_life e.port x (lives_of job before))) (sym d) (with_new e.port l.connid (lives_of job before)))
       | inr a ↦ with_keeps e.port (deed_at job e) (lives_of job before) l (lives_member job before l a)
@@ -169,7 +170,7 @@ life_cases P job l e before same other =
 
 -- lives of one port and one identifier are one
 lives_same : (l m : Life) → l.port.0 ≡ m.port.0 → l.connid ≡ m.connid → l ≡ m
-lives_same l m p c = ap (λ (q : PortNo). life q l.connid) (same_port l.port m.port p) ∙ ap (λ (k : Connid). life m.port k) c
+lives_same l m p c = ap (λ (q : PortNo). life q l.connid) (port_is l.port m.port p) ∙ ap (λ (k : Connid). life m.port k) c
 
 -- an entry is a deed of one life at most
 mine_one : (job : Job) (e : Entry) (before : List Entry) (l m : Life) → is_mine job e before l ≡ true → is_mine job e before m ≡ true → l ≡ m

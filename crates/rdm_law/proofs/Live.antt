@@ -3,7 +3,7 @@ use Rattle.std.proofs.Common.{◌≡◌, ℕ, ◌<◌, Bool, true, false, cond, 
 use Rattle.std.specs.Prelude.{◌==◌, find}
 use Rattle.std.specs.List.{list_any}
 use Rattle.std.proofs.lemmas.Bool.{eqb-true, eq-eqb, and_parts, and_from, or_cases}
-use Rattle.rdm_num.specs.Lists.{Member, without_first, first_case}
+use Rattle.rdm_lists.specs.Lists.{Member, without_first, first_case}
 use Rattle.rdm_num.specs.Lives.{is_life, is_life_or_none, same_life}
 use Rattle.rdm_num.specs.declared.numbers.Life.{Life}
 use Rattle.rdm_num.specs.declared.numbers.RecvNo.{RecvNo}
@@ -24,7 +24,6 @@ use Rattle.rdm_model.specs.Scenes.{Scene}
 use Rattle.rdm_model.specs.Named.{live_pair}
 use Rattle.rdm_model.specs.Answers.{answer_of, is_posted}
 use Rattle.rdm_model.specs.Local.{heard_by}
-use Rattle.rdm_model.proofs.Members.{find_member, member_find, some_of, list_any_member, same_life-true, same_life-refl}
 use Rattle.rdm_model.proofs.SameMatches.{matching_same}
 use Rattle.rdm_model.proofs.Grows.{agree_grows}
 use Rattle.rdm_law.proofs.Lives.{LifeLocal, LifeStep, life_scene}
@@ -32,6 +31,9 @@ use Rattle.rdm_law.proofs.Numbered.{Numbered, matching_numbered, lacks_member, f
 use Rattle.rdm_law.proofs.Received.{posted_accepted, receive_stands, receive_once}
 use Rattle.rdm_law.proofs.Accepts.{pair_accepts, Absent, absent_still, receives_longer}
 use Rattle.rdm_law.proofs.Ends.{ended_cases}
+use Rattle.rdm_lists.proofs.Members.{list_any_member, find_member, member_find}
+use Rattle.rdm_lists.proofs.Options.{some_of}
+use Rattle.rdm_num.proofs.Lives.{same_life-true, same_life-refl}
 
 -- what was posted and is taken back is neither posted nor paired
 withdraws : (m : Matching) (bound n : ℕ) (r : PostedRecv) → Numbered bound m → find (is_recv n) m.posted ≡ Some r → Absent n (after m (CancelEvent n)) × (n < bound)

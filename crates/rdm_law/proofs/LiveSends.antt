@@ -2,7 +2,7 @@
 use Rattle.std.proofs.Common.{◌≡◌, ℕ, Bool, true, false, not, List, Some, sym, ◌∙◌, ap}
 use Rattle.std.specs.Prelude.{◌&&◌, ◌==◌, nat_eq, find}
 use Rattle.std.proofs.lemmas.Bool.{and_parts, and_from, eqb-true, eq-eqb}
-use Rattle.rdm_num.specs.Lists.{Member}
+use Rattle.rdm_lists.specs.Lists.{Member}
 use Rattle.rdm_num.specs.Lives.{same_life}
 use Rattle.rdm_num.specs.declared.numbers.Life.{Life}
 use Rattle.rdm_model.specs.Deeds.{Deed}
@@ -11,8 +11,10 @@ use Rattle.rdm_model.specs.Scenes.{Scene}
 use Rattle.rdm_model.specs.Sends.{Sent, sends}
 use Rattle.rdm_model.specs.Turns.{progress, is_over, live_of, live_sends}
 use Rattle.rdm_model.specs.Named.{live_send}
-use Rattle.rdm_model.proofs.Members.{member-filter, filter-member, some_of, find_member, member_find, same_life-refl}
 use Rattle.rdm_model.proofs.Numbers.{sends_one}
+use Rattle.rdm_lists.proofs.Members.{member-filter, filter-member, find_member, member_find}
+use Rattle.rdm_lists.proofs.Options.{some_of}
+use Rattle.rdm_num.proofs.Lives.{same_life-refl}
 
 -- a live send is one of the sends, and is not over
 pub live_parts : (own : Own) (ms : Messages) (log : List Deed) (s : Sent) → Member s (live_sends own ms log)

@@ -1,10 +1,9 @@
 -- The deeds of a life, by themselves.
 use Rattle.std.proofs.Common.{◌≡◌, ℕ, Bool, true, false, cond, List, [], ◌∷◌, length, Option, Some, None, refl, ◌⊎◌, sym, ◌∙◌, ap, subst}
 use Rattle.std.specs.Prelude.{not, slice_get}
-use Rattle.std.proofs.lemmas.Bool.{eq-eqb, eqb-true}
-use Rattle.rdm_num.specs.Lists.{first_case}
+use Rattle.std.proofs.lemmas.Bool.{eq-eqb, eqb-true, not-false}
+use Rattle.rdm_lists.specs.Lists.{first_case}
 use Rattle.rdm_num.specs.Lives.{life}
-use Rattle.rdm_num.specs.declared.numbers.PortNo.{PortNo}
 use Rattle.rdm_num.specs.declared.numbers.Connid.{Connid}
 use Rattle.rdm_num.specs.declared.numbers.Life.{Life}
 use Rattle.rdm_wire.specs.declared.Datagram.{Datagram}
@@ -37,6 +36,7 @@ use Rattle.rdm_model.specs.Classes.{item_class, body_class, class_of}
 use Rattle.rdm_model.specs.Takes.{class_answer, handled_answer}
 use Rattle.rdm_model.specs.Steps.{Does}
 use Rattle.rdm_model.specs.Local.{heard_by, own_scene, Local}
+use Rattle.rdm_num.proofs.Lives.{connid_is}
 
 -- the scene of a life that is open, by what it took itself
 abbrev pub life_scene : (ports : ℕ) → Own → (port_log log : List Deed) → Scene
@@ -69,19 +69,11 @@ TurnedAt own t k (d ∷ before) =
 abbrev pub life_of : ℕ → Connid → Life
 life_of port connid = record { port = record { 0 = port }; connid = connid }
 
--- identifiers of one number are one
-pub same_connid : (c d : Connid) → c.0 ≡ d.0 → c ≡ d
-same_connid c d h = ap (λ (n : ℕ). let x : Connid = record { 0 = n } in x) h
-
--- ports of one number are one
-pub same_port : (p q : PortNo) → p.0 ≡ q.0 → p ≡ q
-same_port p q h = ap (λ (n : ℕ). let x : PortNo = record { 0 = n } in x) h
-
 -- an identifier that is open
 pub is_connid-true : (o : Option Connid) (c : Connid) → is_connid o c ≡ true → o ≡ Some c
 unfolding is_connid
 is_connid-true None c h = cc
-is_connid-true (Some d) c h = ap Some (same_connid d c (eqb-true d.0 c.0 h))
+is_connid-true (Some d) c h = ap Some (connid_is d c (eqb-true d.0 c.0 h))
 
 -- the identifier that is open passes the test
 pub is_connid-from : (o : Option Connid) (c : Connid) → o ≡ Some c → is_connid o c ≡ true
@@ -183,11 +175,6 @@ push_step ports own port_log log d (Between from to load) b n =
     let p = push_is ports own port_log log d from to load b n in
     (p.out.turn', p.out.is)
 
--- what is not false is true
-pub not-false : (b : Bool) → not b ≡ false → b ≡ true
-not-false true h = refl
-not-false false h = cc
-
 -- where no case holds, the first one does not
 pub first_none : {A : Type 0} (b : Bool) (x : A) (cs : List (Bool × Option A)) → first_case ((b, Some x) ∷ cs) None ≡ None
     → (b ≡ false) × (first_case cs None ≡ None)
@@ -214,7 +201,7 @@ handle_step ports own port_log log d (Between from to load) (TookAnswer entered)
     let s = life_scene ports own port_log log in
     let none : body_class s d d.body ≡ None = taken_class s d (body_class s d d.body) entered (sym h) in
     let item : item_class s (life d.src from) to (item_of load) ≡ None = subst (λ x. body_class s d x ≡ None) b none in
-    let e : own.life.connid ≡ to = same_connid own.life.connid to (eqb-true own.life.connid.0 to.0 (item_to s (life d.src from) to (item_of load) item)) in
+    let e : own.life.connid ≡ to = connid_is own.life.connid to (eqb-true own.life.connid.0 to.0 (item_to s (life d.src from) to (item_of load) item)) in
     (ports, port_log, subst (λ x. item_class s (life d.src from) x (item_of load) ≡ None) (sym e) item)
 handle_step ports own port_log log d (Note note) (TookAnswer entered) b h = tt
 handle_step ports own port_log log d _ _ b h = tt

@@ -8,10 +8,10 @@ use Rattle.rdm_model.specs.declared.job.Job.{Job}
 use Rattle.rdm_model.specs.declared.entry.Entry.{Entry}
 use Rattle.rdm_model.specs.Lawful.{life_deeds, sent_to}
 use Rattle.rdm_model.specs.Standing.{pairs_in}
-use Rattle.rdm_model.proofs.Members.{slice_get-member}
 use Rattle.rdm_law.specs.Headline.{MatchedOnce}
 use Rattle.rdm_law.proofs.Numbered.{LacksPair, PairsApart, matching_numbered}
 use Rattle.rdm_law.proofs.Distinct.{matching_distinct}
+use Rattle.rdm_lists.proofs.Places.{slice_get-member}
 
 -- pairs that lack a receive have it at no place
 lacks_at : (n k : ℕ) (ps : List Pair) (p : Pair) → LacksPair n ps → slice_get ps k ≡ Some p → p.recv.id.0 ≡ n → ⊥

@@ -1,9 +1,8 @@
 -- How long the lists of a matcher grow.
-use Rattle.std.proofs.Common.{◌≡◌, ℕ, suc, ◌+◌, ◌≤◌, Bool, true, false, cond, not, List, [], ◌∷◌, ◌++◌, map, length, Option, Some, None, refl, arith, inl, inr, ap, subst}
+use Rattle.std.proofs.Common.{◌≡◌, ℕ, suc, ◌+◌, ◌≤◌, Bool, true, false, cond, not, List, [], ◌∷◌, ◌++◌, map, length, Option, Some, None, refl, arith, inl, inr, subst}
 use Rattle.std.specs.Prelude.{filter, find}
 use Rattle.std.proofs.lemmas.List.{length-append}
-use Rattle.std.proofs.lemmas.List.Elements.{filter-append}
-use Rattle.rdm_num.specs.Lists.{Member, without_first}
+use Rattle.rdm_lists.specs.Lists.{Member, without_first}
 use Rattle.rdm_num.specs.Lives.{is_life}
 use Rattle.rdm_num.specs.declared.numbers.RecvNo.{RecvNo}
 use Rattle.rdm_match.specs.declared.PostedRecv.{PostedRecv}
@@ -16,7 +15,8 @@ use Rattle.rdm_model.specs.Currents.{forgotten_by}
 use Rattle.rdm_model.specs.Heard.{entering}
 use Rattle.rdm_model.specs.Matches.{receive, receives, received_by, with_received, arrival, events_by, matching}
 use Rattle.rdm_model.specs.Receives.{withdrawn_by}
-use Rattle.rdm_model.proofs.Members.{member-map}
+use Rattle.rdm_lists.proofs.Members.{member-map}
+use Rattle.rdm_lists.proofs.Filters.{filter_length, without_length, without_found}
 
 -- 1 if it holds
 pub one : Bool → ℕ
@@ -51,35 +51,6 @@ split a p q (x ∷ xs) h k =
     let w = filter_step q x xs in
     omega arith
 
--- a filter has no more elements than its list
-pub filter_below : {A : Type 0} (p : A → Bool) (xs : List A) → length (filter p xs) ≤ length xs
-filter_below p [] = omega arith
-filter_below {A} p (x ∷ xs) =
-    let e = filter_below p xs in
-    elim (p x) as (λ b. length (cond b (x ∷ filter p xs) (filter p xs)) ≤ length (x ∷ xs)) [ true ↦ omega arith | false ↦ omega arith ]
-
--- a filter of a longer list
-pub filter_more : {A : Type 0} (p : A → Bool) (xs ys : List A) → length (filter p xs) ≤ length (filter p (xs ++ ys))
-filter_more p xs ys = let e = ap length (filter-append p xs ys) in let l = length-append (filter p xs) (filter p ys) in omega arith
-
--- a list without its first element that passes is no longer
-without_below : {A : Type 0} (t : A → Bool) (xs : List A) → length (without_first t xs) ≤ length xs
-unfolding without_first
-without_below t [] = omega arith
-without_below {A} t (x ∷ xs) =
-    let e = without_below t xs in
-    elim (t x) as (λ b. length (cond b xs (x ∷ without_first t xs)) ≤ length (x ∷ xs)) [ true ↦ omega arith | false ↦ omega arith ]
-
--- what is found and taken away is one
-without_found : {A : Type 0} (t : A → Bool) (xs : List A) (y : A) → find t xs ≡ Some y → suc (length (without_first t xs)) ≤ length xs
-unfolding without_first
-without_found t [] y h = cc
-without_found {A} t (x ∷ xs) y h =
-    (elim (t x) as (λ b. cond b (Some x) (find t xs) ≡ Some y → suc (length (cond b xs (x ∷ without_first t xs))) ≤ length (x ∷ xs)) [
-      | true ↦ λ e. omega arith
-      | false ↦ λ e. (let r = without_found t xs y e in omega arith)
-    ]) h
-
 -- how many receives a matcher has, posted or paired
 abbrev pub size : Matching → ℕ
 size m = length m.posted + length m.pairs
@@ -111,8 +82,8 @@ after_size : (m : Matching) (e : Event) → size (after m e) ≤ size m + adds e
 unfolding after
 after_size m (Post r) = post_size m r (find (accepts r) m.arrived)
 after_size m (Arrive a) = let s = arrive_size m a (find (λ r. accepts r a) m.posted) refl in omega arith
-after_size m (Cancel n) = let w = without_below (is_recv n) m.posted in omega arith
-after_size m (Forget l) = let w = filter_below (λ (r : PostedRecv). not (is_life r.from l)) m.posted in omega arith
+after_size m (Cancel n) = let w = without_length (is_recv n) m.posted in omega arith
+after_size m (Forget l) = let w = filter_length (λ (r : PostedRecv). not (is_life r.from l)) m.posted in omega arith
 
 -- a cancel of a posted receive takes one away
 cancel_size : (m : Matching) (n : ℕ) → suc (length (without_first (is_recv n) m.posted)) ≤ length m.posted → suc (size (after m (Cancel n))) ≤ size m

@@ -3,7 +3,7 @@ use Rattle.std.proofs.Common.{◌≡◌, ℕ, ◌<◌, true, false, not, ◌||�
 use Rattle.std.specs.Prelude.{nat_le}
 use Rattle.std.specs.List.{list_any}
 use Rattle.std.proofs.lemmas.Bool.{and_parts, and_from, or_parts, or_from, or_cases, lt-leb, not-true}
-use Rattle.rdm_num.specs.Lists.{Member}
+use Rattle.rdm_lists.specs.Lists.{Member}
 use Rattle.rdm_num.specs.Lives.{same_life, life}
 use Rattle.rdm_num.specs.declared.numbers.Life.{Life}
 use Rattle.rdm_num.specs.declared.numbers.Connid.{Connid}
@@ -35,7 +35,6 @@ use Rattle.rdm_model.specs.Wire.{PushedIn, Comes}
 use Rattle.rdm_model.specs.Settled.{waiting_datagrams, is_worn, is_worn_by, is_settled}
 use Rattle.rdm_model.specs.Lawful.{life_deeds, port_deeds, sent_scene}
 use Rattle.rdm_model.specs.Standing.{goes, drops_between, Standing}
-use Rattle.rdm_model.proofs.Members.{same_life-refl}
 use Rattle.rdm_law.proofs.Lives.{TurnedAt, is_connid-true}
 use Rattle.rdm_law.proofs.SmallBytes.{all_member}
 use Rattle.rdm_law.proofs.Handled.{life_newest}
@@ -43,14 +42,15 @@ use Rattle.rdm_law.proofs.Wired.{Played, played_before, took_to, bears_item}
 use Rattle.rdm_law.proofs.Waiting.{waits_in_history}
 use Rattle.rdm_law.proofs.Still.{quiet, open_rank, not_worn}
 use Rattle.rdm_law.proofs.Datagrams.{turned_carried}
-use Rattle.rdm_law.proofs.Delivered.{HandledIt, handled_cases, it_was, local_at, deed_stays, dropped_between, same_port}
+use Rattle.rdm_law.proofs.Delivered.{HandledIt, handled_cases, it_was, local_at, deed_stays, dropped_between}
+use Rattle.rdm_num.proofs.Lives.{same_life-refl, port_is}
 
 -- a datagram that was taken is a deed of the life
 took_deed : (job : Job) (i j : Life) (d : Datagram) (load : Load) (act : Act) (answer : Handled) (what : _) → act ≡ Handle d answer → answer ≡ TookAnswer what → d.body ≡ Between j.connid i.connid load → d.src.0 ≡ j.port.0
     → deed_of (rank_of job i.port.0).ops act ≡ Took j (item_of load)
 unfolding deed_of deed_by_handle
 took_deed job i j d load act answer what a k b s =
-    let x : ◌≡◌ {A = Life} (life d.src j.connid) j = ap (λ (p : PortNo). let y : Life = record { port = p; connid = j.connid } in y) (same_port d.src j.port s) in
+    let x : ◌≡◌ {A = Life} (life d.src j.connid) j = ap (λ (p : PortNo). let y : Life = record { port = p; connid = j.connid } in y) (port_is d.src j.port s) in
     rw (a, k, b) (ap (λ (l : Life). Took l (item_of load)) x)
 
 -- the open life of a port
@@ -158,14 +158,14 @@ waits_unheard job history i j d load m w s b stamp =
     let fresh = fresh_stamp job (log_of i.port.0 history) d m.standing.clock_i stamp in
     let early : is_again_early lives_class S d ≡ true = elim (or_cases (is_again_early lives_class S d) (is_worn_by job (log_of i.port.0 history) d) t) [ inl a ↦ a | inr a ↦ cc ] in
     let u = unheard_body S d j.connid i.connid load b (again_place lives_class S d early) in
-    let x : ◌≡◌ {A = Life} (life d.src j.connid) j = ap (λ (p : PortNo). let y : Life = record { port = p; connid = j.connid } in y) (same_port d.src j.port s) in
+    let x : ◌≡◌ {A = Life} (life d.src j.connid) j = ap (λ (p : PortNo). let y : Life = record { port = p; connid = j.connid } in y) (port_is d.src j.port s) in
     subst (λ (l : Life). IsUnheard (life_deeds job history i) l (item_of load)) x (subst (λ (log : List Deed). IsUnheard log (life d.src j.connid) (item_of load)) (sent_log job history i m.standing.open_i) u)
 
 -- it goes from the one life to the other
 goes_from : (i j : Life) (d : Datagram) (load : Load) → d.src.0 ≡ j.port.0 → d.dst ≡ i.port → d.body ≡ Between j.connid i.connid load → goes j i d d.body ≡ true
 unfolding goes
 goes_from i j d load s t b =
-    let x : ◌≡◌ {A = Life} (life d.src j.connid) j = ap (λ (p : PortNo). let y : Life = record { port = p; connid = j.connid } in y) (same_port d.src j.port s) in
+    let x : ◌≡◌ {A = Life} (life d.src j.connid) j = ap (λ (p : PortNo). let y : Life = record { port = p; connid = j.connid } in y) (port_is d.src j.port s) in
     let z : ◌≡◌ {A = Life} (life d.dst i.connid) i = ap (λ (p : PortNo). let y : Life = record { port = p; connid = i.connid } in y) t in
     rw b (and_from _ _ (ap (λ (l : Life). same_life l j) x ∙ same_life-refl j) (ap (λ (l : Life). same_life l i) z ∙ same_life-refl i))
 

@@ -1,6 +1,6 @@
 -- A plain life pushes each message once: a message that waits was not heard of yet.
 use Rattle.std.proofs.Common.{◌≡◌, ℕ, ◌-◌, false, is_some, slice_get, List, [], ◌∷◌, Option, Some, None, IsTrue, refl, inl, inr, sym, ◌∙◌, ap, subst}
-use Rattle.rdm_num.specs.Lists.{Member}
+use Rattle.rdm_lists.specs.Lists.{Member}
 use Rattle.rdm_num.specs.Lives.{life}
 use Rattle.rdm_num.specs.declared.numbers.PortNo.{PortNo}
 use Rattle.rdm_num.specs.declared.numbers.Connid.{Connid}
@@ -35,7 +35,7 @@ use Rattle.rdm_model.specs.Wire.{PushedIn, IsOther, IsUnhandled}
 use Rattle.rdm_model.specs.Worlds.{World}
 use Rattle.rdm_model.proofs.Numbers.{placed}
 use Rattle.rdm_model.proofs.Sending.{IsSingle}
-use Rattle.rdm_law.proofs.Lives.{life_of, same_port, TurnedAt}
+use Rattle.rdm_law.proofs.Lives.{life_of, TurnedAt}
 use Rattle.rdm_law.proofs.Pushed.{PlacedAt, placed_once, PushedTurn, pushed_turn}
 use Rattle.rdm_law.proofs.Wired.{HandledIn, taken_handled, bears_item}
 use Rattle.rdm_law.proofs.Turned.{own_sends, turn_member, turn_rtm, turn_opening}
@@ -51,6 +51,7 @@ use Rattle.rdm_law.proofs.Sound.{waiting_in}
 use Rattle.rdm_law.proofs.PlainTurns.{plain_sends, plain_kind}
 use Rattle.rdm_law.proofs.PlainPorts.{PlainJob, IsPlainBody, handled_plain, life_plain}
 use Rattle.rdm_law.proofs.PlainPlayed.{PlainWorld}
+use Rattle.rdm_num.proofs.Lives.{port_is}
 
 -- a packet that opens the message of a number to a life had the turn
 pub record RtmTurn (own : Own) (to : Life) (number : MsgNo) (k : ℕ) (log : List Deed) : Type 0 where
@@ -168,7 +169,7 @@ plain_to lives first d (Note note) from to load h is = cc
 
 -- plain datagrams for one port are for one life
 one_dest : (lives : ℕ → Connid) (d q : Datagram) (a b : Connid) → d.dst.0 ≡ q.dst.0 → a ≡ lives d.dst.0 → b ≡ lives q.dst.0 → life d.dst a ≡ life q.dst b
-one_dest lives d q a b dst ha hb = ap (λ (p : PortNo). life p a) (same_port d.dst q.dst dst) ∙ ap (λ (c : Connid). life q.dst c) (ha ∙ ap lives dst ∙ sym hb)
+one_dest lives d q a b dst ha hb = ap (λ (p : PortNo). life p a) (port_is d.dst q.dst dst) ∙ ap (λ (c : Connid). life q.dst c) (ha ∙ ap lives dst ∙ sym hb)
 
 -- where nothing was heard
 heard_none : (o : Option Head) → ((h : Head) → o ≡ Some h → ⊥) → is_some o ≡ false

@@ -1,7 +1,7 @@
 -- No more datagrams are handled or in stashes than were pushed, so the changes of a world are at most twice its entries.
 use Rattle.std.proofs.Common.{◌≡◌, ℕ, zero, suc, ◌+◌, ◌*◌, ◌<◌, ◌≤◌, List, [], ◌∷◌, ◌++◌, length, refl, arith, inl, inr, sym, ◌∙◌, ap, subst, length-append}
 use Rattle.std.proofs.lemmas.Bool.{cases_lt}
-use Rattle.rdm_num.specs.Lists.{Member}
+use Rattle.rdm_lists.specs.Lists.{Member}
 use Rattle.rdm_num.specs.declared.numbers.PortNo.{PortNo}
 use Rattle.rdm_wire.specs.declared.Datagram.{Datagram}
 use Rattle.rdm_model.specs.declared.job.Job.{Job}
@@ -14,7 +14,6 @@ use Rattle.rdm_model.specs.Steps.{count}
 use Rattle.rdm_model.specs.Wire.{PushedIn}
 use Rattle.rdm_model.specs.Joint.{IsJoint}
 use Rattle.rdm_model.specs.Worlds.{World}
-use Rattle.rdm_model.proofs.Members.{member-append_cases, member-append_left, member-append_right}
 use Rattle.rdm_law.proofs.Apart.{Differ, AreApart}
 use Rattle.rdm_law.proofs.Delivers.{Waits, Delivers, pushed_once}
 use Rattle.rdm_law.proofs.Sound.{Sound, waiting_in}
@@ -23,6 +22,7 @@ use Rattle.rdm_law.proofs.Logs.{at_log_of}
 use Rattle.rdm_law.proofs.Outside.{OutsideEmpty}
 use Rattle.rdm_law.proofs.Counted.{is_handling, measure, sum_below, sum_same, sum_change, IsCounted}
 use Rattle.rdm_law.proofs.HandledApart.{handled_in, unhandled_differs, handled_count, Came, handled_came, apart_append, handled_apart}
+use Rattle.rdm_lists.proofs.Members.{member-append_left, member-append_right, member-append_cases}
 
 -- what came to a port: handled, or in its stash
 abbrev pub came_to : World → ℕ → List Datagram

@@ -2,7 +2,7 @@
 use Rattle.std.proofs.Common.{◌≡◌, ℕ, Bool, true, false, cond, List, [], ◌∷◌, ◌++◌, map, Option, Some, None, ◌⊎◌, inl, inr, sym, ◌∙◌, ap, subst}
 use Rattle.std.specs.Prelude.{◌==◌, flat_map, find, nat_lt, not, ◌&&◌}
 use Rattle.std.specs.List.{list_any}
-use Rattle.rdm_num.specs.Lists.{Member}
+use Rattle.rdm_lists.specs.Lists.{Member}
 use Rattle.rdm_num.specs.Lives.{same_life}
 use Rattle.rdm_num.specs.declared.numbers.Life.{Life}
 use Rattle.rdm_num.specs.declared.numbers.OpId.{OpId}
@@ -18,13 +18,12 @@ use Rattle.rdm_model.specs.Receives.{is_filled}
 use Rattle.rdm_model.specs.Grants.{window, granted_bytes}
 use Rattle.rdm_model.specs.Sends.{Sent}
 use Rattle.rdm_model.specs.Replies.{Reply, reply, is_from, handshake_by, asks_for, grant_for, end_for, pair_items, pair_replies, given_of, given_by, replies_by}
-use Rattle.rdm_model.proofs.Lists.{member-flat_map}
-use Rattle.rdm_model.proofs.Members.{member-append_cases, member-map}
 use Rattle.rdm_law.proofs.Numbered.{matching_numbered}
 use Rattle.rdm_law.proofs.Unique.{Unique, unique_none, unique_one, unique_append, unique_map, unique_pairs}
 use Rattle.rdm_law.proofs.Asks.{AsksShare, asks_for_unique}
 use Rattle.rdm_law.proofs.Owed.{shape_in, recv_in, cond_member, items_from, shake_from, given_from, grant_from, end_from}
 use Rattle.rdm_law.proofs.Clashes.{Shakes, AsksBytes, Grants, Ends, GivesBytes, kind_of, recv_of, item_of_pair}
+use Rattle.rdm_lists.proofs.Members.{member-append_cases, member-map, member-flat_map}
 
 -- a list that is there if a test holds
 unique_cond : {A : Type 0} (K : A → A → Type 0) (b : Bool) (xs : List A) → Unique K xs → Unique K (cond b xs [])

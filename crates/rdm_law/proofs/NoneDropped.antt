@@ -1,11 +1,10 @@
 -- Where each rank has one life, nothing is dropped.
-use Rattle.std.proofs.Common.{◌≡◌, ℕ, zero, suc, ◌<◌, ◌≤◌, Bool, true, false, List, [], ◌∷◌, Option, Some, None, refl, arith, inl, inr, sym, ◌∙◌, ap, subst}
+use Rattle.std.proofs.Common.{◌≡◌, ℕ, ◌<◌, ◌≤◌, Bool, true, false, List, [], ◌∷◌, Option, Some, None, refl, arith, inl, inr, sym, ◌∙◌, ap, subst}
 use Rattle.std.specs.Prelude.{not, nat_eq}
 use Rattle.std.specs.List.{list_any, list_all}
-use Rattle.std.proofs.lemmas.Bool.{and_parts, cases_lt, not-true, false_from_ne_true, and_from, eq-eqb, or_cases}
+use Rattle.std.proofs.lemmas.Bool.{cases_lt, not-true, false_from_ne_true, and_from, eq-eqb, or_cases}
 use Rattle.std.proofs.lemmas.List.{get_or_past}
-use Rattle.std.proofs.lemmas.List.Folds.{list_all-append}
-use Rattle.rdm_num.specs.Lists.{Member, below, first_case}
+use Rattle.rdm_lists.specs.Lists.{Member, below, first_case}
 use Rattle.rdm_num.specs.Lives.{same_life, life}
 use Rattle.rdm_num.specs.declared.numbers.PortNo.{PortNo}
 use Rattle.rdm_num.specs.declared.numbers.Connid.{Connid}
@@ -37,7 +36,6 @@ use Rattle.rdm_model.specs.Standing.{is_drop, has_one_life, NoneIsDropped}
 use Rattle.rdm_model.specs.Local.{own_scene}
 use Rattle.rdm_model.specs.Lawful.{port_deeds, life_deeds}
 use Rattle.rdm_model.specs.Wire.{PushedIn, Comes}
-use Rattle.rdm_model.proofs.Members.{same_life-true, same_life-refl}
 use Rattle.rdm_model.proofs.Numbers.{made}
 use Rattle.rdm_law.proofs.Lives.{life_of, life_scene, is_connid-from, opened_scene}
 use Rattle.rdm_law.proofs.Wired.{Played, played_before, TakenAs, TakenTurn, pushed_taken}
@@ -51,6 +49,8 @@ use Rattle.rdm_law.proofs.ClassLives.{AllFree, class_lives}
 use Rattle.rdm_law.proofs.Opened.{IsOpened}
 use Rattle.rdm_law.proofs.Knows.{HasMet, met_opened, current_met, met_longer, pushed_opened}
 use Rattle.rdm_law.proofs.OneLife.{OneLife, did_op, one_life, one_open, open_stays}
+use Rattle.rdm_num.proofs.Lives.{same_life-true, same_life-refl}
+use Rattle.rdm_lists.proofs.Below.{all_below}
 
 -- a port past the ranks has no instructions
 past_ops : (job : Job) (port : ℕ) → port_count job ≤ port → (rank_of job port).ops ≡ []
@@ -70,24 +70,13 @@ opened_port job history l m =
       | inr past ↦ (let never = subst (λ ops. Member (OpenLife l.connid) ops) (past_ops job l.port.0 past) (opened_op job history l m) in elim never [ ])
     ]
 
--- each number below n passes
-each_passes : (p : ℕ → Bool) (n k : ℕ) → list_all p (below n) ≡ true → k < n → p k ≡ true
-unfolding below
-each_passes p zero k h l = absurd (omega arith)
-each_passes p (suc n) k h l =
-    let parts = and_parts (list_all p (below n)) (list_all p (n ∷ [])) (sym (list_all-append p (below n) (n ∷ [])) ∙ h) in
-    elim (cases_lt k n) [
-      | inl less ↦ each_passes p n k parts.0 less
-      | inr more ↦ (let e : k ≡ n = omega arith in ap p e ∙ (and_parts (p n) true parts.1).0)
-    ]
-
 -- each rank of the job has one life
 abbrev pub AllOne : Job → Type 0
 AllOne job = list_all (has_one_life job) (below (port_count job)) ≡ true
 
 -- a life that was opened is the one of its rank
 opened_one : (job : Job) (history : List Entry) (l : Life) → AllOne job → IsOpened job history l → OneLife (rank_of job l.port.0).ops
-opened_one job history l one m = one_life job l.port.0 (each_passes (has_one_life job) (port_count job) l.port.0 one (opened_port job history l m))
+opened_one job history l one m = one_life job l.port.0 (all_below (has_one_life job) (port_count job) l.port.0 one (opened_port job history l m))
 
 -- lives of one port and identifier pass the test
 same_from : (l m : Life) → l.port.0 ≡ m.port.0 → l.connid ≡ m.connid → same_life l m ≡ true

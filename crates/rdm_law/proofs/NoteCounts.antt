@@ -1,9 +1,9 @@
 -- Notes that were pushed are no more than were owed, and polls no more than completions.
-use Rattle.std.proofs.Common.{◌≡◌, ℕ, zero, suc, ◌+◌, ◌*◌, ◌<◌, ◌≤◌, Bool, true, false, cond, not, List, [], ◌∷◌, length, Option, Some, refl, arith, ap, subst, length-append}
+use Rattle.std.proofs.Common.{◌≡◌, ℕ, zero, suc, ◌+◌, ◌*◌, ◌<◌, ◌≤◌, not, List, [], ◌∷◌, length, Option, Some, refl, arith, ap, subst, length-append}
 use Rattle.std.specs.Prelude.{◌==◌, slice_get, filter}
 use Rattle.std.proofs.lemmas.Option.{slice_get_within}
 use Rattle.std.proofs.lemmas.List.{length-map}
-use Rattle.rdm_num.specs.Lists.{below}
+use Rattle.rdm_lists.specs.Lists.{below}
 use Rattle.rdm_num.specs.declared.numbers.PortNo.{PortNo}
 use Rattle.rdm_wire.specs.declared.Datagram.{Datagram}
 use Rattle.rdm_wire.specs.declared.Body.{Body}
@@ -31,33 +31,27 @@ use Rattle.rdm_model.specs.Steps.{Does}
 use Rattle.rdm_model.specs.Local.{heard_by, own_scene, Local}
 use Rattle.rdm_model.proofs.SameCompletions.{completions_same}
 use Rattle.rdm_model.proofs.Grows.{agree_grows}
-use Rattle.rdm_law.proofs.Whole.{length-below}
 use Rattle.rdm_law.proofs.Lives.{LifeStep, LifeLocal}
 use Rattle.rdm_law.proofs.Wired.{Played}
 use Rattle.rdm_law.proofs.Opened.{first_note, no_life_note}
 use Rattle.rdm_law.proofs.Knows.{own_port}
-use Rattle.rdm_law.proofs.Totals.{total}
 use Rattle.rdm_law.proofs.Pigeons.{total_to, total_to_le}
 use Rattle.rdm_law.proofs.EntryCounts.{entry_weight, by_ports, past_ports}
 use Rattle.rdm_law.proofs.LifeCounts.{deed_weight, deed_le, deed_at}
+use Rattle.rdm_lists.proofs.Below.{length-below}
+use Rattle.rdm_lists.proofs.Sums.{total}
+use Rattle.rdm_lists.proofs.Filters.{filter_length}
 
 -- 1 for each instruction
 abbrev pub one : Instr → ℕ
 one i = 1
-
--- a filter leaves no more
-filter_le : {A : Type 0} (p : A → Bool) (xs : List A) → length (filter p xs) ≤ length xs
-filter_le p [] = omega arith
-filter_le p (x ∷ xs) =
-    let r = filter_le p xs in
-    elim (p x) as (λ b. length (cond b (x ∷ filter p xs) (filter p xs)) ≤ length (x ∷ xs)) [ true ↦ omega arith | false ↦ omega arith ]
 
 -- a deed makes 16 notes owed at most
 notes_few : (ports port : ℕ) (d : Deed) → ports ≤ 16 → length (notes_by ports port d) ≤ 16 * deed_weight one d
 unfolding notes_by deed_weight
 notes_few ports port (Did (OpenLife connid)) le =
     let xs = filter (λ p. not (p == port)) (below ports) in
-    let a = filter_le (λ p. not (p == port)) (below ports) in
+    let a = filter_length (λ p. not (p == port)) (below ports) in
     let b = length-below ports in
     let c = length-map xs (note_to (OpenedNote connid)) in
     omega arith

@@ -2,7 +2,7 @@
 use Rattle.std.proofs.Common.{◌≡◌, ℕ, ◌<◌, ◌≤◌, Bool, true, false, cond, List, [], ◌∷◌, ◌++◌, map, length, Option, Some, None, refl, arith, inl, inr, sym, ◌∙◌, ap, subst}
 use Rattle.std.specs.Prelude.{find, filter}
 use Rattle.std.proofs.lemmas.List.{append-nil, length-append}
-use Rattle.rdm_num.specs.Lists.{Member, without_first}
+use Rattle.rdm_lists.specs.Lists.{Member, without_first}
 use Rattle.rdm_match.specs.declared.PostedRecv.{PostedRecv}
 use Rattle.rdm_match.specs.declared.Arrived.{Arrived}
 use Rattle.rdm_match.specs.Matcher.{Event, Post, Arrive, Cancel, Forget, Pair, Matching, accepts, after_post, after_arrive, after, run}
@@ -12,7 +12,7 @@ use Rattle.rdm_model.specs.Owns.{Heads}
 use Rattle.rdm_model.specs.Currents.{forgotten_by}
 use Rattle.rdm_model.specs.Heard.{entering}
 use Rattle.rdm_model.specs.Matches.{Receive, receive, receives, received_by, with_received, arrival, events_by, matching}
-use Rattle.rdm_model.proofs.Members.{member-append_cases, member-filter, member-map, find_member, without_member}
+use Rattle.rdm_lists.proofs.Members.{member-append_cases, member-filter, member-map, find_member, without_member}
 
 -- the receives have numbers of their own, below a bound
 abbrev pub Lacks : ℕ → List PostedRecv → Type 0

@@ -3,7 +3,7 @@ use Rattle.std.proofs.Common.{◌≡◌, ℕ, true, false, List, [], ◌∷◌, 
 use Rattle.std.specs.Prelude.{not, nat_eq, slice_get, filter}
 use Rattle.std.specs.List.{list_any}
 use Rattle.std.proofs.lemmas.Bool.{and_parts, eqb-true, not-true}
-use Rattle.rdm_num.specs.Lists.{Member}
+use Rattle.rdm_lists.specs.Lists.{Member}
 use Rattle.rdm_num.specs.declared.numbers.Connid.{Connid}
 use Rattle.rdm_model.specs.declared.job.Job.{Job}
 use Rattle.rdm_model.specs.declared.job.Instr.{Instr}
@@ -16,8 +16,9 @@ use Rattle.rdm_model.specs.declared.entry.Act.TheVariants.{Next, Push, Handle, P
 use Rattle.rdm_model.specs.Deeds.{Deed, Did, deed_by_next, deed_of, deeds, open_after, open_life}
 use Rattle.rdm_model.specs.Owns.{rank_of}
 use Rattle.rdm_model.specs.Standing.{is_open_op, is_close_op, has_one_life}
-use Rattle.rdm_model.proofs.Members.{filter-member, member_list_any, slice_get-member}
 use Rattle.rdm_law.proofs.Knows.{push_did, handle_did}
+use Rattle.rdm_lists.proofs.Members.{filter-member, member_list_any}
+use Rattle.rdm_lists.proofs.Places.{slice_get-member}
 
 -- an instruction that did is one of the program
 next_op : (ops : List Instr) (index : ℕ) (o : Option Instr) (answer : Answer) (x : Instr) → slice_get ops index ≡ o → deed_by_next o answer ≡ Did x → Member x ops

@@ -1,7 +1,7 @@
 -- Each life that a life has to do with was opened.
 use Rattle.std.proofs.Common.{◌≡◌, ℕ, List, [], ◌∷◌, Option, Some, None, inl, inr, ap, subst}
 use Rattle.std.specs.Prelude.{not, ◌==◌, filter}
-use Rattle.rdm_num.specs.Lists.{Member, below}
+use Rattle.rdm_lists.specs.Lists.{Member, below}
 use Rattle.rdm_num.specs.declared.numbers.Connid.{Connid}
 use Rattle.rdm_num.specs.declared.numbers.Life.{Life}
 use Rattle.rdm_wire.specs.declared.Datagram.{Datagram}
@@ -22,7 +22,8 @@ use Rattle.rdm_model.specs.Steps.{Does}
 use Rattle.rdm_model.specs.Local.{own_scene, Local}
 use Rattle.rdm_model.specs.Lawful.{port_deeds}
 use Rattle.rdm_model.specs.Wire.{PushedIn}
-use Rattle.rdm_model.proofs.Members.{member-append_cases, member-map, slice_get-member}
+use Rattle.rdm_lists.proofs.Members.{member-append_cases, member-map}
+use Rattle.rdm_lists.proofs.Places.{slice_get-member}
 
 -- a deed of the port opened the life
 abbrev pub IsOpened : Job → List Entry → Life → Type 0

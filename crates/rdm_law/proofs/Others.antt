@@ -1,9 +1,10 @@
 -- Messages and numbers that stand in a list once.
 use Rattle.std.proofs.Common.{◌≡◌, ℕ, zero, suc, ◌+◌, ◌<◌, Bool, true, false, cond, List, [], ◌∷◌, ◌++◌, map, Some, refl, arith, inl, inr, sym, ◌∙◌, ap, subst}
 use Rattle.std.specs.Prelude.{find, filter}
-use Rattle.rdm_num.specs.Lists.{Member, without_first, below}
+use Rattle.rdm_lists.specs.Lists.{Member, without_first, below}
 use Rattle.rdm_match.specs.declared.Arrived.{Arrived}
-use Rattle.rdm_model.proofs.Members.{member-append_cases, find_member}
+use Rattle.rdm_lists.proofs.Members.{find_member}
+use Rattle.rdm_lists.proofs.Below.{member_below}
 
 -- the message is none of the list
 abbrev pub Other : Arrived → List Arrived → Type 0
@@ -89,21 +90,11 @@ pub apart_push : (k : ℕ) (ks : List ℕ) → NumbersApart ks → ((j : ℕ) �
 apart_push k [] l h = (tt, tt)
 apart_push k (j ∷ ks) l h = (lacks_push j k ks l.0 (λ e. h j (inl refl) (sym e)), apart_push k ks l.1 (λ i m. h i (inr m)))
 
--- the numbers below n are below it
-pub below_member : (n k : ℕ) → Member k (below n) → k < n
-unfolding below
-below_member zero k h = elim h [ ]
-below_member (suc n) k h =
-    elim (member-append_cases k (below n) _ h) [
-      | inl a ↦ let l = below_member n k a in omega arith
-      | inr a ↦ elim a [ inl is ↦ omega arith | inr never ↦ elim never [ ] ]
-    ]
-
 -- each of them once
 pub below_apart : (n : ℕ) → NumbersApart (below n)
 unfolding below
 below_apart zero = tt
-below_apart (suc n) = apart_push n (below n) (below_apart n) (λ j h e. let l = below_member n j h in omega arith)
+below_apart (suc n) = apart_push n (below n) (below_apart n) (λ j h e. let l = member_below n j h in omega arith)
 
 -- a filter lacks no less
 pub lacks_filter : (p : ℕ → Bool) (n : ℕ) (ks : List ℕ) → LacksNumber n ks → LacksNumber n (filter p ks)

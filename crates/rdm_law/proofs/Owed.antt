@@ -3,7 +3,7 @@ use Rattle.std.proofs.Common.{◌≡◌, ℕ, ◌<◌, Bool, true, false, cond, 
 use Rattle.std.specs.Prelude.{◌==◌, flat_map, find, nat_lt}
 use Rattle.std.specs.List.{list_any}
 use Rattle.std.proofs.lemmas.Bool.{and_parts, eqb-true, not-true, ltb-true}
-use Rattle.rdm_num.specs.Lists.{Member}
+use Rattle.rdm_lists.specs.Lists.{Member}
 use Rattle.rdm_num.specs.Lives.{same_life}
 use Rattle.rdm_num.specs.declared.numbers.Life.{Life}
 use Rattle.rdm_num.specs.declared.numbers.OpId.{OpId}
@@ -19,9 +19,9 @@ use Rattle.rdm_model.specs.Receives.{is_filled}
 use Rattle.rdm_model.specs.Sends.{Sent, sends}
 use Rattle.rdm_model.specs.Grants.{window, granted_bytes}
 use Rattle.rdm_model.specs.Replies.{Reply, reply, is_from, handshake_by, asks_for, grant_for, end_for, pair_items, pair_replies, given_of, given_by, replies_by}
-use Rattle.rdm_model.proofs.Lists.{member-flat_map}
-use Rattle.rdm_model.proofs.Members.{member-append_cases, member-map, find_member, same_life-true}
 use Rattle.rdm_law.proofs.Queue.{owed}
+use Rattle.rdm_lists.proofs.Members.{member-append_cases, member-map, member-flat_map, find_member}
+use Rattle.rdm_num.proofs.Lives.{same_life-true}
 
 -- the shape of a pair's message
 abbrev pub shape_in : Heads → Pair → Shape

@@ -3,7 +3,7 @@ use Rattle.std.proofs.Common.{◌≡◌, ℕ, Bool, true, false, cond, not, ◌&
 use Rattle.std.specs.Prelude.{◌==◌, find}
 use Rattle.std.specs.List.{flat_map}
 use Rattle.std.proofs.lemmas.Bool.{and_parts, and_from, eqb-true, cases_Bool, not_from_false}
-use Rattle.rdm_num.specs.Lists.{Member}
+use Rattle.rdm_lists.specs.Lists.{Member}
 use Rattle.rdm_num.specs.Lives.{same_life}
 use Rattle.rdm_num.specs.declared.numbers.Life.{Life}
 use Rattle.rdm_match.specs.Matcher.{Pair, is_pair}
@@ -17,7 +17,6 @@ use Rattle.rdm_model.specs.Sends.{Sent, sends}
 use Rattle.rdm_model.specs.Named.{live_send, is_good_ask, is_bad_key}
 use Rattle.rdm_model.specs.Scenes.{Scene}
 use Rattle.rdm_model.specs.Local.{heard_by}
-use Rattle.rdm_model.proofs.Members.{member-append_left, member-append_right, map-member, find_member, member_find, some_of, same_life-true}
 use Rattle.rdm_model.proofs.Matches.{is_pair_member}
 use Rattle.rdm_model.proofs.SameRegions.{Agree, agree_before, sends_same}
 use Rattle.rdm_model.proofs.Grows.{agree_grows}
@@ -30,12 +29,9 @@ use Rattle.rdm_law.proofs.Queue.{owed}
 use Rattle.rdm_law.proofs.Owed.{shape_in, recv_in}
 use Rattle.rdm_law.proofs.Classed.{taken_parts}
 use Rattle.rdm_law.proofs.LiveSends.{live_parts}
-
--- what one element makes is among what all make
-in_flat_map : {A B : Type 0} (f : A → List B) (x : A) (xs : List A) (y : B) → Member x xs → Member y (f x) → Member y (flat_map f xs)
-in_flat_map f x [] y h k = elim h [ ]
-in_flat_map {A} {B} f x (z ∷ xs) y (inl is) k = member-append_left y (f z) (flat_map f xs) (subst (λ (w : A). Member y (f w)) (sym is) k)
-in_flat_map f x (z ∷ xs) y (inr h) k = member-append_right y (f z) (flat_map f xs) (in_flat_map f x xs y h k)
+use Rattle.rdm_lists.proofs.Members.{member-append_left, member-append_right, map-member, find_member, member_find, flat_map-member}
+use Rattle.rdm_lists.proofs.Options.{some_of}
+use Rattle.rdm_num.proofs.Lives.{same_life-true}
 
 -- what was owed stays owed
 owed_earlier : (own : Own) (ms : Messages) (d : Deed) (before : List Deed) (r : Reply) → Member r (owed own ms before) → Member r (owed own ms (d ∷ before))
@@ -50,7 +46,7 @@ pair_owed own ms d before p x m h =
     let r : Reply = reply p.message.life x in
     let shakes = handshake_by own before d in
     let mine : Member r (pair_replies own ms.head d before p) = map-member (reply p.message.life) x (pair_items own ms.head d before p) h in
-    let all = in_flat_map (pair_replies own ms.head d before) p (pairs own.limits.first ms.head (d ∷ before)) r m mine in
+    let all = flat_map-member (pair_replies own ms.head d before) p (pairs own.limits.first ms.head (d ∷ before)) r m mine in
     member-append_right r (owed own ms before) (replies_by own ms.head (sends own ms before) d before)
     (member-append_left r (shakes ++ flat_map (pair_replies own ms.head d before) (pairs own.limits.first ms.head (d ∷ before))) (given_by (sends own ms before) d)
     (member-append_right r shakes (flat_map (pair_replies own ms.head d before) (pairs own.limits.first ms.head (d ∷ before))) all))

@@ -4,7 +4,7 @@ use Rattle.std.specs.Prelude.{◌==◌}
 use Rattle.std.specs.List.{flat_map}
 use Rattle.std.proofs.lemmas.Bool.{eqb-false}
 use Rattle.std.proofs.lemmas.List.{length-append, length-map}
-use Rattle.rdm_num.specs.Lists.{Member}
+use Rattle.rdm_lists.specs.Lists.{Member}
 use Rattle.rdm_num.specs.declared.numbers.Life.{Life}
 use Rattle.rdm_num.specs.declared.numbers.OpId.{OpId}
 use Rattle.rdm_num.specs.declared.lists.IovEntry.{IovEntry}
@@ -33,9 +33,10 @@ use Rattle.rdm_law.proofs.Asks.{iov_bytes}
 use Rattle.rdm_law.proofs.ClassKeys.{sent_size}
 use Rattle.rdm_law.proofs.Owed.{shape_in, recv_in}
 use Rattle.rdm_law.proofs.Queue.{owed}
-use Rattle.rdm_law.proofs.Totals.{total, total-append, total_le, total_plus, is_ask}
+use Rattle.rdm_law.proofs.Totals.{is_ask}
 use Rattle.rdm_law.proofs.SeenLives.{seen_new, seen_lives, greeted}
 use Rattle.rdm_law.proofs.PairCounts.{item_count, pair_bound}
+use Rattle.rdm_lists.proofs.Sums.{total, total-append, total_le, total_plus}
 
 -- a list of lists in a row is as long as they are together
 flat_length : {A B : Type 0} (f : A → List B) (xs : List A) → length (flat_map f xs) ≡ total (λ x. length (f x)) xs

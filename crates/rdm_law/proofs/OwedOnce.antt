@@ -2,7 +2,7 @@
 use Rattle.std.proofs.Common.{◌≡◌, ℕ, ◌≤◌, true, false, List, [], ◌∷◌, length, take, drop, Some, arith, inl, inr, sym, ◌∙◌, ap, subst}
 use Rattle.std.specs.List.{list_any}
 use Rattle.std.proofs.lemmas.List.{length-take}
-use Rattle.rdm_num.specs.Lists.{Member}
+use Rattle.rdm_lists.specs.Lists.{Member}
 use Rattle.rdm_num.specs.declared.numbers.Life.{Life}
 use Rattle.rdm_num.specs.declared.numbers.OpId.{OpId}
 use Rattle.rdm_wire.specs.declared.ReadAsk.{ReadAsk}
@@ -14,7 +14,6 @@ use Rattle.rdm_model.specs.Matches.{pairs}
 use Rattle.rdm_model.specs.Receives.{is_filled}
 use Rattle.rdm_model.specs.Sends.{sends}
 use Rattle.rdm_model.specs.Replies.{Reply, reply, is_from, replies_by}
-use Rattle.rdm_model.proofs.Members.{member_list_any, same_life-refl}
 use Rattle.rdm_model.proofs.Matches.{member_is_pair, pair_still}
 use Rattle.rdm_law.proofs.Numbered.{matching_numbered}
 use Rattle.rdm_law.proofs.Unique.{Unique, unique_none, unique_append}
@@ -24,6 +23,8 @@ use Rattle.rdm_law.proofs.Owed.{shape_in, recv_in, NewReply, OwedIn, new_from, o
 use Rattle.rdm_law.proofs.Clashes.{ClashShake, ClashAsk, ClashEnd, ClashGiven, Clash, clash_back, clash_kind, clash_recv}
 use Rattle.rdm_law.proofs.Causes.{owed_ask, owed_end, owed_shake, owed_given}
 use Rattle.rdm_law.proofs.NewReplies.{Telling, new_unique}
+use Rattle.rdm_lists.proofs.Members.{member_list_any}
+use Rattle.rdm_num.proofs.Lives.{same_life-refl}
 
 -- asks that clash share a byte
 asks_share : (to : Life) (a b : ReadAsk) → Clash (reply to (Asks a)) (reply to (Asks b)) → AsksShare a b

@@ -2,7 +2,7 @@
 use Rattle.std.proofs.Common.{◌≡◌, ℕ, false, not, List, [], ◌∷◌, ◌++◌, length, Some, None, refl, ◌⊎◌, inl, inr, sym, ap, subst}
 use Rattle.std.specs.Prelude.{slice_get}
 use Rattle.std.specs.List.{list_any}
-use Rattle.rdm_num.specs.Lists.{Member}
+use Rattle.rdm_lists.specs.Lists.{Member}
 use Rattle.rdm_num.specs.Lives.{same_life}
 use Rattle.rdm_num.specs.declared.numbers.Life.{Life}
 use Rattle.rdm_model.specs.Deeds.{Deed, Did, PushedNote, Pushed, TookNote, Took, Polled, Nothing}
@@ -11,9 +11,10 @@ use Rattle.rdm_model.specs.Currents.{forgotten_by, is_forgotten}
 use Rattle.rdm_model.specs.Sends.{sends}
 use Rattle.rdm_model.specs.Replies.{Reply, replies_by, without_forgotten, without_lives}
 use Rattle.rdm_model.specs.Turns.{Replies, progress, after_deed, next_turn, reply_turn, turn}
-use Rattle.rdm_model.proofs.Members.{member-append_cases, member-append_left, member-append_right, filter-member, or_false}
 use Rattle.rdm_model.proofs.Served.{PushedAt}
 use Rattle.rdm_law.proofs.Queue.{owed, popped, pushed_replies}
+use Rattle.rdm_lists.proofs.Members.{member-append_left, member-append_right, member-append_cases, filter-member}
+use Rattle.std.proofs.lemmas.Bool.{or_parts}
 
 -- the first reply has the turn
 pub head_turn : (own : Own) (ms : Messages) (log : List Deed) (r : Reply) → slice_get (progress own ms log).replies 0 ≡ Some r → turn own ms log ≡ Some (Replies r)
@@ -42,7 +43,7 @@ kept lives rs r e h = filter-member (λ (x : Reply). not (list_any (same_life x.
 not_forgotten_parts : (d : Deed) (before : List Deed) (life : Life) → is_forgotten (d ∷ before) life ≡ false
     → (is_forgotten before life ≡ false) × (list_any (same_life life) (forgotten_by before d) ≡ false)
 unfolding is_forgotten
-not_forgotten_parts d before life h = or_false (is_forgotten before life) (list_any (same_life life) (forgotten_by before d)) h
+not_forgotten_parts d before life h = or_parts (is_forgotten before life) (list_any (same_life life) (forgotten_by before d)) h
 
 -- what waits after a deed
 waits_after : (own : Own) (ms : Messages) (d : Deed) (before : List Deed) (r : Reply)

@@ -1,10 +1,10 @@
 -- What did nothing makes a life owe nothing, and takes nothing of what it owes away.
 use Rattle.std.proofs.Common.{◌≡◌, ℕ, ◌+◌, Bool, true, false, not, ◌&&◌, List, [], ◌∷◌, ◌++◌, map, length, refl, ap, ◌∙◌, sym, subst, inl, inr, arith}
-use Rattle.std.specs.Prelude.{filter, flat_map, unwrap_or}
+use Rattle.std.specs.Prelude.{filter, unwrap_or}
 use Rattle.std.specs.List.{list_any}
 use Rattle.std.proofs.lemmas.List.{append-nil}
 use Rattle.std.proofs.lemmas.Bool.{cases_lt}
-use Rattle.rdm_num.specs.Lists.{Member}
+use Rattle.rdm_lists.specs.Lists.{Member}
 use Rattle.rdm_num.specs.Lives.{same_life}
 use Rattle.rdm_num.specs.Pieces.{Piece, covers}
 use Rattle.rdm_num.specs.declared.numbers.Life.{Life}
@@ -44,23 +44,20 @@ use Rattle.rdm_law.proofs.ClassFree.{all_free}
 use Rattle.rdm_law.proofs.Sent.{agree_sent}
 use Rattle.rdm_law.proofs.SendsAre.{sends_are, at_life_deeds}
 use Rattle.rdm_law.proofs.LawfulPlayed.{lawful_played}
-use Rattle.rdm_law.proofs.StandsStill.{or_none, and_not, carried_still, filled_still, sends_still, over_still}
+use Rattle.rdm_law.proofs.StandsStill.{and_not, carried_still, filled_still, sends_still, over_still}
 use Rattle.rdm_law.proofs.DroppedOnly.{deed_is}
+use Rattle.rdm_lists.proofs.Options.{or_else-none}
+use Rattle.rdm_lists.proofs.Same.{flat_map_none}
 
 -- a test that each element passes
 filter_all : {A : Type 0} (t : A → Bool) (xs : List A) → ((x : A) → t x ≡ true) → filter t xs ≡ xs
 filter_all t [] h = refl
 filter_all t (x ∷ xs) h = let a = h x in let b = filter_all t xs h in rw (a, b) refl
 
--- nothing comes of any element
-flat_map_none : {A B : Type 0} (f : A → List B) (xs : List A) → ((x : A) → Member x xs → f x ≡ []) → flat_map f xs ≡ []
-flat_map_none f [] h = refl
-flat_map_none f (x ∷ xs) h = let a = h x (inl refl) in let b = flat_map_none f xs (λ y m. h y (inr m)) in rw (a, b) refl
-
 -- the first part of a message is as long as it was
 first_part_still : (log : List Deed) (source : Life) (n : ℕ) → first_part (Nothing ∷ log) source n ≡ first_part log source n
 unfolding first_part first_part_taken first_part_by
-first_part_still log source n = ap (λ o. unwrap_or o 0) (or_none (first_part_taken log source n))
+first_part_still log source n = ap (λ o. unwrap_or o 0) (or_else-none (first_part_taken log source n))
 
 -- no window of a message opens: where all that was granted has come, the whole message is granted
 no_window : (job : Job) (history : List Entry) (i : Life) (p : Pair) → Played job history → Member p (pairs_of job history i)
@@ -173,7 +170,7 @@ agree_still : (first : ℕ) (ms ns : Messages) (log : List Deed) → Agree first
 unfolding heard_head head_by
 agree_still first ms ns log a =
     record {
-      heads = λ source n h is. a.heads source n h (sym (or_none (heard_head log source n)) ∙ is);
+      heads = λ source n h is. a.heads source n h (sym (or_else-none (heard_head log source n)) ∙ is);
       bytes = λ p is. a.bytes p (sym (filled_still first ms.head log p) ∙ is);
     }
 

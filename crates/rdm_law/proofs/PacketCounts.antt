@@ -2,7 +2,7 @@
 use Rattle.std.proofs.Common.{◌≡◌, ℕ, zero, suc, ◌+◌, ◌<◌, ◌≤◌, true, false, cond, List, [], ◌∷◌, length, take, drop, refl, arith, inl, inr, sym, ◌∙◌, ap, subst}
 use Rattle.std.specs.Prelude.{nat_le}
 use Rattle.std.proofs.lemmas.List.{length-append, length-map, length-take}
-use Rattle.rdm_num.specs.Lists.{Member}
+use Rattle.rdm_lists.specs.Lists.{Member}
 use Rattle.rdm_num.specs.Pieces.{Piece, piece_bytes, cut, pieces}
 use Rattle.rdm_num.specs.declared.limits.EpLimits.{EpLimits}
 use Rattle.rdm_pkt.specs.declared.Packet.{Packet}
@@ -16,7 +16,6 @@ use Rattle.rdm_model.specs.Grants.{data_room}
 use Rattle.rdm_model.specs.Sends.{Sent, sends}
 use Rattle.rdm_model.specs.Turns.{packet_piece, pieces_in}
 use Rattle.rdm_model.specs.Local.{heard_by}
-use Rattle.rdm_model.proofs.Members.{member-append_right}
 use Rattle.rdm_model.proofs.Cuts.{piece_bytes-append, row_within}
 use Rattle.rdm_model.proofs.Opens.{pieces_in-append}
 use Rattle.rdm_model.proofs.Turns.{IsData, AllData}
@@ -26,6 +25,7 @@ use Rattle.rdm_model.proofs.Sending.{data_push}
 use Rattle.rdm_law.proofs.Lives.{LifeLocal}
 use Rattle.rdm_law.proofs.Allowed.{allowed_within}
 use Rattle.rdm_law.proofs.TurnsPushed.{packet_push}
+use Rattle.rdm_lists.proofs.Members.{member-append_right}
 
 -- there are no more cuts than fuel, and one
 cut_count : (fuel size offset : ℕ) (bytes : List ℕ) → length (cut fuel size offset bytes) ≤ 1 + fuel

@@ -2,7 +2,7 @@
 use Rattle.std.proofs.Common.{◌≡◌, ℕ, Bool, true, false, cond, List, take, drop, Option, Some, None, refl, ◌⊎◌, inl, inr, sym, ◌∙◌, ap, subst}
 use Rattle.std.specs.Prelude.{nat_eq}
 use Rattle.std.proofs.lemmas.Bool.{eqb-true}
-use Rattle.rdm_num.specs.Lists.{Member}
+use Rattle.rdm_lists.specs.Lists.{Member}
 use Rattle.rdm_num.specs.Pieces.{Piece}
 use Rattle.rdm_num.specs.declared.numbers.Life.{Life}
 use Rattle.rdm_num.specs.declared.numbers.MsgNo.{MsgNo}
@@ -26,13 +26,13 @@ use Rattle.rdm_model.specs.Turns.{Sends, packet_piece}
 use Rattle.rdm_model.specs.Lawful.{life_deeds}
 use Rattle.rdm_model.proofs.Matches.{is_pair_member}
 use Rattle.rdm_model.proofs.Cuts.{Part, front_part}
-use Rattle.rdm_model.proofs.Members.{then_some_parts}
 use Rattle.rdm_law.proofs.Lives.{TurnedAt}
 use Rattle.rdm_law.proofs.Turned.{turn_part}
 use Rattle.rdm_law.proofs.Wired.{Played, TakenTurn}
 use Rattle.rdm_law.proofs.Known.{Known, opened}
 use Rattle.rdm_law.proofs.Named.{pairs_of}
 use Rattle.rdm_law.proofs.Chains.{pair_one, data_went, data_known, GivenWent, given_went, given_known}
+use Rattle.rdm_lists.proofs.Options.{then_some_parts}
 
 -- bytes of a message that went in a packet of its send
 abbrev pub SentPiece : (job : Job) (history : List Entry) (from : Life) → Sent → Piece → ℕ → Type 0

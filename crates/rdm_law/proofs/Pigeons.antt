@@ -2,8 +2,8 @@
 use Rattle.std.proofs.Common.{◌≡◌, ℕ, zero, suc, ◌+◌, ◌<◌, ◌≤◌, Bool, true, false, cond, List, [], ◌∷◌, length, take, get_or, Some, refl, arith, inl, inr, sym, ap, subst}
 use Rattle.std.specs.Prelude.{slice_get}
 use Rattle.std.proofs.lemmas.Bool.{cases_eq}
-use Rattle.rdm_num.specs.Lists.{Member}
-use Rattle.rdm_law.proofs.Totals.{total, take_out}
+use Rattle.rdm_lists.specs.Lists.{Member}
+use Rattle.rdm_lists.proofs.Sums.{total, take_out}
 
 -- no element stands twice
 abbrev pub AreDistinct : {A : Type 0} → List A → Type 0

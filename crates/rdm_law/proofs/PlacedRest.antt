@@ -2,7 +2,7 @@
 use Rattle.std.proofs.Common.{◌≡◌, ℕ, zero, suc, ◌+◌, Bool, false, not, List, [], ◌∷◌, length, Some, None, refl, arith, ◌⊎◌, inl, inr, sym, ◌∙◌, ap, subst}
 use Rattle.std.specs.Prelude.{slice_get, filter}
 use Rattle.std.specs.List.{list_any}
-use Rattle.rdm_num.specs.Lists.{Member}
+use Rattle.rdm_lists.specs.Lists.{Member}
 use Rattle.rdm_num.specs.Lives.{same_life}
 use Rattle.rdm_num.specs.declared.numbers.Life.{Life}
 use Rattle.rdm_num.specs.declared.numbers.Connid.{Connid}
@@ -25,17 +25,18 @@ use Rattle.rdm_model.specs.Going.{Goes, turn_going, IsNext}
 use Rattle.rdm_model.specs.Classes.{class_of}
 use Rattle.rdm_model.specs.Steps.{Does}
 use Rattle.rdm_model.specs.Local.{heard_by, own_scene, Local}
-use Rattle.rdm_model.proofs.Members.{member-append_left, member-append_right, filter-member, map-member, or_false}
 use Rattle.rdm_model.proofs.Served.{PushedAt}
 use Rattle.rdm_law.proofs.Lives.{life_of, life_scene, TurnedAt, IsPush, push_is, at_of_life, opened_scene}
 use Rattle.rdm_law.proofs.Pushed.{PlacedAt}
 use Rattle.rdm_law.proofs.Wired.{TakenAs, bears_item}
 use Rattle.rdm_law.proofs.Datagrams.{act_pushed}
 use Rattle.rdm_law.proofs.TurnsPushed.{pushed_turned}
-use Rattle.rdm_law.proofs.Received.{slice_get_split}
 use Rattle.rdm_law.proofs.Queue.{owed, Placed, placed, popped, without, queue, replies_in, queue_replies}
 use Rattle.rdm_law.proofs.Answered.{Answered}
 use Rattle.rdm_law.proofs.OwedRest.{none_first, head_turn}
+use Rattle.rdm_lists.proofs.Members.{member-append_left, member-append_right, filter-member, map-member}
+use Rattle.rdm_lists.proofs.Places.{slice_get_split}
+use Rattle.std.proofs.lemmas.Bool.{or_parts}
 
 -- what waited waits, or was taken by the push
 popped_or : {A : Type 0} (d : Deed) (q : List A) (x : A) → Member x q → Member x (popped d q) ⊎ ((d ≡ Pushed) × (slice_get q 0 ≡ Some x))
@@ -66,7 +67,7 @@ place_or : (own : Own) (ms : Messages) (log : List Deed) (x : Placed) → slice_
 unfolding owed queue without is_forgotten
 place_or own ms [] x h f = cc
 place_or own ms (d ∷ before) x h f =
-    let parts = or_false (is_forgotten before x.reply.to) (list_any (same_life x.reply.to) (forgotten_by before d)) f in
+    let parts = or_parts (is_forgotten before x.reply.to) (list_any (same_life x.reply.to) (forgotten_by before d)) f in
     let q = queue own ms before in
     let new = replies_by own ms.head (sends own ms before) d before in
     let keeps : Placed → Bool = λ (y : Placed). not (list_any (same_life y.reply.to) (forgotten_by before d)) in

@@ -14,7 +14,7 @@ use Rattle.rdm_model.specs.Owns.{Own}
 use Rattle.rdm_model.specs.Deeds.{Deed, Did, PushedNote, Pushed, TookNote, Took, Polled, Nothing, Item, Spelled}
 use Rattle.rdm_model.specs.Currents.{inserted_by, last_inserted, seen_by, first_seen, current}
 use Rattle.rdm_model.specs.Heard.{is_heard}
-use Rattle.rdm_model.proofs.Members.{or_else_cases, then_some_parts}
+use Rattle.rdm_lists.proofs.Options.{or_else_cases, then_some_parts}
 
 -- the message has room in one packet, whatever its headers
 abbrev pub FitsOnePacket : EpLimits → SendReq → Type 0

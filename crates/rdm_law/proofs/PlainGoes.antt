@@ -1,6 +1,6 @@
 -- What goes out next from a plain life.
 use Rattle.std.proofs.Common.{◌≡◌, ℕ, List, ◌∷◌, Some, refl, inl, inr, sym, ◌∙◌, ap, subst}
-use Rattle.rdm_num.specs.Lists.{Member}
+use Rattle.rdm_lists.specs.Lists.{Member}
 use Rattle.rdm_num.specs.declared.numbers.Connid.{Connid}
 use Rattle.rdm_num.specs.declared.numbers.Life.{Life}
 use Rattle.rdm_pkt.specs.declared.Packet.{Packet}
@@ -15,7 +15,6 @@ use Rattle.rdm_model.specs.Replies.{Reply}
 use Rattle.rdm_model.specs.Turns.{Turn, Replies, Sends, progress, turn}
 use Rattle.rdm_model.specs.Going.{Goes, turn_going}
 use Rattle.rdm_model.specs.Local.{heads_by}
-use Rattle.rdm_model.proofs.Members.{slice_get-member, member-append_right}
 use Rattle.rdm_model.proofs.Numbers.{placed}
 use Rattle.rdm_model.proofs.Turns.{SendTurn, turn_cases, next_is}
 use Rattle.rdm_model.proofs.Pushes.{pushed_of, underway}
@@ -26,6 +25,8 @@ use Rattle.rdm_law.proofs.SentFits.{SentFits}
 use Rattle.rdm_law.proofs.TurnsFit.{reply_no_send}
 use Rattle.rdm_law.proofs.PlainDeeds.{IsPlainPacket, IsPlainLoad, IsTheLife, ArePlainDeeds}
 use Rattle.rdm_law.proofs.PlainTurns.{IsPlainGoing, all_eager, plain_owed, plain_sends, plain_kind}
+use Rattle.rdm_lists.proofs.Members.{member-append_right}
+use Rattle.rdm_lists.proofs.Places.{slice_get-member}
 
 -- the one packet of a whole message
 only_opening : (own : Own) (s : Sent) (p : Packet) → s.kind ≡ Eager → Member p (openings own.limits s.message s.kind) → rtm s.message (F.Eager s.message.bytes) ≡ p

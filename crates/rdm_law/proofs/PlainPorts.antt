@@ -3,7 +3,7 @@ use Rattle.std.proofs.Common.{◌≡◌, ℕ, true, List, [], ◌∷◌, Option,
 use Rattle.std.specs.Prelude.{◌&&◌, nat_eq, slice_get}
 use Rattle.std.specs.List.{list_any}
 use Rattle.std.proofs.lemmas.Bool.{and_parts, or_cases, eqb-true}
-use Rattle.rdm_num.specs.Lists.{Member}
+use Rattle.rdm_lists.specs.Lists.{Member}
 use Rattle.rdm_num.specs.declared.numbers.PortNo.{PortNo}
 use Rattle.rdm_num.specs.declared.numbers.Connid.{Connid}
 use Rattle.rdm_num.specs.declared.numbers.Life.{Life}
@@ -30,7 +30,6 @@ use Rattle.rdm_model.specs.Owns.{rank_of}
 use Rattle.rdm_model.specs.Notes.{tells_open, opens, knows_open}
 use Rattle.rdm_model.specs.Scenes.{deeds_at}
 use Rattle.rdm_model.specs.Local.{Local}
-use Rattle.rdm_model.proofs.Members.{list_any_member}
 use Rattle.rdm_law.proofs.Lives.{at_of_life}
 use Rattle.rdm_law.proofs.Delivers.{AllHadWaited, handled_waited}
 use Rattle.rdm_law.proofs.Wired.{HandledIn}
@@ -38,6 +37,7 @@ use Rattle.rdm_law.proofs.Opened.{open_opened, note_pushed}
 use Rattle.rdm_law.proofs.Knows.{note_handled, opens_parts, tells_parts, act_knows}
 use Rattle.rdm_law.proofs.OneLife.{act_op, did_op}
 use Rattle.rdm_law.proofs.PlainDeeds.{IsPlainPacket, IsPlainLoad, IsTheLife, IsPlainOp, IsPlainDid, IsPlainDeed, ArePlainDeeds}
+use Rattle.rdm_lists.proofs.Members.{list_any_member}
 
 -- each port opens one life alone, and each send has room in one packet
 abbrev pub PlainJob : Job → (lives : ℕ → Connid) → Type 0

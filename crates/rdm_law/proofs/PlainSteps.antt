@@ -1,6 +1,6 @@
 -- Each choice keeps a world of plain ports plain.
 use Rattle.std.proofs.Common.{◌≡◌, ℕ, ◌%◌, max, nat_le, not, ◌&&◌, ◌||◌, List, ◌∷◌, ◌++◌, length, slice_get, Option, Some, None, IsTrue, refl, inl, inr, sym, subst}
-use Rattle.rdm_num.specs.Lists.{Member}
+use Rattle.rdm_lists.specs.Lists.{Member}
 use Rattle.rdm_num.specs.declared.numbers.Connid.{Connid}
 use Rattle.rdm_num.specs.declared.completion.Completion.{Completion}
 use Rattle.rdm_wire.specs.declared.Datagram.{Datagram}

@@ -1,7 +1,7 @@
 -- What goes out of a plain life: messages in one packet each, and handshakes, all to the one life of a port.
 use Rattle.std.proofs.Common.{◌≡◌, ℕ, Bool, true, nat_le, ◌&&◌, List, [], ◌∷◌, length, is_some, unwrap_or, Option, Some, None, refl, inl, inr, sym, ◌∙◌, ap, subst}
 use Rattle.std.specs.Prelude.{◌==◌}
-use Rattle.rdm_num.specs.Lists.{Member}
+use Rattle.rdm_lists.specs.Lists.{Member}
 use Rattle.rdm_num.specs.Lives.{same_life}
 use Rattle.rdm_num.specs.declared.numbers.Connid.{Connid}
 use Rattle.rdm_num.specs.declared.numbers.Life.{Life}
@@ -25,11 +25,11 @@ use Rattle.rdm_model.specs.Regions.{regions}
 use Rattle.rdm_model.specs.Sends.{Sent, sends_to, new_sent, range_of, sends}
 use Rattle.rdm_model.specs.Replies.{Reply, asks_for, end_for}
 use Rattle.rdm_model.specs.Local.{heads_by}
-use Rattle.rdm_model.proofs.Members.{or_else_cases, then_some_parts}
 use Rattle.rdm_model.proofs.Numbers.{sends_keep}
 use Rattle.rdm_law.proofs.Owed.{NewReply, OwedIn, shape_in, recv_in}
 use Rattle.rdm_law.proofs.SentFits.{SentFits}
 use Rattle.rdm_law.proofs.PlainDeeds.{FitsOnePacket, IsPlainLoad, IsTheLife, IsPlainDeed, ArePlainDeeds, current_the}
+use Rattle.rdm_lists.proofs.Options.{or_else_cases, then_some_parts}
 
 -- a head that a plain packet tells is of one packet
 plain_head : (first : ℕ) (source : Life) (n : ℕ) (from : Life) (item : Item) (h : Head) → IsPlainLoad first item → head_by source n (Took from item) ≡ Some h → h.shape ≡ S.Eager

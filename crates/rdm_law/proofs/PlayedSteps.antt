@@ -2,28 +2,18 @@
 use Rattle.std.proofs.Common.{◌≡◌, ℕ, zero, suc, ◌+◌, ◌<◌, Bool, true, false, nat_lt, ltb-true, List, [], ◌∷◌, length, refl, arith, inl, inr, IsTrue}
 use Rattle.std.proofs.lemmas.Bool.{and_parts}
 use Rattle.std.specs.List.{list_all}
-use Rattle.rdm_num.specs.Lists.{Member, below}
+use Rattle.rdm_lists.specs.Lists.{Member, below}
 use Rattle.rdm_model.specs.declared.job.Job.{Job}
 use Rattle.rdm_model.specs.declared.job.Choice.{Choice}
 use Rattle.rdm_model.specs.Owns.{port_count}
 use Rattle.rdm_model.specs.Jobs.{is_fair, choices_fit, choice_rank}
 use Rattle.rdm_model.specs.Worlds.{World, new_world, after_choice, after_choices}
 use Rattle.rdm_model.specs.Played.{stop_if, is_last_try, try_then, after_first_handle, handle_any, turn_of, turns_of, round_of, unless_quiet, rounds, round_bound, played_world}
-use Rattle.rdm_model.proofs.Members.{member-append_cases}
+use Rattle.rdm_lists.proofs.Below.{member_below}
 
 -- each choice of a rank keeps it
 abbrev pub Keeps : Job → (World → Type 0) → Type 0
 Keeps job P = (w : World) (c : Choice) → choice_rank c < port_count job → P w → P (after_choice job w c)
-
--- a number below n is less than n
-pub member_below : (n k : ℕ) → Member k (below n) → k < n
-unfolding below
-member_below zero k m = elim m [ ]
-member_below (suc n) k m =
-    elim (member-append_cases k (below n) (n ∷ []) m) [
-      | inl a ↦ (let r = member_below n k a in omega arith)
-      | inr a ↦ elim a [ inl is ↦ omega arith | inr never ↦ elim never [ ] ]
-    ]
 
 -- where both ways hold, so does the one that is taken
 stop_keeps : (P : World → Type 0) (b : Bool) (w : World) (go_on : World → World) → P w → P (go_on w) → P (stop_if b w go_on)

@@ -1,7 +1,7 @@
 -- What is played in a fair job is lawful, by the law of joint histories.
-use Rattle.std.proofs.Common.{◌≡◌, ℕ, ◌≤◌, Bool, ◌||◌, List, [], ◌∷◌, map, length, is_some, Option, IsTrue, refl, arith, sym, ◌∙◌, ap, subst, length-append}
+use Rattle.std.proofs.Common.{◌≡◌, ℕ, ◌≤◌, ◌||◌, List, [], ◌∷◌, map, length, is_some, Option, IsTrue, refl, arith, sym, ◌∙◌, ap, subst, length-append}
 use Rattle.std.specs.List.{list_any}
-use Rattle.rdm_num.specs.Lists.{below}
+use Rattle.rdm_lists.specs.Lists.{below}
 use Rattle.rdm_model.specs.declared.job.Job.{Job}
 use Rattle.rdm_model.specs.declared.answer.Next.{Next as Answer}
 use Rattle.rdm_model.specs.declared.entry.Entry.{Entry}
@@ -30,6 +30,7 @@ use Rattle.rdm_law.proofs.GoesWell.{goes_well}
 use Rattle.rdm_law.proofs.PlayedSteps.{Keeps, played_keeps}
 use Rattle.rdm_law.proofs.JointDelivered.{joint_delivered}
 use Rattle.rdm_law.proofs.Waiting.{waiting_bound}
+use Rattle.rdm_lists.proofs.Same.{list_any_same}
 
 -- in a fair job each choice keeps a world sound
 pub sound_keeps : (job : Job) → IsTrue (is_fair law_ops job) → Keeps job (Sound job)
@@ -67,17 +68,12 @@ map_alike : {A B : Type 0} (f g : A → B) (xs : List A) → ((x : A) → f x �
 map_alike f g [] h = refl
 map_alike {A} {B} f g (x ∷ xs) h = ap (λ (y : B). y ∷ map f xs) (h x) ∙ ap (λ (ys : List B). g x ∷ ys) (map_alike f g xs h)
 
--- tests that are the same pass the same lists
-any_alike : {A : Type 0} (f g : A → Bool) (xs : List A) → ((x : A) → f x ≡ g x) → list_any f xs ≡ list_any g xs
-any_alike f g [] h = refl
-any_alike f g (x ∷ xs) h = ap (λ (b : Bool). b || list_any f xs) (h x) ∙ ap (λ (b : Bool). g x || b) (any_alike f g xs h)
-
 -- some program has an instruction left in the world where one has in the history
 stuck_agrees : (job : Job) (w : World) (history : List Entry) → IsJoint w.logs history
     → list_any (λ port. is_some (instruction_left job port (w.logs port))) (below (port_count job)) ≡ is_stuck job history
 unfolding is_stuck
 stuck_agrees job w history joint =
-    any_alike (λ port. is_some (instruction_left job port (w.logs port))) (λ port. is_some (instruction_left job port (log_of port history))) (below (port_count job))
+    list_any_same (λ port. is_some (instruction_left job port (w.logs port))) (λ port. is_some (instruction_left job port (log_of port history))) (below (port_count job))
     (λ port. ap (λ (log : List Entry). is_some (instruction_left job port log)) (sym (joint.logs_are port)))
 
 -- no more datagrams are in a stash than wait in the history

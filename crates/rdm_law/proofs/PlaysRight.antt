@@ -1,7 +1,7 @@
 -- A report of a world where nothing would change anything is right.
-use Rattle.std.proofs.Common.{◌≡◌, ℕ, ◌<◌, ◌≤◌, leb-true, List, [], ◌∷◌, map, length, IsTrue, refl, arith, inl, inr, ◌∙◌, ap}
+use Rattle.std.proofs.Common.{◌≡◌, ℕ, ◌<◌, ◌≤◌, leb-true, List, [], ◌∷◌, length, IsTrue, arith, inl, inr, ◌∙◌, ap}
 use Rattle.std.proofs.lemmas.Bool.{and_parts}
-use Rattle.rdm_num.specs.Lists.{Member, below}
+use Rattle.rdm_lists.specs.Lists.{below}
 use Rattle.rdm_model.specs.declared.job.Job.{Job}
 use Rattle.rdm_model.specs.declared.entry.Entry.{Entry}
 use Rattle.rdm_model.specs.declared.report.End.{End}
@@ -23,6 +23,7 @@ use Rattle.rdm_law.proofs.MovedOnce.{changes_bound}
 use Rattle.rdm_law.proofs.QuietRounds.{AllQuiet, rounds_end}
 use Rattle.rdm_law.proofs.QuietSettled.{quiet_settled, quiet_stash}
 use Rattle.rdm_law.proofs.Outside.{OutsideEmpty, outside_new, outside_keeps, goes_to_ranks}
+use Rattle.rdm_lists.proofs.Same.{map_same}
 
 -- the inbox of a fair job holds something
 pub some_inbox : (job : Job) → IsTrue (is_fair law_ops job) → 0 < job.inbox
@@ -43,11 +44,6 @@ unfolding stashed_end end_in end_of
 exact_end job history stashed port is =
     ap (λ (n : ℕ). let x : End = record (end_in job history port) { waiting = n } in x) is
 
--- functions that are the same on a list make the same list
-map_members : {A B : Type 0} (f g : A → B) (xs : List A) → ((x : A) → Member x xs → f x ≡ g x) → map f xs ≡ map g xs
-map_members f g [] h = refl
-map_members {A} {B} f g (x ∷ xs) h = ap (λ (y : B). y ∷ map f xs) (h x (inl refl)) ∙ ap (λ (ys : List B). g x ∷ ys) (map_members f g xs (λ y m. h y (inr m)))
-
 -- the report of a world where nothing would change anything is right
 pub quiet_right : (job : Job) (w : World) (report : Report) → IsTrue (is_fair law_ops job) → Sound job w → OutsideEmpty job w → AllQuiet job (below (port_count job)) w
     → IsReportOf job w report → RightReport job report
@@ -59,7 +55,7 @@ quiet_right job w report fair s empty quiet is =
       lawful = right.lawful;
       settled = quiet_settled job w history (some_inbox job fair) s is.history played quiet (goes_to_ranks job w fair s empty);
       stuck = right.stuck;
-      ends = is.ends ∙ map_members (end_at job w) (end_in job history) (below (port_count job)) (λ port m.
+      ends = is.ends ∙ map_same (end_at job w) (end_in job history) (below (port_count job)) (λ port m.
           end_agrees job w history port played (is.history.logs_are port)
           ∙ exact_end job history (λ p. length (w.stashes p)) port (quiet_stash job w history port s is.history played (quiet port m)));
     }

@@ -14,12 +14,12 @@ use Rattle.rdm_model.specs.Completions.{is_poll, poll_count}
 use Rattle.rdm_model.proofs.Numbers.{sends_step}
 use Rattle.rdm_law.proofs.Lives.{LifeLocal}
 use Rattle.rdm_law.proofs.Wired.{Played, own_life}
-use Rattle.rdm_law.proofs.Totals.{total, total_le}
 use Rattle.rdm_law.proofs.EntryCounts.{entry_weight}
 use Rattle.rdm_law.proofs.LifeCounts.{deed_weight, deed_le, deed_at, lives_of, lives_distinct, lives_weight}
 use Rattle.rdm_law.proofs.Covers.{covered_weight, are_covered, poll_life}
 use Rattle.rdm_law.proofs.NoteCounts.{one, polls_counted}
 use Rattle.rdm_law.proofs.EndsCounted.{completions_counted}
+use Rattle.rdm_lists.proofs.Sums.{total, total_le}
 
 -- 2 for each instruction that did
 abbrev two : Deed → ℕ

@@ -1,7 +1,7 @@
 -- What a receive completed with was sent.
 use Rattle.std.proofs.Common.{◌≡◌, ℕ, ◌-◌, List, [], ◌∷◌, ◌++◌, map, take, Option, refl, inl, inr}
 use Rattle.std.specs.Prelude.{option_to_list}
-use Rattle.rdm_num.specs.Lists.{Member}
+use Rattle.rdm_lists.specs.Lists.{Member}
 use Rattle.rdm_num.specs.declared.numbers.RecvNo.{RecvNo}
 use Rattle.rdm_num.specs.declared.numbers.Life.{Life}
 use Rattle.rdm_num.specs.declared.completion.Completion.{Completion}
@@ -17,7 +17,7 @@ use Rattle.rdm_model.specs.Regions.{kept_bytes}
 use Rattle.rdm_model.specs.Sends.{Sent}
 use Rattle.rdm_model.specs.Turns.{progress}
 use Rattle.rdm_model.specs.Completions.{took_outcome, outcome, recv_completion, recv_completions, send_completion, ended_sends, completions_by, completions}
-use Rattle.rdm_model.proofs.Members.{member-append_cases, member-append_left, member-append_right, member-map}
+use Rattle.rdm_lists.proofs.Members.{member-append_left, member-append_right, member-append_cases, member-map}
 
 -- a receive completed by taking a message
 pub record TookEnd (ms : Messages) (es : List RecvEnd) (from : Life) (tag cq_data : Option ℕ) (bytes : List ℕ) (excess : ℕ) : Type 0 where

@@ -1,7 +1,7 @@
 -- Each receive that completed in a lawful history has what was sent, or its first bytes.
 use Rattle.std.proofs.Common.{◌≡◌, ℕ, ◌-◌, not, List, [], ◌∷◌, ◌++◌, length, map, take, Option, Some, None, refl, inl, inr, sym, ◌∙◌, ap, subst}
 use Rattle.std.specs.Prelude.{IsTrue, ◌&&◌, filter, flat_map}
-use Rattle.rdm_num.specs.Lists.{Member}
+use Rattle.rdm_lists.specs.Lists.{Member}
 use Rattle.rdm_num.specs.declared.numbers.RecvNo.{RecvNo}
 use Rattle.rdm_num.specs.declared.numbers.Connid.{Connid}
 use Rattle.rdm_num.specs.declared.numbers.Life.{Life}
@@ -30,8 +30,6 @@ use Rattle.rdm_model.specs.Jobs.{is_fair, law_ops}
 use Rattle.rdm_model.specs.Classes.{lives_class}
 use Rattle.rdm_model.specs.Steps.{Does}
 use Rattle.rdm_model.specs.Lawful.{port_deeds, life_deeds, deed_for, sends_in, sent_to, sent_scene, Lawful}
-use Rattle.rdm_model.proofs.Members.{member-append_cases, member-append_left, member-filter, member-map, slice_get-member}
-use Rattle.rdm_model.proofs.Lists.{member-flat_map}
 use Rattle.rdm_model.proofs.Matches.{pair_still}
 use Rattle.rdm_model.proofs.SameMatches.{pairs_same}
 use Rattle.rdm_law.specs.Headline.{TookOf, PolledWasSent}
@@ -44,6 +42,8 @@ use Rattle.rdm_law.proofs.SendsAre.{sends_are, sends_in_newest}
 use Rattle.rdm_law.proofs.ClassLives.{AllFree}
 use Rattle.rdm_law.proofs.LawfulPlayed.{lawful_played}
 use Rattle.rdm_law.proofs.PolledSent.{TookEnd, completed_took}
+use Rattle.rdm_lists.proofs.Members.{member-append_left, member-append_cases, member-filter, member-map, member-flat_map}
+use Rattle.rdm_lists.proofs.Places.{slice_get-member}
 
 -- a receive that is taken back is not filled
 withdrawn_no_pair : (d : Deed) (p : Pair) → Member (Filled p) (withdrawn_by d) → ⊥

@@ -1,10 +1,10 @@
 -- Each push of a life is of a reply that was owed, or of a packet of a send.
-use Rattle.std.proofs.Common.{◌≡◌, ℕ, ◌+◌, ◌<◌, ◌≤◌, Bool, true, false, cond, not, List, [], ◌∷◌, length, Option, Some, refl, arith, ◌⊎◌, inl, inr, sym, ◌∙◌, ap, subst}
-use Rattle.std.specs.Prelude.{slice_get, filter}
+use Rattle.std.proofs.Common.{◌≡◌, ℕ, ◌+◌, ◌<◌, ◌≤◌, not, List, [], ◌∷◌, length, Option, Some, refl, arith, ◌⊎◌, inl, inr, sym, ◌∙◌, ap, subst}
+use Rattle.std.specs.Prelude.{slice_get}
 use Rattle.std.proofs.lemmas.List.{length-append, length-drop}
 use Rattle.std.specs.List.{list_any}
 use Rattle.rdm_num.specs.Lives.{same_life}
-use Rattle.rdm_num.specs.Lists.{Member}
+use Rattle.rdm_lists.specs.Lists.{Member}
 use Rattle.rdm_model.specs.Deeds.{Deed, Did, PushedNote, Pushed, TookNote, Took, Polled, Nothing, deed_count}
 use Rattle.rdm_model.specs.Currents.{forgotten_by}
 use Rattle.rdm_model.specs.Owns.{Own, Messages}
@@ -20,9 +20,11 @@ use Rattle.rdm_model.proofs.Pushes.{pushed_of}
 use Rattle.rdm_model.proofs.Served.{next_send_turn, pushed_last, pushed_longer}
 use Rattle.rdm_law.proofs.Lives.{LifeStep, LifeLocal}
 use Rattle.rdm_law.proofs.Queue.{owed}
-use Rattle.rdm_law.proofs.Totals.{total, total-append, total_le, is_push'}
+use Rattle.rdm_law.proofs.Totals.{is_push'}
 use Rattle.rdm_law.proofs.OwedBack.{agree_trans}
 use Rattle.rdm_law.proofs.ReadLands.{agree_refl}
+use Rattle.rdm_lists.proofs.Sums.{total, total-append, total_le}
+use Rattle.rdm_lists.proofs.Filters.{filter_length}
 
 -- each push of the life had a turn
 abbrev AllTurned : Own → Messages → List Deed → Type 0
@@ -44,17 +46,10 @@ all_turned own ms (d ∷ before) local g =
 abbrev packet_total : Own → Messages → List Deed → List Sent → ℕ
 packet_total own ms log ss = total (λ (s : Sent). length (pushed_of own ms log s.number)) ss
 
--- what passes a test is no more than all
-filter_less : {A : Type 0} (p : A → Bool) (xs : List A) → length (filter p xs) ≤ length xs
-filter_less p [] = omega arith
-filter_less p (x ∷ xs) =
-    let r = filter_less p xs in
-    elim (p x) as (λ b. length (cond b (x ∷ filter p xs) (filter p xs)) ≤ length (x ∷ xs)) [ true ↦ omega arith | false ↦ omega arith ]
-
 -- no more replies stay
 kept_less : (before : List Deed) (d : Deed) (rs : List Reply) → length (without_forgotten before d rs) ≤ length rs
 unfolding without_forgotten without_lives
-kept_less before d rs = filter_less (λ (r : Reply). not (list_any (same_life r.to) (forgotten_by before d))) rs
+kept_less before d rs = filter_length (λ (r : Reply). not (list_any (same_life r.to) (forgotten_by before d))) rs
 
 -- more replies wait only by what a deed makes owed
 waits_step : (own : Own) (ms : Messages) (d : Deed) (before : List Deed)

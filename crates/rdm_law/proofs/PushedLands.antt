@@ -2,7 +2,7 @@
 use Rattle.std.proofs.Common.{◌≡◌, ℕ, ◌<◌, ◌≤◌, true, false, List, Option, Some, None, refl, arith, ◌⊎◌, inl, inr, sym, ◌∙◌, ap, subst}
 use Rattle.std.specs.Prelude.{is_some}
 use Rattle.std.specs.List.{cons_option}
-use Rattle.rdm_num.specs.Lists.{Member}
+use Rattle.rdm_lists.specs.Lists.{Member}
 use Rattle.rdm_num.specs.Lives.{op_id}
 use Rattle.rdm_num.specs.Pieces.{Piece, byte_at, covers}
 use Rattle.rdm_num.specs.declared.numbers.Life.{Life}
@@ -23,8 +23,7 @@ use Rattle.rdm_model.specs.Grants.{Grant}
 use Rattle.rdm_model.specs.Sends.{Sent}
 use Rattle.rdm_model.specs.Turns.{Sends, packet_piece, pieces_in}
 use Rattle.rdm_model.specs.Lawful.{life_deeds}
-use Rattle.rdm_model.proofs.Members.{some_of}
-use Rattle.rdm_model.proofs.Rows.{row_has, each_below_from}
+use Rattle.rdm_model.proofs.Rows.{row_has}
 use Rattle.rdm_model.proofs.Opens.{opening_is}
 use Rattle.rdm_model.proofs.Pushes.{pushed_of, underway}
 use Rattle.rdm_model.proofs.Served.{done_bytes}
@@ -40,6 +39,8 @@ use Rattle.rdm_law.proofs.Turned.{turn_is}
 use Rattle.rdm_law.proofs.Meets.{Meet, IsUnheard, delivered}
 use Rattle.rdm_law.proofs.AllEnters.{send_turned, sends_going}
 use Rattle.rdm_law.proofs.CarriedBack.{came_for, came_opening}
+use Rattle.rdm_lists.proofs.Options.{some_of}
+use Rattle.rdm_lists.proofs.Below.{each_below_from}
 
 -- the element is the first, if it is there, or one of the others
 option_member : (o : Option Piece) (xs : List Piece) (x : Piece) → Member x (cons_option o xs) → (o ≡ Some x) ⊎ Member x xs

@@ -2,7 +2,7 @@
 use Rattle.std.proofs.Common.{◌≡◌, ℕ, ◌+◌, ◌<◌, ◌≤◌, true, false, List, [], ◌∷◌, length, Some, None, refl, arith, inl, inr, ◌∙◌, ap, subst}
 use Rattle.std.specs.Prelude.{is_some, filter_map}
 use Rattle.std.specs.List.{cons_option}
-use Rattle.rdm_num.specs.Lists.{Member}
+use Rattle.rdm_lists.specs.Lists.{Member}
 use Rattle.rdm_num.specs.Pieces.{Piece, byte_at, covers}
 use Rattle.rdm_pkt.specs.declared.Packet.{Packet}
 use Rattle.rdm_pkt.specs.declared.Kind.TheVariants.{LongCts}
@@ -11,7 +11,6 @@ use Rattle.rdm_model.specs.Owns.{Own, Messages}
 use Rattle.rdm_model.specs.Currents.{is_forgotten}
 use Rattle.rdm_model.specs.Sends.{Sent, sends}
 use Rattle.rdm_model.specs.Turns.{packet_piece, pieces_in, is_read, is_pushed, is_over}
-use Rattle.rdm_model.proofs.Members.{each_below_at, some_of}
 use Rattle.rdm_model.proofs.Pushes.{pushed_of}
 use Rattle.rdm_model.proofs.Sending.{push_is}
 use Rattle.rdm_model.proofs.Numbers.{sends_one}
@@ -19,6 +18,8 @@ use Rattle.rdm_model.proofs.Served.{push_member}
 use Rattle.rdm_law.proofs.TurnsPushed.{packet_push}
 use Rattle.rdm_law.proofs.Whole.{byte_of_piece}
 use Rattle.rdm_law.proofs.Granted.{allowed_of, part_within_allowed, byte_ends}
+use Rattle.rdm_lists.proofs.Options.{some_of}
+use Rattle.rdm_lists.proofs.Below.{each_below_at}
 
 -- a piece of packets is of one of them
 pub piece_packet : (ps : List Packet) (x : Piece) → Member x (pieces_in ps) → (p : Packet) × Member p ps × (packet_piece p ≡ Some x)

@@ -2,7 +2,7 @@
 use Rattle.std.proofs.Common.{◌≡◌, ℕ, zero, suc, ◌+◌, ◌<◌, ◌≤◌, Bool, true, false, ◌||◌, nat_le, eqb-true, List, [], ◌∷◌, length, Some, refl, arith, ◌⊎◌, inl, inr, sym, ◌∙◌, subst}
 use Rattle.std.specs.Prelude.{◌==◌}
 use Rattle.std.proofs.lemmas.Bool.{eqb-false}
-use Rattle.rdm_num.specs.Lists.{Member, below}
+use Rattle.rdm_lists.specs.Lists.{Member, below}
 use Rattle.rdm_wire.specs.declared.Datagram.{Datagram}
 use Rattle.rdm_model.specs.declared.job.Job.{Job}
 use Rattle.rdm_model.specs.declared.job.Choice.{Choice}
@@ -14,9 +14,9 @@ use Rattle.rdm_model.specs.Settled.{is_worn}
 use Rattle.rdm_model.specs.Local.{own_scene}
 use Rattle.rdm_model.specs.Worlds.{World, after_choice}
 use Rattle.rdm_model.specs.Played.{stop_if, handle_any, turn_of, turns_of, round_of, unless_quiet, rounds}
-use Rattle.rdm_law.proofs.PlayedSteps.{member_below}
 use Rattle.rdm_law.proofs.Quiet.{Still, still_refl, still_then, Outcome, NextQuiet, going_to, PushQuiet, PollQuiet, next_outcome, push_outcome, poll_outcome}
 use Rattle.rdm_law.proofs.QuietHandles.{at_most, PlacesQuiet, HandleQuiet, handle_any_outcome, still_place}
+use Rattle.rdm_lists.proofs.Below.{member_below}
 
 -- nothing that a port could do would change anything
 pub record TurnQuiet (job : Job) (port : ℕ) (w : World) : Type 0 where

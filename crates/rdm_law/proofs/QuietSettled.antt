@@ -1,10 +1,9 @@
 -- A world where nothing would change anything has a settled history.
-use Rattle.std.proofs.Common.{◌≡◌, ℕ, zero, suc, ◌<◌, ◌≤◌, Bool, true, false, cond, not, ◌&&◌, ◌||◌, nat_le, leb-true, List, [], ◌∷◌, ◌++◌, length, is_none, Option, Some, None, IsTrue, refl, arith, inl, inr, sym, ◌∙◌, ap, subst, append-nil, length-append}
+use Rattle.std.proofs.Common.{◌≡◌, ℕ, ◌<◌, ◌≤◌, Bool, true, false, cond, not, ◌&&◌, ◌||◌, nat_le, leb-true, List, [], ◌∷◌, ◌++◌, length, is_none, Option, Some, None, IsTrue, refl, arith, inl, inr, sym, ◌∙◌, ap, subst, append-nil, length-append}
 use Rattle.std.specs.List.{list_all}
-use Rattle.std.proofs.lemmas.Bool.{and_from, or_cases, cases_lt}
+use Rattle.std.proofs.lemmas.Bool.{and_from, or_cases}
 use Rattle.std.proofs.lemmas.Option.{slice_get_within}
-use Rattle.rdm_model.proofs.Members.{member-append_left, member-append_right}
-use Rattle.rdm_num.specs.Lists.{Member, below}
+use Rattle.rdm_lists.specs.Lists.{Member, below}
 use Rattle.rdm_num.specs.declared.completion.Completion.{Completion}
 use Rattle.rdm_wire.specs.declared.Datagram.{Datagram}
 use Rattle.rdm_model.specs.declared.job.Job.{Job}
@@ -24,7 +23,6 @@ use Rattle.rdm_model.specs.Local.{own_scene}
 use Rattle.rdm_model.specs.Lawful.{port_deeds, sent_scene}
 use Rattle.rdm_model.specs.Joint.{IsJoint}
 use Rattle.rdm_model.specs.Worlds.{World, next_completion}
-use Rattle.rdm_law.proofs.Received.{member_at}
 use Rattle.rdm_law.proofs.Wired.{Played}
 use Rattle.rdm_law.proofs.Agreed.{going_agreed, left_agreed, none_agreed, early_agreed}
 use Rattle.rdm_law.proofs.ClassFree.{all_free}
@@ -33,6 +31,8 @@ use Rattle.rdm_law.proofs.Delivers.{AreNumbered}
 use Rattle.rdm_law.proofs.WaitingAll.{waits_once, waits_by_logs, waiting_count}
 use Rattle.rdm_law.proofs.Quiet.{NextQuiet, going_to, PushQuiet, PollQuiet}
 use Rattle.rdm_law.proofs.QuietRounds.{TurnQuiet, AllQuiet}
+use Rattle.rdm_lists.proofs.Below.{below_member}
+use Rattle.rdm_lists.proofs.Places.{member_at}
 
 -- what goes out of each port goes to a rank
 abbrev pub GoesToRanks : Job → World → Type 0
@@ -106,16 +106,6 @@ left_is : (job : Job) (port : ℕ) (history log : List Entry) → Played job his
     ≡ left_answer job (sent_scene job port history) log (instruction_left job port log)
 unfolding left_at port_deeds
 left_is job port history log played = left_agreed job port history log played
-
--- a number that is less than n is below n
-pub below_member : (n k : ℕ) → k < n → Member k (below n)
-unfolding below
-below_member zero k h = absurd (omega arith)
-below_member (suc n) k h =
-    elim (cases_lt k n) [
-      | inl less ↦ member-append_left k (below n) (n ∷ []) (below_member n k less)
-      | inr last ↦ (let is : n ≡ k = omega arith in member-append_right k (below n) (n ∷ []) (inl is))
-    ]
 
 -- a quiet port of a world is quiet in the history
 port_quiet : (job : Job) (w : World) (history : List Entry) (port : ℕ) → 0 < job.inbox → Sound job w → IsJoint w.logs history → Played job history

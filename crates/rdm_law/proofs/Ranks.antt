@@ -2,7 +2,7 @@
 use Rattle.std.proofs.Common.{◌≡◌, ℕ, ◌<◌, not, ltb-true, List, [], ◌∷◌, length, Some, inl, inr, sym, subst}
 use Rattle.std.specs.Prelude.{filter, ◌==◌}
 use Rattle.std.proofs.lemmas.Bool.{and_parts}
-use Rattle.rdm_num.specs.Lists.{Member, below}
+use Rattle.rdm_lists.specs.Lists.{Member, below}
 use Rattle.rdm_num.specs.declared.numbers.Life.{Life}
 use Rattle.rdm_num.specs.declared.request.SendReq.{SendReq}
 use Rattle.rdm_wire.specs.declared.NoteBody.TheVariants.{Opened}
@@ -19,7 +19,6 @@ use Rattle.rdm_model.specs.Replies.{Reply}
 use Rattle.rdm_model.specs.Turns.{Turn, Replies, Sends, progress, turn}
 use Rattle.rdm_model.specs.Going.{Goes, turn_going}
 use Rattle.rdm_model.specs.Jobs.{instr_fits, is_rank}
-use Rattle.rdm_model.proofs.Members.{or_else_cases, member-append_cases, member-map, member-filter, slice_get-member, then_some_parts}
 use Rattle.rdm_model.proofs.Matches.{pair_heard}
 use Rattle.rdm_model.proofs.Numbers.{sends_keep}
 use Rattle.rdm_model.proofs.Turns.{turn_cases}
@@ -29,7 +28,10 @@ use Rattle.rdm_law.proofs.Answered.{waits_owed}
 use Rattle.rdm_law.proofs.Known.{heard_taken}
 use Rattle.rdm_law.proofs.RegionsFit.{DidFits, AllDidFit}
 use Rattle.rdm_law.proofs.TurnsFit.{reply_no_send}
-use Rattle.rdm_law.proofs.PlayedSteps.{member_below}
+use Rattle.rdm_lists.proofs.Members.{member-append_cases, member-filter, member-map}
+use Rattle.rdm_lists.proofs.Options.{or_else_cases, then_some_parts}
+use Rattle.rdm_lists.proofs.Places.{slice_get-member}
+use Rattle.rdm_lists.proofs.Below.{member_below}
 
 -- each life that a deed inserts or takes a datagram of is of a kind
 abbrev pub LifeIs : (Life → Type 0) → Deed → Type 0

@@ -1,7 +1,7 @@
 -- What is posted or was paired is an accepted receive, under its own number.
 use Rattle.std.proofs.Common.{◌≡◌, ℕ, zero, suc, ◌+◌, List, [], ◌∷◌, ◌++◌, length, Option, Some, None, refl, arith, ◌⊎◌, inl, inr, sym, ◌∙◌, ap, subst}
 use Rattle.std.specs.Prelude.{find, slice_get}
-use Rattle.rdm_num.specs.Lists.{Member}
+use Rattle.rdm_lists.specs.Lists.{Member}
 use Rattle.rdm_num.specs.declared.request.RecvReq.{RecvReq}
 use Rattle.rdm_match.specs.declared.PostedRecv.{PostedRecv}
 use Rattle.rdm_match.specs.declared.Arrived.{Arrived}
@@ -10,7 +10,8 @@ use Rattle.rdm_model.specs.declared.job.Instr.TheVariants.{Insert, Recv, Cancel 
 use Rattle.rdm_model.specs.Deeds.{Deed, Did, Took}
 use Rattle.rdm_model.specs.Owns.{Heads}
 use Rattle.rdm_model.specs.Matches.{Receive, receive, receives, received_by, with_received, arrival, events_by, matching}
-use Rattle.rdm_model.proofs.Members.{member-append_left, member-append_cases, member-append_right, member-filter, member-map, find_member, without_member}
+use Rattle.rdm_lists.proofs.Members.{member-append_left, member-append_right, member-append_cases, member-filter, member-map, find_member, without_member}
+use Rattle.rdm_lists.proofs.Places.{slice_get_split, member_at}
 
 -- each receive that is posted or was paired is of a kind
 pub record AllPosted (Q : PostedRecv → Type 0) (m : Matching) : Type 0 where
@@ -116,14 +117,6 @@ posted_accepted first heads (d ∷ before) =
     run_keeps_posted (IsAccepted (d ∷ before)) (matching first heads before) (events_by first heads before d) (accepted_event first heads d before)
     (record { waiting = λ r h. accepted_still d before r (earlier.waiting r h); paired = λ p h. accepted_still d before p.recv (earlier.paired p h) })
 
--- an element of two lists in a row is of the first, or past it
-pub slice_get_split : {A : Type 0} (xs ys : List A) (n : ℕ) (x : A) → slice_get (xs ++ ys) n ≡ Some x
-    → (slice_get xs n ≡ Some x) ⊎ ((k : ℕ) × (n ≡ length xs + k) × (slice_get ys k ≡ Some x))
-slice_get_split [] ys n x h = inr (n, omega arith, h)
-slice_get_split (y ∷ xs) ys zero x h = inl h
-slice_get_split (y ∷ xs) ys (suc n) x h =
-    elim (slice_get_split xs ys n x h) [ inl a ↦ inl a | inr a ↦ inr (a.0, (let e = a.1 in omega arith), a.2) ]
-
 -- the receive that a deed accepts is the next one
 received_place : (before : List Deed) (d : Deed) (rs : List Receive) (k : ℕ) (r : Receive) → slice_get (received_by rs before d) k ≡ Some r
     → (k ≡ 0) × (r.number ≡ length rs) × (r.posted.id.0 ≡ length rs)
@@ -143,12 +136,6 @@ receive_at (d ∷ before) n r h =
       | inl a ↦ receive_at before n r a
       | inr a ↦ let q = received_place before d (receives before) a.0 r a.2 in (let e = a.1 in let f = q.0 in let g = q.1 in omega arith, let e = a.1 in let f = q.0 in let g = q.2 in omega arith)
     ]
-
--- an element stands at some place
-pub member_at : {A : Type 0} (x : A) (xs : List A) → Member x xs → (n : ℕ) × (slice_get xs n ≡ Some x)
-member_at x [] h = elim h [ ]
-member_at x (y ∷ xs) (inl a) = (0, ap Some a)
-member_at x (y ∷ xs) (inr a) = let r = member_at x xs a in (suc r.0, r.1)
 
 -- an accepted receive stands at its number
 pub receive_stands : (log : List Deed) (r : Receive) → Member r (receives log) → (slice_get (receives log) r.number ≡ Some r) × (r.posted.id.0 ≡ r.number)

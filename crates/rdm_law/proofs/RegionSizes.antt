@@ -1,7 +1,7 @@
 -- Regions keep the sizes that they were registered with, since each receive lies in its region.
 use Rattle.std.proofs.Common.{◌≡◌, ℕ, zero, suc, ◌+◌, ◌≤◌, List, [], ◌∷◌, ◌++◌, map, length, get_or, take, drop, Option, Some, None, refl, arith, inl, inr, sym, ◌∙◌, ap, subst, length-append, length-take, length-drop, le_of_eq}
 use Rattle.std.proofs.lemmas.List.{map-append, length-replicate}
-use Rattle.rdm_num.specs.Lists.{Member}
+use Rattle.rdm_lists.specs.Lists.{Member}
 use Rattle.rdm_num.specs.declared.request.RecvReq.{RecvReq}
 use Rattle.rdm_model.specs.Deeds.{Deed}
 use Rattle.rdm_model.specs.Owns.{Messages}
@@ -9,8 +9,8 @@ use Rattle.rdm_model.specs.Jobs.{len_max}
 use Rattle.rdm_model.specs.Matches.{Receive, receives}
 use Rattle.rdm_model.specs.Receives.{RecvEnd, Filled, Withdrawn, Gone, ended_recv, recv_ends, recv_ends_by, receive_numbered}
 use Rattle.rdm_model.specs.Regions.{put, change_at, kept_bytes, written_by, after_end, after_ends, region_by, regions}
-use Rattle.rdm_model.proofs.Members.{member-append_cases, member-map, find_member}
 use Rattle.rdm_law.proofs.RegionsFit.{AllDidFit, reg_fits, sizes, AllRangesFit, IsWithin, receives_within, get_or-sizes}
+use Rattle.rdm_lists.proofs.Members.{member-append_cases, member-map, find_member}
 
 -- what is put within a list leaves its length
 put_length : (at : ℕ) (bytes region : List ℕ) → at + length bytes ≤ length region → length (put at bytes region) ≡ length region

@@ -2,7 +2,7 @@
 use Rattle.std.proofs.Common.{◌≡◌, ℕ, zero, suc, ◌+◌, ◌≤◌, true, nat_lt, nat_le, leb-true, List, [], ◌∷◌, ◌++◌, map, length, get_or, take, drop, Option, Some, None, refl, arith, inl, inr, subst}
 use Rattle.std.specs.List.{list_all}
 use Rattle.std.proofs.lemmas.Bool.{and_parts}
-use Rattle.rdm_num.specs.Lists.{Member}
+use Rattle.rdm_lists.specs.Lists.{Member}
 use Rattle.rdm_num.specs.declared.request.RecvReq.{RecvReq}
 use Rattle.rdm_num.specs.declared.numbers.Life.{Life}
 use Rattle.rdm_model.specs.declared.job.Instr.TheVariants.{OpenLife, Insert, Reg, Send, Recv, Cancel, Note, Await, Wait, CloseLife}
@@ -12,9 +12,9 @@ use Rattle.rdm_model.specs.Jobs.{instr_fits, len_max}
 use Rattle.rdm_model.specs.Matches.{Receive, receives, received_by, with_received}
 use Rattle.rdm_model.specs.Receives.{RecvEnd, Filled, Withdrawn, Gone, ended_recv, recv_ends, recv_ends_by, receive_numbered}
 use Rattle.rdm_model.specs.Regions.{put, change_at, kept_bytes, written_by, after_end, after_ends, region_by, regions}
-use Rattle.rdm_model.proofs.Members.{member-append_cases}
 use Rattle.rdm_law.proofs.Fitting.{AreBytes}
 use Rattle.rdm_law.proofs.SmallBytes.{bytes_front, bytes_rest, bytes_append, zeros_bytes}
+use Rattle.rdm_lists.proofs.Members.{member-append_cases}
 
 -- an instruction that did has its numbers in their ranges
 abbrev pub DidFits : (ports : ℕ) → Deed → Type 0

@@ -3,7 +3,7 @@ use Rattle.std.proofs.Common.{◌≡◌, ℕ, Bool, true, false, cond, not, List
 use Rattle.std.specs.Prelude.{is_some}
 use Rattle.std.specs.List.{list_any}
 use Rattle.std.proofs.lemmas.Bool.{and_from, or_cases, or_left, or_right, not_from_false, false_from_ne_true, eq-eqb}
-use Rattle.rdm_num.specs.Lists.{or_else, first_case}
+use Rattle.rdm_lists.specs.Lists.{or_else, first_case}
 use Rattle.rdm_num.specs.Lives.{same_life, is_life}
 use Rattle.rdm_num.specs.declared.numbers.Life.{Life}
 use Rattle.rdm_model.specs.declared.job.Instr.TheVariants.{Insert}
@@ -15,9 +15,9 @@ use Rattle.rdm_model.specs.Currents.{inserted_by, last_inserted, first_seen, cur
 use Rattle.rdm_model.specs.Sources.{is_other}
 use Rattle.rdm_model.specs.Owns.{Own}
 use Rattle.rdm_model.specs.Answers.{answer_of}
-use Rattle.rdm_model.proofs.Members.{same_life-true, same_life-refl}
 use Rattle.rdm_law.proofs.Lives.{life_scene, LifeStep, LifeLocal}
 use Rattle.rdm_law.proofs.Held.{Replaced, kept_current, current_port}
+use Rattle.rdm_num.proofs.Lives.{same_life-true, same_life-refl}
 
 -- an instruction that did passed the tests before
 second_false : (a b : Bool) (x y z : Answer) (what : DidWhat) → first_case ((a, x) ∷ (b, y) ∷ []) z ≡ DidAnswer what → ((w : DidWhat) → y ≡ DidAnswer w → ⊥) → ((w : DidWhat) → x ≡ DidAnswer w → ⊥) → b ≡ false

@@ -3,7 +3,7 @@ use Rattle.std.proofs.Common.{◌≡◌, ℕ, ◌+◌, ◌<◌, ◌≤◌, true,
 use Rattle.std.specs.Prelude.{◌==◌}
 use Rattle.std.specs.List.{list_all}
 use Rattle.std.proofs.lemmas.Bool.{and_parts}
-use Rattle.rdm_num.specs.Lists.{Member}
+use Rattle.rdm_lists.specs.Lists.{Member}
 use Rattle.rdm_num.specs.Pieces.{covers}
 use Rattle.rdm_num.specs.Lives.{same_life}
 use Rattle.rdm_num.specs.declared.numbers.Life.{Life}
@@ -29,7 +29,6 @@ use Rattle.rdm_model.specs.Grants.{first_part, window_of, window, granted_bytes}
 use Rattle.rdm_model.specs.Replies.{Reply, end_for}
 use Rattle.rdm_model.specs.Turns.{progress}
 use Rattle.rdm_model.specs.Local.{heads_by}
-use Rattle.rdm_model.proofs.Members.{or_else_cases, slice_get-member, then_some_parts}
 use Rattle.rdm_law.proofs.Numbered.{matching_numbered}
 use Rattle.rdm_law.proofs.Owed.{NewReply, OwedIn, owed_in, shape_in, recv_in}
 use Rattle.rdm_law.proofs.Queue.{owed}
@@ -39,6 +38,8 @@ use Rattle.rdm_law.proofs.SmallBytes.{AllTakenFit, TakenFits, rtm_fits, bytes_fr
 use Rattle.rdm_law.proofs.RegionsFit.{MessagesFit}
 use Rattle.rdm_law.proofs.SentFits.{DeedsFit, deeds_fit_before, sent_fits, receives_count}
 use Rattle.rdm_law.proofs.PacketsFit.{cond_below, cts_fits, eor_fits, handshake_fits}
+use Rattle.rdm_lists.proofs.Options.{or_else_cases, then_some_parts}
+use Rattle.rdm_lists.proofs.Places.{slice_get-member}
 
 -- the numbers of a shape are in their ranges
 abbrev pub ShapeFits : Shape → ℕ → Type 0

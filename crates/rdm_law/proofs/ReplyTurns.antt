@@ -2,8 +2,8 @@
 use Rattle.std.proofs.Common.{◌≡◌, ℕ, Bool, true, cond, ◌&&◌, not, List, [], ◌∷◌, Option, Some, None, refl, arith, inl, inr, sym, subst}
 use Rattle.std.specs.Prelude.{slice_get, ◌==◌}
 use Rattle.std.specs.List.{list_any}
-use Rattle.std.proofs.lemmas.Bool.{and_parts, and_from, not-true, eq-eqb}
-use Rattle.rdm_num.specs.Lists.{Member}
+use Rattle.std.proofs.lemmas.Bool.{and_parts, and_from, not-true, eq-eqb, not-false}
+use Rattle.rdm_lists.specs.Lists.{Member}
 use Rattle.rdm_num.specs.Lives.{same_life}
 use Rattle.rdm_num.specs.Pieces.{overlaps}
 use Rattle.rdm_num.specs.declared.numbers.Life.{Life}
@@ -17,12 +17,11 @@ use Rattle.rdm_model.specs.Turns.{Replies, progress}
 use Rattle.rdm_model.specs.Scenes.{Scene}
 use Rattle.rdm_model.specs.Named.{live_send, is_good_ask, is_bad_key}
 use Rattle.rdm_model.specs.Local.{heard_by}
-use Rattle.rdm_model.proofs.Members.{member-append_left, member-append_right, slice_get-member, member_list_any, same_life-refl}
 use Rattle.rdm_model.proofs.Rows.{overlaps_from}
 use Rattle.rdm_model.proofs.SameRegions.{Agree, agree_before, sends_same}
 use Rattle.rdm_model.proofs.SameReplies.{replies_by_same}
 use Rattle.rdm_model.proofs.Grows.{agree_grows}
-use Rattle.rdm_law.proofs.Lives.{LifeLocal, LifeStep, TurnedAt, life_scene, not-false}
+use Rattle.rdm_law.proofs.Lives.{LifeLocal, LifeStep, TurnedAt, life_scene}
 use Rattle.rdm_law.proofs.Classed.{taken_parts}
 use Rattle.rdm_law.proofs.Asks.{AsksShare}
 use Rattle.rdm_law.proofs.Queue.{owed, queue, Placed}
@@ -30,6 +29,9 @@ use Rattle.rdm_law.proofs.Answered.{Answered, answered_owed, answered_once, turn
 use Rattle.rdm_law.proofs.Owed.{OwedIn, owed_in}
 use Rattle.rdm_law.proofs.Clashes.{Clash}
 use Rattle.rdm_law.proofs.OwedOnce.{AsksApart, owed_unique}
+use Rattle.rdm_lists.proofs.Members.{member-append_left, member-append_right, member_list_any}
+use Rattle.rdm_lists.proofs.Places.{slice_get-member}
+use Rattle.rdm_num.proofs.Lives.{same_life-refl}
 
 -- what a life owed is the same by accounts that agree
 pub owed_same : (own : Own) (ms ns : Messages) (log : List Deed) → Agree own.limits.first ms ns log → owed own ms log ≡ owed own ns log

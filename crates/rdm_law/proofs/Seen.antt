@@ -1,6 +1,6 @@
 -- What a life owes to another is owed for a datagram that it took from it.
 use Rattle.std.proofs.Common.{ℕ, List, [], ◌∷◌, inl, inr, subst}
-use Rattle.rdm_num.specs.Lists.{Member}
+use Rattle.rdm_lists.specs.Lists.{Member}
 use Rattle.rdm_num.specs.declared.numbers.Life.{Life}
 use Rattle.rdm_pkt.specs.declared.Packet.TheVariants.{Rtm}
 use Rattle.rdm_match.specs.Matcher.{Pair}

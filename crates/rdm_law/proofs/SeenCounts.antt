@@ -5,12 +5,12 @@ use Rattle.rdm_num.specs.declared.numbers.Life.{Life}
 use Rattle.rdm_model.specs.declared.job.Job.{Job}
 use Rattle.rdm_model.specs.declared.entry.Entry.{Entry}
 use Rattle.rdm_model.specs.Lawful.{life_deeds}
-use Rattle.rdm_law.proofs.Received.{member_at}
 use Rattle.rdm_law.proofs.Wired.{Played, taken_pushed}
 use Rattle.rdm_law.proofs.Knows.{pushed_opened}
 use Rattle.rdm_law.proofs.LifeCounts.{lives_of, lives_member}
 use Rattle.rdm_law.proofs.Pigeons.{AreDistinct, distinct_fit}
 use Rattle.rdm_law.proofs.SeenLives.{seen_lives, seen_took, seen_once}
+use Rattle.rdm_lists.proofs.Places.{member_at}
 
 -- a list of which no element stands at two places has distinct elements
 distinct_from : {A : Type 0} (xs : List A) → ((i k : ℕ) (x : A) → slice_get xs i ≡ Some x → slice_get xs k ≡ Some x → i ≡ k) → AreDistinct xs

@@ -2,14 +2,15 @@
 use Rattle.std.proofs.Common.{◌≡◌, ℕ, zero, suc, true, false, cond, List, [], ◌∷◌, ◌++◌, length, Some, refl, arith, inl, inr, ap, subst}
 use Rattle.std.specs.Prelude.{slice_get}
 use Rattle.std.specs.List.{list_any}
-use Rattle.rdm_num.specs.Lists.{Member}
+use Rattle.rdm_lists.specs.Lists.{Member}
 use Rattle.rdm_num.specs.declared.numbers.Life.{Life}
 use Rattle.rdm_model.specs.Deeds.{Deed, Did, PushedNote, Pushed, TookNote, Took, Polled, Nothing, Item, Spelled}
 use Rattle.rdm_pkt.specs.declared.Packet.TheVariants.{Handshake}
 use Rattle.rdm_model.specs.Owns.{Own}
 use Rattle.rdm_model.specs.Replies.{Reply, reply, is_from, handshake_by}
-use Rattle.rdm_model.proofs.Members.{member-append_cases, member_list_any, same_life-refl, slice_get-member}
-use Rattle.rdm_law.proofs.Received.{slice_get_split}
+use Rattle.rdm_lists.proofs.Members.{member-append_cases, member_list_any}
+use Rattle.rdm_lists.proofs.Places.{slice_get-member, slice_get_split}
+use Rattle.rdm_num.proofs.Lives.{same_life-refl}
 
 -- the life from which a deed is the first to take something
 unfoldable pub seen_new : List Deed → Deed → List Life

@@ -10,9 +10,9 @@ use Rattle.rdm_model.specs.Currents.{current}
 use Rattle.rdm_model.specs.Regions.{regions}
 use Rattle.rdm_model.specs.Matches.{Receive, receives, received_by, with_received}
 use Rattle.rdm_model.specs.Sends.{Sent, sends, sent_by, sent_to_current, range_of, new_sent, with_sent}
-use Rattle.rdm_law.proofs.Totals.{total, total-append}
 use Rattle.rdm_law.proofs.LifeCounts.{deed_weight}
 use Rattle.rdm_law.proofs.NoteCounts.{one}
+use Rattle.rdm_lists.proofs.Sums.{total, total-append}
 
 -- a range has no more bytes than were asked for
 range_few : (rs : List (List ℕ)) (region at len : ℕ) → length (range_of rs region at len) ≤ len

@@ -2,9 +2,9 @@
 use Rattle.std.proofs.Common.{◌≡◌, ℕ, ◌<◌, ◌≤◌, Bool, true, false, cond, ◌&&◌, not, List, [], ◌∷◌, ◌++◌, map, length, Option, Some, None, refl, arith, inl, inr, sym, ◌∙◌, ap, subst}
 use Rattle.std.specs.Prelude.{◌==◌, ◌||◌, filter, nat_eq}
 use Rattle.std.specs.List.{list_any}
-use Rattle.std.proofs.lemmas.Bool.{and_parts, eqb-true, not-true}
+use Rattle.std.proofs.lemmas.Bool.{and_parts, eqb-true, not-true, or_parts, not-false}
 use Rattle.std.proofs.lemmas.List.{length-append}
-use Rattle.rdm_num.specs.Lists.{Member}
+use Rattle.rdm_lists.specs.Lists.{Member}
 use Rattle.rdm_num.specs.Lives.{same_life, op_id}
 use Rattle.rdm_num.specs.declared.numbers.Connid.{Connid}
 use Rattle.rdm_num.specs.declared.numbers.Life.{Life}
@@ -23,15 +23,15 @@ use Rattle.rdm_model.specs.Completions.{recv_completions, ended_sends, send_comp
 use Rattle.rdm_model.specs.Scenes.{Scene}
 use Rattle.rdm_model.specs.Named.{live_send, is_read_send, is_no_op}
 use Rattle.rdm_model.specs.Local.{heard_by}
-use Rattle.rdm_model.proofs.Members.{member-append_cases, member-append_left, member-append_right, member-filter, filter-member, map-member, find_member, list_any_member, or_false}
 use Rattle.rdm_model.proofs.Numbers.{NewSent, sends_step, sends_one, send_below, new_number}
 use Rattle.rdm_model.proofs.Pushes.{pushed_of, pushed_step, none_pushed}
 use Rattle.rdm_model.proofs.SameRegions.{Agree, agree_before, sends_same}
 use Rattle.rdm_model.proofs.Grows.{agree_grows}
-use Rattle.rdm_law.proofs.Lives.{LifeLocal, LifeStep, life_scene, not-false}
+use Rattle.rdm_law.proofs.Lives.{LifeLocal, LifeStep, life_scene}
 use Rattle.rdm_law.proofs.Classed.{taken_parts}
 use Rattle.rdm_law.proofs.LiveSends.{live_parts}
 use Rattle.rdm_law.proofs.EndsKnown.{ends_send_took}
+use Rattle.rdm_lists.proofs.Members.{member-append_left, member-append_right, member-append_cases, member-filter, filter-member, map-member, list_any_member, find_member}
 
 -- each end that was taken was of a send that had been made
 abbrev pub EndsMade : Own → Messages → List Deed → Type 0
@@ -180,7 +180,7 @@ ended_completes own ms d before s m f =
 -- a life that is not forgotten was not before
 forgotten_earlier : (d : Deed) (before : List Deed) (life : Life) → is_forgotten (d ∷ before) life ≡ false → is_forgotten before life ≡ false
 unfolding is_forgotten
-forgotten_earlier d before life h = (or_false (is_forgotten before life) (list_any (same_life life) (forgotten_by before d)) h).0
+forgotten_earlier d before life h = (or_parts (is_forgotten before life) (list_any (same_life life) (forgotten_by before d)) h).0
 
 -- the same by any account of the messages, where ends are of sends that were made
 done_by : (own : Own) (ms : Messages) (log : List Deed) (s : Sent) → EndsMade own ms log → Member s (sends own ms log) → is_over log (pushed_of own ms log s.number) s ≡ true

@@ -3,7 +3,7 @@ use Rattle.std.proofs.Common.{◌≡◌, ℕ, zero, suc, ◌+◌, ◌-◌, ◌<�
 use Rattle.std.specs.List.{list_all}
 use Rattle.std.proofs.lemmas.Bool.{and_parts, and_from}
 use Rattle.std.proofs.lemmas.List.Folds.{list_all-append, list_all-map}
-use Rattle.rdm_num.specs.Lists.{Member, below}
+use Rattle.rdm_lists.specs.Lists.{Member, below}
 use Rattle.rdm_num.specs.Pieces.{Piece, byte_in, byte_at}
 use Rattle.rdm_num.specs.Lives.{same_life}
 use Rattle.rdm_num.specs.declared.numbers.Life.{Life}
@@ -26,8 +26,9 @@ use Rattle.rdm_model.specs.Matches.{pairs}
 use Rattle.rdm_model.specs.Parts.{piece_by, carried_by, carried_pieces}
 use Rattle.rdm_model.specs.Local.{heads_by, bytes_by}
 use Rattle.std.specs.Prelude.{◌==◌, flat_map}
-use Rattle.rdm_model.proofs.Members.{or_else_cases, member-append_cases, then_some_parts}
 use Rattle.rdm_law.proofs.Fitting.{AreBytes, ItemFits}
+use Rattle.rdm_lists.proofs.Members.{member-append_cases, option_member}
+use Rattle.rdm_lists.proofs.Options.{or_else_cases, then_some_parts}
 
 -- a test that all elements of two lists pass
 pub all_parts : {A : Type 0} (p : A → Bool) (xs ys : List A) → list_all p (xs ++ ys) ≡ true → (list_all p xs ≡ true) × (list_all p ys ≡ true)
@@ -179,12 +180,6 @@ byte_at_fits (x ∷ ps) place b fit h =
       | inl k ↦ byte_in_fits x place b (fit x (inl refl)) k
       | inr k ↦ byte_at_fits ps place b (λ y m. fit y (inr m)) k.1
     ]
-
--- an element of an option's list is the option's value
-option_member : {A : Type 0} (o : Option A) (x : A) → Member x (option_to_list o) → o ≡ Some x
-option_member None x m = elim m [ ]
-option_member (Some y) x (inl is) = ap Some is
-option_member (Some y) x (inr m) = elim m [ ]
 
 -- the bytes of each piece that was taken
 carried_pieces_fit : (first : ℕ) (heads : Heads) (log : List Deed) (source : Life) (n : ℕ) → AllTakenFit log → PiecesFit (carried_pieces first heads log source n)

@@ -1,7 +1,7 @@
 -- Fetching and handling keep a world sound, and so does each choice.
 use Rattle.std.proofs.Common.{◌≡◌, ℕ, ◌+◌, ◌≤◌, ◌<◌, ◌%◌, max, true, false, cond, ◌||◌, leb-false, nat_le, List, ◌∷◌, ◌++◌, length, take, drop, remove, slice_get, Option, Some, None, refl, arith, sym, ◌∙◌, ap, subst, append_assoc, take-append-drop, eqb-true}
 use Rattle.std.specs.Prelude.{◌==◌}
-use Rattle.rdm_num.specs.Lists.{Member}
+use Rattle.rdm_lists.specs.Lists.{Member}
 use Rattle.rdm_wire.specs.declared.Datagram.{Datagram}
 use Rattle.rdm_model.specs.declared.job.Job.{Job}
 use Rattle.rdm_model.specs.declared.job.Choice.{Choice}
@@ -18,8 +18,9 @@ use Rattle.rdm_model.specs.Local.{own_scene}
 use Rattle.rdm_model.specs.Worlds.{World, put_at, scene_in, with_entry, after_fetch, with_handle, after_handle_at, after_pick, step_handle, next_completion, after_choice}
 use Rattle.rdm_law.proofs.Apart.{Removed, removed, member_seam}
 use Rattle.rdm_law.proofs.DeliverSteps.{same_delivers, one_less, one_less_was, handle_delivers}
-use Rattle.rdm_law.proofs.Sound.{Sound, GoesWell, waiting_in, entry_of, local_more, handled_more, chosen, or_false}
+use Rattle.rdm_law.proofs.Sound.{Sound, GoesWell, waiting_in, entry_of, local_more, handled_more, chosen}
 use Rattle.rdm_law.proofs.SoundSteps.{next_sound, poll_sound, goes_sound}
+use Rattle.std.proofs.lemmas.Bool.{or_parts}
 
 -- a fetch leaves what waits for each port as it was
 pub fetch_waits : (job : Job) (w : World) (port p : ℕ) → waiting_in (after_fetch job w port) p ≡ waiting_in w p
@@ -48,7 +49,7 @@ fetch_sound job w port s = record {
 not_worn_by : (job : Job) (log : List Entry) (d : Datagram) → is_worn_by job log d ≡ false → max (clock job log) d.stamp.0 + 1 ≤ last_stamp
 unfolding is_worn_by is_worn
 not_worn_by job log d h =
-    let a = or_false (nat_le last_stamp (clock job log)) (nat_le last_stamp d.stamp.0) h in
+    let a = or_parts (nat_le last_stamp (clock job log)) (nat_le last_stamp d.stamp.0) h in
     let b : clock job log < last_stamp = leb-false _ _ a.0 in
     let c : d.stamp.0 < last_stamp = leb-false _ _ a.1 in
     omega arith
@@ -85,7 +86,7 @@ handle_sound job w port place (Some d) is s =
     let scene = own_scene job port (deeds_at job port (w.logs port)) in
     chosen (Sound job) (is_again_early class_of scene d || is_worn_by job (w.logs port) d) w _ (λ yes. s)
     (λ no.
-    let neither = or_false _ _ no in
+    let neither = or_parts _ _ no in
     let answer : Handled = handled_answer class_of scene d in
     let r = removed (w.stashes port) place d is in
     let was = stash_was w port place d r in

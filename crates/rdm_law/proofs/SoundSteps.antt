@@ -1,8 +1,8 @@
 -- Each choice keeps a world sound.
 use Rattle.std.proofs.Common.{◌≡◌, ℕ, ◌+◌, ◌≤◌, true, false, cond, not, ◌&&◌, ◌||◌, nat_le, List, [], ◌∷◌, ◌++◌, length, Option, Some, None, refl, inl, inr, sym, ◌∙◌, ap, subst, append_assoc}
-use Rattle.std.proofs.lemmas.Bool.{and_parts, not-true, eqb-true}
+use Rattle.std.proofs.lemmas.Bool.{and_parts, not-true, eqb-true, or_parts}
 use Rattle.std.specs.Prelude.{◌==◌}
-use Rattle.rdm_num.specs.Lists.{Member}
+use Rattle.rdm_lists.specs.Lists.{Member}
 use Rattle.rdm_num.specs.declared.completion.Completion.{Completion}
 use Rattle.rdm_wire.specs.declared.Datagram.{Datagram}
 use Rattle.rdm_model.specs.declared.job.Job.{Job}
@@ -19,7 +19,7 @@ use Rattle.rdm_model.specs.Local.{own_scene}
 use Rattle.rdm_model.specs.Worlds.{World, new_world, put_at, scene_in, with_entry, next_act, step_next, datagram_of, load_of, with_push, step_push, with_poll, next_completion}
 use Rattle.rdm_law.proofs.DeliverSteps.{IsQuiet, quiet_delivers, same_delivers, one_more, one_more_cases, push_delivers}
 use Rattle.rdm_law.proofs.Fitting.{BodyFits, HandledFits, CanGo, load_fits, load_bears}
-use Rattle.rdm_law.proofs.Sound.{Sound, GoesWell, waiting_in, not_worn, entry_of, local_more, handled_more, chosen, or_false}
+use Rattle.rdm_law.proofs.Sound.{Sound, GoesWell, waiting_in, not_worn, entry_of, local_more, handled_more, chosen}
 
 -- before any step
 pub new_sound : (job : Job) → Sound job new_world
@@ -115,7 +115,7 @@ unfolding with_push with_entry stamp_after
 push_sound job w port d fit does s =
     chosen (Sound job) (is_worn job (w.logs port) || nat_le job.inbox (length (w.queues d.dst.0))) w _ (λ yes. s)
     (λ no.
-    let last = not_worn job (w.logs port) (or_false _ _ no).0 in
+    let last = not_worn job (w.logs port) (or_parts _ _ no).0 in
     let push = does refl in
     record {
       local = local_more job w.logs port (Push d) s.local last push;

@@ -6,8 +6,8 @@ use Rattle.rdm_model.specs.declared.job.Job.{Job}
 use Rattle.rdm_model.specs.declared.job.Rank.{Rank}
 use Rattle.rdm_model.specs.Owns.{port_count}
 use Rattle.rdm_model.specs.Jobs.{is_fair, law_ops, is_within, sum_of_ops}
-use Rattle.rdm_law.proofs.Totals.{total, total_same, total_ones, sum_total}
 use Rattle.rdm_law.proofs.NoteCounts.{one}
+use Rattle.rdm_lists.proofs.Sums.{total, total_same, total_ones, sum_total}
 
 -- the same for each element
 pub total_each : {A : Type 0} (n : ℕ) (xs : List A) → total (λ x. n) xs ≡ n * length xs

@@ -1,10 +1,10 @@
 -- What did nothing changes nothing.
-use Rattle.std.proofs.Common.{◌≡◌, ℕ, Bool, true, false, not, ◌&&◌, ◌||◌, List, [], ◌∷◌, Option, Some, None, refl, ap, ◌∙◌, sym, subst, inl, inr, arith}
-use Rattle.std.specs.Prelude.{filter, ◌==◌}
+use Rattle.std.proofs.Common.{◌≡◌, ℕ, Bool, true, false, not, ◌&&◌, ◌||◌, List, [], ◌∷◌, refl, ap, ◌∙◌, sym, subst, inl, inr, arith}
+use Rattle.std.specs.Prelude.{◌==◌}
 use Rattle.std.specs.List.{list_any}
 use Rattle.std.proofs.lemmas.List.{append-nil}
 use Rattle.std.proofs.lemmas.Bool.{eq-eqb}
-use Rattle.rdm_num.specs.Lists.{Member, or_else}
+use Rattle.rdm_lists.specs.Lists.{Member, or_else}
 use Rattle.rdm_num.specs.Pieces.{Piece, covers}
 use Rattle.rdm_num.specs.declared.numbers.Life.{Life}
 use Rattle.rdm_match.specs.Matcher.{Pair, run, is_pair}
@@ -21,28 +21,15 @@ use Rattle.rdm_model.specs.Sends.{Sent, known_by, known_word, sends, with_sent, 
 use Rattle.rdm_model.specs.Turns.{Progress, progress, after_deed, after_push, is_over, ends_send, live_of}
 use Rattle.rdm_model.specs.Completions.{completions, completions_by, recv_completions, ended_sends, poll_count, is_poll}
 use Rattle.rdm_law.specs.Clauses.{StandsAs}
-
--- a test that no element passes
-filter_nothing : {A : Type 0} (t : A → Bool) (xs : List A) → ((x : A) → Member x xs → t x ≡ false) → filter t xs ≡ []
-filter_nothing t [] h = refl
-filter_nothing t (x ∷ xs) h = let a = h x (inl refl) in let b = filter_nothing t xs (λ y m. h y (inr m)) in rw (a, b) refl
-
--- tests that agree on the list
-filter_same : {A : Type 0} (p q : A → Bool) (xs : List A) → ((x : A) → p x ≡ q x) → filter p xs ≡ filter q xs
-filter_same p q [] h = refl
-filter_same p q (x ∷ xs) h = let a = h x in let b = filter_same p q xs h in rw (a, b) refl
+use Rattle.rdm_lists.proofs.Options.{or_else-none}
+use Rattle.rdm_lists.proofs.Same.{filter_same}
+use Rattle.rdm_lists.proofs.Filters.{filter_nothing}
 
 -- an element passes a test that some element is to pass
 any_member : {A : Type 0} (t : A → Bool) (xs : List A) (x : A) → Member x xs → t x ≡ true → list_any t xs ≡ true
 any_member t [] x m e = elim m [ ]
 any_member t (y ∷ ys) x (inl i) e = subst (λ z. (t z || list_any t ys) ≡ true) (sym i) (rw e refl)
 any_member t (y ∷ ys) x (inr m) e = let r = any_member t ys x m e in elim (t y) as (λ b. (b || list_any t ys) ≡ true) [ true ↦ refl | false ↦ r ]
-
--- nothing more
-pub or_none : {A : Type 0} (o : Option A) → or_else o None ≡ o
-unfolding or_else
-or_none None = refl
-or_none (Some x) = refl
 
 or_right : (b : Bool) → (b || false) ≡ b
 or_right true = refl
@@ -139,10 +126,10 @@ completions_still own ms log =
 pub nothing_stands : (own : Own) (ms : Messages) (log : List Deed) → StandsAs own ms (Nothing ∷ log) log
 unfolding current last_inserted first_seen inserted_by seen_by or_else known_word known_by heard_head head_by progress poll_count deed_count is_poll
 nothing_stands own ms log = record {
-  currents = λ port. ap (or_else (last_inserted log port)) (or_none (first_seen log port));
+  currents = λ port. ap (or_else (last_inserted log port)) (or_else-none (first_seen log port));
   forgotten = forgotten_still log;
-  known = λ life. or_none (known_word log life);
-  heard = λ life n. or_none (heard_head log life n);
+  known = λ life. or_else-none (known_word log life);
+  heard = λ life n. or_else-none (heard_head log life n);
   receives_are = receives_still log;
   matching_is = matching_still own.limits.first ms.head log;
   carried = carried_still own.limits.first ms.head log;

@@ -1,11 +1,10 @@
 -- At a settled end a standing life has nothing left to push.
-use Rattle.std.proofs.Common.{◌≡◌, ℕ, zero, suc, ◌<◌, ◌≤◌, Bool, true, false, cond, ◌||◌, List, [], ◌∷◌, Option, Some, None, refl, arith, ◌⊎◌, inl, inr, sym, ◌∙◌, ap, subst}
+use Rattle.std.proofs.Common.{◌≡◌, ℕ, ◌<◌, ◌≤◌, Bool, true, false, cond, ◌||◌, List, [], ◌∷◌, Option, Some, None, refl, arith, ◌⊎◌, inl, inr, ◌∙◌, ap, subst}
 use Rattle.std.specs.Prelude.{slice_get, is_none}
 use Rattle.std.specs.List.{list_all}
 use Rattle.std.proofs.lemmas.Bool.{and_parts, or_cases, lt-leb, cases_lt}
 use Rattle.std.proofs.lemmas.List.{get_or_past}
-use Rattle.std.proofs.lemmas.List.Folds.{list_all-append}
-use Rattle.rdm_num.specs.Lists.{Member, below}
+use Rattle.rdm_lists.specs.Lists.{Member}
 use Rattle.rdm_num.specs.declared.numbers.Life.{Life}
 use Rattle.rdm_num.specs.declared.numbers.Connid.{Connid}
 use Rattle.rdm_pkt.specs.declared.Packet.{Packet}
@@ -39,17 +38,8 @@ use Rattle.rdm_law.proofs.Lives.{life_scene, opened_scene}
 use Rattle.rdm_law.proofs.Wired.{Played}
 use Rattle.rdm_law.proofs.Known.{account}
 use Rattle.rdm_law.proofs.Agreed.{going_agreed}
-
--- each number below n passes
-all_below : (p : ℕ → Bool) (n k : ℕ) → list_all p (below n) ≡ true → k < n → p k ≡ true
-unfolding below
-all_below p zero k h l = absurd (omega arith)
-all_below p (suc n) k h l =
-    let parts = and_parts (list_all p (below n)) (list_all p (n ∷ [])) (sym (list_all-append p (below n) (n ∷ [])) ∙ h) in
-    elim (cases_lt k n) [
-      | inl less ↦ all_below p n k parts.0 less
-      | inr more ↦ (let e : k ≡ n = omega arith in ap p e ∙ (and_parts (p n) true parts.1).0)
-    ]
+use Rattle.rdm_lists.proofs.Options.{none_is}
+use Rattle.rdm_lists.proofs.Below.{all_below}
 
 -- what a quiet port says
 pub record Quiet (job : Job) (history : List Entry) (port : ℕ) : Type 0 where
@@ -114,11 +104,6 @@ open_rank job history port c h =
       | inl less ↦ less
       | inr more ↦ (let e = ap (λ (ops : List Instr). open_life (deeds ops (log_of port history))) (rank_past job port more) in let n = none_open (log_of port history) in cc)
     ]
-
--- a test for none
-none_is : {A : Type 0} (o : Option A) → is_none o ≡ true → o ≡ None
-none_is None h = refl
-none_is (Some x) h = cc
 
 -- the clock is not at its end
 pub not_worn : (job : Job) (log : List Entry) → clock job log < last_stamp → is_worn job log ≡ false

@@ -1,6 +1,6 @@
 -- What the turns of a life were: packets of its sends, each pushed once.
 use Rattle.std.proofs.Common.{◌≡◌, ℕ, true, List, [], ◌∷◌, length, Option, Some, ◌⊎◌, inl, inr, sym, ◌∙◌}
-use Rattle.rdm_num.specs.Lists.{Member}
+use Rattle.rdm_lists.specs.Lists.{Member}
 use Rattle.rdm_num.specs.Pieces.{Piece, overlaps}
 use Rattle.rdm_num.specs.declared.numbers.MsgNo.{MsgNo}
 use Rattle.rdm_num.specs.declared.numbers.OpId.{OpId}

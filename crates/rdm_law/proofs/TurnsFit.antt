@@ -2,7 +2,7 @@
 use Rattle.std.proofs.Common.{◌≡◌, ℕ, ◌+◌, ◌-◌, ◌<◌, min, Bool, true, false, cond, nat_lt, ltb-true, ◌||◌, List, [], ◌∷◌, ◌++◌, length, is_some, take, drop, Some, refl, arith, true≢false, inl, inr, sym, ◌∙◌, ap, subst, length-append, length-take, length-drop}
 use Rattle.std.specs.Prelude.{flat_map}
 use Rattle.std.proofs.lemmas.Bool.{and_parts, cases_lt}
-use Rattle.rdm_num.specs.Lists.{Member}
+use Rattle.rdm_lists.specs.Lists.{Member}
 use Rattle.rdm_num.specs.Lives.{op_id}
 use Rattle.rdm_num.specs.Pieces.{Piece, pieces, covers, piece_bytes}
 use Rattle.rdm_num.specs.declared.numbers.OpId.{OpId}
@@ -24,7 +24,6 @@ use Rattle.rdm_model.specs.Grants.{Grant, grants, grant_bytes, data_room}
 use Rattle.rdm_model.specs.Replies.{Reply}
 use Rattle.rdm_model.specs.Turns.{Turn, Replies, Sends, pieces_in, is_read, is_pushed, is_over, progress, turn}
 use Rattle.rdm_model.specs.Going.{Goes, turn_going}
-use Rattle.rdm_model.proofs.Members.{member-map, member-append_right, slice_get-member}
 use Rattle.rdm_model.proofs.Rows.{row_covers}
 use Rattle.rdm_model.proofs.Opens.{some_opening}
 use Rattle.rdm_model.proofs.Turns.{SendTurn, turn_cases, GrantedNext, Underway, next_is}
@@ -38,6 +37,8 @@ use Rattle.rdm_law.proofs.RepliesFit.{OwnFits, HeadsFit, replies_fit}
 use Rattle.rdm_law.proofs.PacketsFit.{data_fits}
 use Rattle.rdm_law.proofs.Headers.{fields_length, PieceFits, pieces_fit, common_length, common_short}
 use Rattle.rdm_law.proofs.OpeningsFit.{LimitsFit, chosen_kind, longer, room_is, eager_fits, segment_fits, first_fits, read_fits, runt_fits, size_below}
+use Rattle.rdm_lists.proofs.Members.{member-append_right, member-map}
+use Rattle.rdm_lists.proofs.Places.{slice_get-member}
 
 -- what holds of the one element of a list
 only_one : {A : Type 0} (P : A → Type 0) (x y : A) → Member y (x ∷ []) → P x → P y

@@ -1,19 +1,19 @@
 -- Each turn of a life went in a datagram that its port pushed, and what was pushed of a send were turns.
 use Rattle.std.proofs.Common.{◌≡◌, ℕ, List, [], ◌∷◌, length, Some, refl, inl, inr, ◌∙◌, ap, subst}
-use Rattle.rdm_num.specs.Lists.{Member}
+use Rattle.rdm_lists.specs.Lists.{Member}
 use Rattle.rdm_pkt.specs.declared.Packet.{Packet}
 use Rattle.rdm_model.specs.Deeds.{Deed}
 use Rattle.rdm_model.specs.Owns.{Own, Messages}
 use Rattle.rdm_model.specs.Sends.{Sent}
 use Rattle.rdm_model.specs.Turns.{Turn, Sends, progress}
 use Rattle.rdm_model.specs.Local.{heard_by}
-use Rattle.rdm_model.proofs.Members.{member-append_cases}
 use Rattle.rdm_model.proofs.SameRegions.{Agree, agree_before}
 use Rattle.rdm_model.proofs.SameTurns.{turn_same}
 use Rattle.rdm_model.proofs.Grows.{agree_grows}
 use Rattle.rdm_model.proofs.Pushes.{pushed_of, pushed_step}
 use Rattle.rdm_model.proofs.Served.{PushedAt}
 use Rattle.rdm_law.proofs.Lives.{TurnedAt}
+use Rattle.rdm_lists.proofs.Members.{member-append_cases}
 
 -- a push by one account is one by another that agrees with it
 pushed_back : (own : Own) (ms ns : Messages) (t : Turn) (k : ℕ) (log : List Deed) → Agree own.limits.first ms ns log → PushedAt own ns t k log → PushedAt own ms t k log

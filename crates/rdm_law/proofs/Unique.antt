@@ -1,12 +1,11 @@
 -- Lists of which elements that clash stand at one place.
 use Rattle.std.proofs.Common.{◌≡◌, ℕ, zero, suc, List, [], ◌∷◌, ◌++◌, map, Some, refl, arith, inl, inr, sym, ◌∙◌, ap, subst}
 use Rattle.std.specs.Prelude.{slice_get, flat_map}
-use Rattle.rdm_num.specs.Lists.{Member}
+use Rattle.rdm_lists.specs.Lists.{Member}
 use Rattle.rdm_match.specs.Matcher.{Pair}
-use Rattle.rdm_model.proofs.Lists.{member-flat_map}
-use Rattle.rdm_model.proofs.Members.{slice_get-member}
 use Rattle.rdm_law.proofs.Numbered.{PairsApart, LacksPair}
-use Rattle.rdm_law.proofs.Received.{slice_get_split}
+use Rattle.rdm_lists.proofs.Members.{member-flat_map}
+use Rattle.rdm_lists.proofs.Places.{slice_get-member, slice_get_split, slice_get-map_some}
 
 -- elements that clash stand at one place
 abbrev pub Unique : {A : Type 0} → (A → A → Type 0) → List A → Type 0
@@ -69,16 +68,10 @@ unique_pairs K s f (p ∷ ps) a u n =
     let r = member-flat_map f y ps k in
     lacks_pair p.recv.id.0 r.0 ps a.0 r.1 (sym (n p r.0 x y (inl refl) (inr r.1) h r.2 c)))
 
--- what stands at a place of a changed list comes from that place
-slice_get-map : {A B : Type 0} (f : A → B) (xs : List A) (n : ℕ) (y : B) → slice_get (map f xs) n ≡ Some y → (x : A) × (slice_get xs n ≡ Some x) × (f x ≡ y)
-slice_get-map f [] n y h = cc
-slice_get-map f (x ∷ xs) zero y h = (x, refl, cc)
-slice_get-map f (x ∷ xs) (suc n) y h = slice_get-map f xs n y h
-
 -- a list of which each element was changed, where those that clash then clashed before
 pub unique_map : {A B : Type 0} (K : A → A → Type 0) (L : B → B → Type 0) (f : A → B) (xs : List A) → Unique K xs
     → ((x y : A) → L (f x) (f y) → K x y) → Unique L (map f xs)
 unique_map K L f xs u n i j x y h k c =
-    let a = slice_get-map f xs i x h in
-    let b = slice_get-map f xs j y k in
+    let a = slice_get-map_some f xs i x h in
+    let b = slice_get-map_some f xs j y k in
     u i j a.0 b.0 a.1 b.1 (n a.0 b.0 (subst (λ z. L z (f b.0)) (sym a.2) (subst (λ z. L x z) (sym b.2) c)))

@@ -2,7 +2,7 @@
 use Rattle.std.proofs.Common.{◌≡◌, ℕ, ◌≤◌, Bool, true, false, cond, not, ◌&&◌, eqb-true, eq-eqb, List, [], ◌∷◌, ◌++◌, length, refl, arith, ◌⊎◌, inl, inr, sym, ap, subst, length-append}
 use Rattle.std.specs.Prelude.{◌==◌}
 use Rattle.std.proofs.lemmas.Bool.{and_parts}
-use Rattle.rdm_num.specs.Lists.{Member}
+use Rattle.rdm_lists.specs.Lists.{Member}
 use Rattle.rdm_num.specs.declared.numbers.PortNo.{PortNo}
 use Rattle.rdm_num.specs.declared.numbers.DatagramNo.{DatagramNo}
 use Rattle.rdm_wire.specs.declared.Datagram.{Datagram}
@@ -13,11 +13,11 @@ use Rattle.rdm_model.specs.Deeds.{log_of}
 use Rattle.rdm_model.specs.Wire.{PushedIn, IsOther, IsUnhandled}
 use Rattle.rdm_model.specs.Joint.{IsJoint}
 use Rattle.rdm_model.specs.Settled.{same_datagram, waiting_after, waiting_datagrams}
-use Rattle.rdm_model.proofs.Members.{member-append_left, member-append_right, filter-member}
 use Rattle.rdm_law.proofs.Apart.{AreApart, member_without}
 use Rattle.rdm_law.proofs.Delivers.{Delivers, AllHadWaited}
 use Rattle.rdm_law.proofs.Logs.{at_log_of}
 use Rattle.rdm_law.proofs.JointDelivered.{unhandled_by_all}
+use Rattle.rdm_lists.proofs.Members.{member-append_left, member-append_right, filter-member}
 
 -- an element of a list stands between two parts
 pub record Split {A : Type 0} (x : A) (xs : List A) : Type 0 where

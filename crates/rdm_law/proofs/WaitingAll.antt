@@ -2,7 +2,7 @@
 use Rattle.std.proofs.Common.{◌≡◌, ℕ, Bool, true, false, cond, not, eqb-true, eq-eqb, List, [], ◌∷◌, ◌++◌, length, refl, arith, true≢false, inl, inr, sym, ◌∙◌, ap, subst}
 use Rattle.std.specs.Prelude.{◌==◌, filter}
 use Rattle.std.proofs.lemmas.Bool.{and_from}
-use Rattle.rdm_num.specs.Lists.{Member}
+use Rattle.rdm_lists.specs.Lists.{Member}
 use Rattle.rdm_num.specs.declared.numbers.PortNo.{PortNo}
 use Rattle.rdm_num.specs.declared.numbers.DatagramNo.{DatagramNo}
 use Rattle.rdm_wire.specs.declared.Datagram.{Datagram}
@@ -14,12 +14,12 @@ use Rattle.rdm_model.specs.Steps.{count, is_push}
 use Rattle.rdm_model.specs.Wire.{PushedIn, IsOther, IsUnhandled, Comes, Wire}
 use Rattle.rdm_model.specs.Joint.{IsJoint}
 use Rattle.rdm_model.specs.Settled.{same_datagram, waiting_after, waiting_datagrams}
-use Rattle.rdm_model.proofs.Members.{member-append_cases, member-filter}
 use Rattle.rdm_law.proofs.Apart.{Differ, AreApart, apart_push}
 use Rattle.rdm_law.proofs.Delivers.{IsNumbered, AreNumbered, Delivers}
 use Rattle.rdm_law.proofs.DeliverSteps.{next_is_new}
 use Rattle.rdm_law.proofs.Logs.{log_of-same, at_log_of}
 use Rattle.rdm_law.proofs.Waiting.{apart_length, waiting_bound}
+use Rattle.rdm_lists.proofs.Members.{member-append_cases, member-filter}
 
 -- the pushes of each port of a history are numbered
 abbrev pub PushesNumbered : List Entry → Type 0

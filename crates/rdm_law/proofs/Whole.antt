@@ -1,29 +1,14 @@
 -- A message put together from parts that have all of its places is the message.
-use Rattle.std.proofs.Common.{◌≡◌, ℕ, zero, suc, ◌+◌, ◌-◌, ◌<◌, true, false, cond, List, [], ◌∷◌, length, map, take, drop, get_or, Some, None, refl, arith, inl, inr, sym, ◌∙◌, ap, subst, add-one}
+use Rattle.std.proofs.Common.{◌≡◌, ℕ, zero, suc, ◌+◌, ◌-◌, ◌<◌, true, false, cond, List, [], ◌∷◌, length, map, take, drop, Some, None, refl, arith, inl, inr, sym, ◌∙◌, ap, subst}
 use Rattle.std.specs.Prelude.{slice_get, nat_lt}
 use Rattle.std.proofs.lemmas.Bool.{ltb-false}
-use Rattle.std.proofs.lemmas.List.{get_or_append_left, get_or_push, get_or-map, length-map, same_lists, length_push}
+use Rattle.std.proofs.lemmas.List.{get_or-map, length-map, same_lists}
 use Rattle.std.proofs.lemmas.Option.{get_or_from_slice_get}
-use Rattle.rdm_num.specs.Lists.{Member, below}
+use Rattle.rdm_lists.specs.Lists.{Member, below}
 use Rattle.rdm_num.specs.Pieces.{Piece, byte_in, byte_at}
-use Rattle.rdm_model.proofs.Members.{or_else_cases, last_or_less}
 use Rattle.rdm_model.proofs.Cuts.{Part}
-
--- there are n numbers below n
-pub length-below : (n : ℕ) → length (below n) ≡ n
-unfolding below
-length-below zero = refl
-length-below (suc n) = length_push (below n) n ∙ add-one _ ∙ ap suc (length-below n)
-
--- each number below n stands at its place
-get_or-below : (n k d : ℕ) → k < n → get_or (below n) k d ≡ k
-unfolding below
-get_or-below zero k d h = absurd (omega arith)
-get_or-below (suc n) k d h =
-    elim (last_or_less k n h) [
-      | inl a ↦ get_or_push (below n) n d k (length-below n ∙ sym a) ∙ sym a
-      | inr a ↦ get_or_append_left (below n) (n ∷ []) d k (let e = length-below n in omega arith) ∙ get_or-below n k d a
-    ]
+use Rattle.rdm_lists.proofs.Options.{or_else_cases}
+use Rattle.rdm_lists.proofs.Below.{length-below, get_or-below}
 
 -- bytes that are known at each place
 pub put_together : (f : ℕ → ℕ) (n : ℕ) (xs : List ℕ) → length xs ≡ n → ((k : ℕ) → k < n → slice_get xs k ≡ Some (f k)) → map f (below n) ≡ xs

@@ -4,7 +4,7 @@ use Rattle.std.specs.Prelude.{slice_get}
 use Rattle.std.proofs.lemmas.Bool.{or_cases, or_right}
 use Rattle.std.proofs.lemmas.List.{length-append, append-nil}
 use Rattle.std.specs.List.{list_any}
-use Rattle.rdm_num.specs.Lists.{Member, or_else}
+use Rattle.rdm_lists.specs.Lists.{Member, or_else}
 use Rattle.rdm_num.specs.Pieces.{piece_bytes}
 use Rattle.rdm_pkt.specs.declared.Packet.{Packet}
 use Rattle.rdm_pkt.specs.declared.Kind.{Kind}

@@ -2,7 +2,7 @@
 use Rattle.std.proofs.Common.{◌≡◌, ℕ, ◌+◌, ◌<◌, ◌≤◌, Bool, true, false, cond, ◌&&◌, List, [], ◌∷◌, length, Option, Some, None, refl, arith, inl, inr, sym, ◌∙◌, ap, subst}
 use Rattle.std.specs.Prelude.{◌==◌, unwrap_or}
 use Rattle.std.proofs.lemmas.Bool.{and_parts, cases_lt}
-use Rattle.rdm_num.specs.Lists.{or_else}
+use Rattle.rdm_lists.specs.Lists.{or_else}
 use Rattle.rdm_num.specs.Lives.{same_life}
 use Rattle.rdm_num.specs.Pieces.{covers}
 use Rattle.rdm_num.specs.declared.numbers.Life.{Life}
@@ -22,9 +22,9 @@ use Rattle.rdm_model.specs.Heard.{head_by, heard_head}
 use Rattle.rdm_model.specs.Matches.{pairs}
 use Rattle.rdm_model.specs.Parts.{carried_pieces}
 use Rattle.rdm_model.specs.Grants.{first_part_in, first_part_by, first_part_taken, first_part, window_of, window, with_window, granted_bytes}
-use Rattle.rdm_model.proofs.Members.{or_else_left, or_else_cases, then_some_parts}
 use Rattle.rdm_model.proofs.Matches.{is_pair_still, pair_heard, is_pair_member, heard_still}
 use Rattle.rdm_law.proofs.Owed.{shape_in}
+use Rattle.rdm_lists.proofs.Options.{or_else_left, or_else_cases, then_some_parts}
 
 -- the account tells the heads that were heard
 abbrev pub Tells : Heads → List Deed → Type 0

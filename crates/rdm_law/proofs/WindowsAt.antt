@@ -2,7 +2,7 @@
 use Rattle.std.proofs.Common.{◌≡◌, ℕ, ◌+◌, ◌<◌, ◌≤◌, true, List, [], ◌∷◌, length, Some, refl, arith, ◌⊎◌, inl, inr, sym, ◌∙◌, ap, subst}
 use Rattle.std.specs.Prelude.{slice_get}
 use Rattle.std.proofs.lemmas.Option.{slice_get_within}
-use Rattle.rdm_num.specs.Lists.{Member}
+use Rattle.rdm_lists.specs.Lists.{Member}
 use Rattle.rdm_num.specs.declared.numbers.Connid.{Connid}
 use Rattle.rdm_num.specs.declared.numbers.OpId.{OpId}
 use Rattle.rdm_num.specs.declared.head.Shape.TheVariants as S
@@ -14,15 +14,14 @@ use Rattle.rdm_model.specs.Matches.{pairs}
 use Rattle.rdm_model.specs.Grants.{first_part, window, with_window, granted_bytes}
 use Rattle.rdm_model.specs.Sends.{sends}
 use Rattle.rdm_model.specs.Replies.{Reply, replies_by}
-use Rattle.rdm_model.proofs.Members.{slice_get-append, slice_get-member}
 use Rattle.rdm_model.proofs.Matches.{member_is_pair, is_pair_still, pair_still}
-use Rattle.rdm_law.proofs.Received.{slice_get_split}
 use Rattle.rdm_law.proofs.Queue.{owed}
 use Rattle.rdm_law.proofs.Answered.{slice_get_past}
 use Rattle.rdm_law.proofs.Owed.{shape_in, recv_in, NewReply, new_from}
 use Rattle.rdm_law.proofs.Clashes.{kind_of, recv_of}
 use Rattle.rdm_law.proofs.NewReplies.{Telling, new_unique}
 use Rattle.rdm_law.proofs.Windows.{Tells, tells_before, first_stays, is_window, reach, reach_more}
+use Rattle.rdm_lists.proofs.Places.{slice_get-append, slice_get-member, slice_get_split}
 
 -- two grants of one receive
 pub record ClashGrant (r s : Reply) : Type 0 where

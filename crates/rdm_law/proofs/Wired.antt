@@ -2,7 +2,7 @@
 use Rattle.std.proofs.Common.{◌≡◌, ℕ, true, List, [], ◌∷◌, Option, Some, None, refl, ◌⊎◌, inl, inr, sym, ◌∙◌, ap, subst}
 use Rattle.std.specs.Prelude.{IsTrue, slice_get}
 use Rattle.std.proofs.lemmas.Bool.{eqb-true}
-use Rattle.rdm_num.specs.Lists.{Member}
+use Rattle.rdm_lists.specs.Lists.{Member}
 use Rattle.rdm_num.specs.Lives.{life}
 use Rattle.rdm_num.specs.declared.numbers.PortNo.{PortNo}
 use Rattle.rdm_num.specs.declared.numbers.Connid.{Connid}
@@ -36,8 +36,9 @@ use Rattle.rdm_model.specs.Local.{own_scene, Local}
 use Rattle.rdm_model.specs.Lawful.{life_deeds, port_deeds}
 use Rattle.rdm_model.specs.Wire.{PushedIn, IsOther, IsUnhandled, Comes, Wire}
 use Rattle.rdm_law.proofs.Logs.{at_log_of, local_before}
-use Rattle.rdm_law.proofs.Lives.{life_of, life_scene, LifeLocal, TurnedAt, life_local, at_of_life, opened_scene, item_to, taken_class, same_connid, same_port}
+use Rattle.rdm_law.proofs.Lives.{life_of, life_scene, LifeLocal, TurnedAt, life_local, at_of_life, opened_scene, item_to, taken_class}
 use Rattle.rdm_law.proofs.Pushed.{PlacedAt, PushedTurn, pushed_turn}
+use Rattle.rdm_num.proofs.Lives.{port_is, connid_is}
 
 -- logs that are right by themselves, of a fair job, on a wire that delivers once
 pub record Played (job : Job) (history : List Entry) : Type 0 where
@@ -125,7 +126,7 @@ took_to s d f to load entered h b =
 -- an identifier that is open is the one
 own_connid : (c to : Connid) → is_connid (Some c) to ≡ true → c ≡ to
 unfolding is_connid
-own_connid c to h = same_connid c to (eqb-true c.0 to.0 h)
+own_connid c to h = connid_is c to (eqb-true c.0 to.0 h)
 
 -- what is taken names the life that takes it
 taken_named : (job : Job) (port : ℕ) (c to : Connid) (from : Life) (item : Item) (d : Datagram) → TakenAs from to item d → is_connid (Some (own_of job (life_of port c)).life.connid) to ≡ true
@@ -221,7 +222,7 @@ same_life_parts p q c d h k = rw (h, k) refl
 
 -- the life that a datagram is for
 same_life_at : (d : Datagram) (to : Connid) (life' : Life) → d.dst.0 ≡ life'.port.0 → to ≡ life'.connid → ◌≡◌ {A = Life} (record { port = d.dst; connid = to }) life'
-same_life_at d to life' h k = same_life_parts d.dst life'.port to life'.connid (same_port d.dst life'.port h) k
+same_life_at d to life' h k = same_life_parts d.dst life'.port to life'.connid (port_is d.dst life'.port h) k
 
 -- what was pushed as a turn of a port is a turn of the life that the datagram names
 turn_taken : (job : Job) (history : List Entry) (life' from : Life) (item : Item) (d : Datagram) → TakenAs from life'.connid item d → d.dst.0 ≡ life'.port.0

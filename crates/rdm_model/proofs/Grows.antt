@@ -1,9 +1,8 @@
 -- What a log says of its messages stays as it grows.
-use Rattle.std.proofs.Common.{◌≡◌, ℕ, zero, suc, ◌<◌, true, List, ◌∷◌, map, Option, Some, refl, arith, sym, ◌∙◌, ap, subst}
+use Rattle.std.proofs.Common.{◌≡◌, ℕ, ◌<◌, true, List, ◌∷◌, map, Option, Some, refl, arith, sym, ◌∙◌, ap, subst}
 use Rattle.std.specs.Prelude.{is_some, unwrap_or}
 use Rattle.std.proofs.lemmas.Bool.{and_parts}
-use Rattle.std.proofs.lemmas.List.{map-append}
-use Rattle.rdm_num.specs.Lists.{below, each_below}
+use Rattle.rdm_lists.specs.Lists.{below, each_below}
 use Rattle.rdm_num.specs.Pieces.{byte_at, covers}
 use Rattle.rdm_num.specs.declared.numbers.Life.{Life}
 use Rattle.rdm_num.specs.declared.head.Head.{Head}
@@ -15,12 +14,13 @@ use Rattle.rdm_model.specs.Matches.{pairs}
 use Rattle.rdm_model.specs.Parts.{carried_pieces, has_landed}
 use Rattle.rdm_model.specs.Receives.{is_filled}
 use Rattle.rdm_model.specs.Local.{heads_by, bytes_by, heard_by}
-use Rattle.rdm_model.proofs.Members.{some_of, each_below_at}
 use Rattle.rdm_model.proofs.Matches.{heard_still}
 use Rattle.rdm_model.proofs.SameMatches.{is_pair_heard}
 use Rattle.rdm_model.proofs.SameMatches.{HeadsAgree, carried_pieces_same}
 use Rattle.rdm_model.proofs.SameReceives.{byte_at_more}
 use Rattle.rdm_model.proofs.SameRegions.{Agree}
+use Rattle.rdm_lists.proofs.Options.{some_of}
+use Rattle.rdm_lists.proofs.Below.{each_below_at, map_below_same}
 
 -- the head of a message that was heard of
 pub heads_by_heard : (log : List Deed) (source : Life) (n : ℕ) (h : Head) → heard_head log source n ≡ Some h → heads_by log source n ≡ h
@@ -31,15 +31,6 @@ heads_by_heard log source n h is = rw is refl
 pub heads_grow : (d : Deed) (before : List Deed) → HeadsAgree (heads_by before) (heads_by (d ∷ before)) before
 heads_grow d before source n h is =
     heads_by_heard before source n h is ∙ sym (heads_by_heard (d ∷ before) source n h (heard_still d before source n h is))
-
--- a map over numbers by two functions that agree below the bound
-pub map_below_same : (f g : ℕ → ℕ) (n : ℕ) → ((k : ℕ) → k < n → f k ≡ g k) → map f (below n) ≡ map g (below n)
-unfolding below
-map_below_same f g zero h = refl
-map_below_same f g (suc n) h =
-    let earlier = map_below_same f g n (λ k l. h k (omega arith)) in
-    let last = h n (omega arith) in
-    simp map-append (cc)
 
 -- each place of a message that was received whole has its byte
 pub landed_byte : (first : ℕ) (heads : Heads) (log : List Deed) (p : Pair) (place : ℕ) → is_filled first heads log p ≡ true

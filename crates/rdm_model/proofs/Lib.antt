@@ -1,7 +1,4 @@
 -- Lemmas on the definitions.
--- Elements of lists, and lives compared:
-pub mod Members
-pub mod Lists
 -- What the matcher of a life keeps:
 pub mod Matches
 pub mod Numbers

@@ -3,7 +3,7 @@ use Rattle.std.proofs.Common.{◌≡◌, ℕ, ◌+◌, true, ◌&&◌, not, List
 use Rattle.std.specs.Prelude.{◌==◌, find}
 use Rattle.std.proofs.lemmas.Bool.{and_parts, and_from, eqb-true, eq-eqb}
 use Rattle.std.proofs.lemmas.List.{append-nil, append_assoc}
-use Rattle.rdm_num.specs.Lists.{Member, below}
+use Rattle.rdm_lists.specs.Lists.{Member, below}
 use Rattle.rdm_num.specs.Lives.{same_life}
 use Rattle.rdm_num.specs.declared.numbers.Life.{Life}
 use Rattle.rdm_num.specs.declared.head.Head.{Head}
@@ -15,7 +15,9 @@ use Rattle.rdm_model.specs.Deeds.{Deed, Did, Took}
 use Rattle.rdm_model.specs.Owns.{Heads}
 use Rattle.rdm_model.specs.Heard.{heard_head, is_heard, heard_below, has_entered, entering}
 use Rattle.rdm_model.specs.Matches.{arrival, events_by, matching, pairs}
-use Rattle.rdm_model.proofs.Members.{member-append_left, member-append_cases, member-filter, member-map, some_of, or_else_left, find_member, member_find, without_member, same_life-true, same_life-refl}
+use Rattle.rdm_lists.proofs.Members.{member-append_left, member-append_cases, member-filter, member-map, find_member, member_find, without_member}
+use Rattle.rdm_lists.proofs.Options.{some_of, or_else_left}
+use Rattle.rdm_num.proofs.Lives.{same_life-true, same_life-refl}
 
 -- a post adds at most one pair
 post_extends : (m : Matching) (r : PostedRecv) (o : Option Arrived) → (rest : List Pair) × ((after_post m r o).pairs ≡ m.pairs ++ rest)

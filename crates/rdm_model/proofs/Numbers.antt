@@ -4,7 +4,7 @@ use Rattle.std.specs.Prelude.{slice_get, filter, is_some}
 use Rattle.std.proofs.lemmas.List.{append-nil}
 use Rattle.std.proofs.lemmas.Option.{slice_get_within}
 use Rattle.std.proofs.lemmas.List.Elements.{filter-append}
-use Rattle.rdm_num.specs.Lists.{Member}
+use Rattle.rdm_lists.specs.Lists.{Member}
 use Rattle.rdm_num.specs.Lives.{same_life, op_id}
 use Rattle.rdm_num.specs.declared.numbers.Life.{Life}
 use Rattle.rdm_num.specs.declared.request.SendReq.{SendReq}
@@ -15,12 +15,9 @@ use Rattle.rdm_model.specs.Deeds.{Deed, Did}
 use Rattle.rdm_model.specs.Currents.{current}
 use Rattle.rdm_model.specs.Regions.{regions}
 use Rattle.rdm_model.specs.Sends.{Sent, sends_to, known_word, wants_raw, opt_for, new_sent, sent_to_current, range_of, sent_by, with_sent, sends}
-use Rattle.rdm_model.proofs.Members.{member-append_cases, slice_get-append, same_life-refl}
-
--- the element after the first ones
-pub slice_get_seam : {A : Type 0} (xs : List A) (y : A) (ys : List A) → slice_get (xs ++ y ∷ ys) (length xs) ≡ Some y
-slice_get_seam [] y ys = refl
-slice_get_seam (x ∷ xs) y ys = slice_get_seam xs y ys
+use Rattle.rdm_lists.proofs.Members.{member-append_cases}
+use Rattle.rdm_lists.proofs.Places.{slice_get-append, slice_get_seam}
+use Rattle.rdm_num.proofs.Lives.{same_life-refl}
 
 -- a send that a deed makes: it goes to the current life of its port, and has the bytes of its range
 pub record NewSent (own : Own) (ms : Messages) (before : List Deed) (sents : List Sent) (d : Deed) (s : Sent) : Type 0 where

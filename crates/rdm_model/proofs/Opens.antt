@@ -2,7 +2,7 @@
 use Rattle.std.proofs.Common.{◌≡◌, ℕ, ◌<◌, List, [], ◌∷◌, ◌++◌, length, map, take, Some, None, refl, arith, inl, inr, sym, ◌∙◌, ap, subst}
 use Rattle.std.proofs.lemmas.List.Elements.{filter_map-append}
 use Rattle.std.proofs.lemmas.List.{length-map}
-use Rattle.rdm_num.specs.Lists.{Member}
+use Rattle.rdm_lists.specs.Lists.{Member}
 use Rattle.rdm_num.specs.Pieces.{Piece, piece_bytes, pieces}
 use Rattle.rdm_num.specs.declared.limits.EpLimits.{EpLimits}
 use Rattle.rdm_pkt.specs.declared.Packet.{Packet}
@@ -14,8 +14,8 @@ use Rattle.rdm_pkt.specs.declared.Kind.TheVariants.{Eager, Medium, LongCts, Long
 use Rattle.rdm_pkt.specs.Heads.{shape_of, size_of, head_of, piece_of}
 use Rattle.rdm_pkt.specs.Openings.{Message, medium_form, runt_form, long_cts_form, no_bytes, rtm, room_in, openings, shape_by, message_head}
 use Rattle.rdm_model.specs.Turns.{packet_piece, pieces_in}
-use Rattle.rdm_model.proofs.Members.{member-map}
 use Rattle.rdm_model.proofs.Cuts.{InRow, rest_part, front_part, pieces_in_row, pieces_bytes, pieces_some, row_of_front}
+use Rattle.rdm_lists.proofs.Members.{member-map}
 
 -- the pieces of packets in a row
 pub pieces_in-append : (ps qs : List Packet) → pieces_in (ps ++ qs) ≡ pieces_in ps ++ pieces_in qs

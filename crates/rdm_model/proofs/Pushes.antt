@@ -2,16 +2,16 @@
 use Rattle.std.proofs.Common.{◌≡◌, ℕ, ◌≤◌, Bool, cond, List, [], ◌∷◌, ◌++◌, length, Option, Some, None, refl, arith, ◌⊎◌, inl, inr, sym, ◌∙◌, ap, subst}
 use Rattle.std.proofs.lemmas.Bool.{eq-eqb, ne_eqb, cases_eq}
 use Rattle.std.proofs.lemmas.List.{append-nil, length-append}
-use Rattle.rdm_num.specs.Lists.{Member}
+use Rattle.rdm_lists.specs.Lists.{Member}
 use Rattle.rdm_pkt.specs.declared.Packet.{Packet}
 use Rattle.rdm_model.specs.Deeds.{Deed, Pushed}
 use Rattle.rdm_model.specs.Owns.{Own, Messages}
 use Rattle.rdm_model.specs.Sends.{Sent, sent_by, with_sent, sends}
 use Rattle.rdm_model.specs.Grants.{grants}
 use Rattle.rdm_model.specs.Turns.{Turn, Replies, Sends, next_packet, after_turn, after_push, after_deed, progress, turn}
-use Rattle.rdm_model.proofs.Members.{member-append_left, member-append_cases}
 use Rattle.rdm_model.proofs.Numbers.{sends_step, sends_one, send_below, new_number}
 use Rattle.rdm_model.proofs.Turns.{SendTurn, turn_cases, Underway, next_is, next_underway, none_underway}
+use Rattle.rdm_lists.proofs.Members.{member-append_left, member-append_cases}
 
 -- the packets of the send of that number that were pushed
 abbrev pub pushed_of : Own → Messages → List Deed → ℕ → List Packet

@@ -1,23 +1,14 @@
 -- Which places a row of pieces has, and which places two of its pieces have.
-use Rattle.std.proofs.Common.{◌≡◌, ℕ, zero, suc, ◌+◌, ◌-◌, ◌<◌, ◌≤◌, Bool, true, false, ◌&&◌, List, [], ◌∷◌, length, Option, Some, None, refl, arith, inl, inr, ◌∙◌, ap, subst}
-use Rattle.std.specs.Prelude.{slice_get, is_some, nat_lt}
+use Rattle.std.proofs.Common.{◌≡◌, ℕ, ◌+◌, ◌-◌, ◌<◌, ◌≤◌, true, false, ◌&&◌, List, [], ◌∷◌, length, Option, None, refl, arith, inl, inr, ◌∙◌, ap, subst}
+use Rattle.std.specs.Prelude.{is_some, nat_lt}
 use Rattle.std.proofs.lemmas.Bool.{ltb-true, lt-ltb, le-ltb, and_parts, and_from, cases_lt, false_from_ne_true}
-use Rattle.rdm_num.specs.Lists.{Member, or_else, each_below}
+use Rattle.rdm_lists.specs.Lists.{Member, or_else}
 use Rattle.rdm_num.specs.Pieces.{Piece, overlaps, byte_in, byte_at, covers, piece_bytes}
-use Rattle.rdm_model.proofs.Members.{each_below_at}
 use Rattle.rdm_model.proofs.Cuts.{InRow}
-
--- a list has an element at each place below its length
-slice_get_some : {A : Type 0} (xs : List A) (k : ℕ) → k < length xs → is_some (slice_get xs k) ≡ true
-slice_get_some [] k h = absurd (omega arith)
-slice_get_some (x ∷ xs) zero h = refl
-slice_get_some (x ∷ xs) (suc k) h = slice_get_some xs k (omega arith)
-
--- a list has no element past its end
-slice_get_none : {A : Type 0} (xs : List A) (k : ℕ) → length xs ≤ k → slice_get xs k ≡ None
-slice_get_none [] k h = refl
-slice_get_none (x ∷ xs) zero h = absurd (omega arith)
-slice_get_none (x ∷ xs) (suc k) h = slice_get_none xs k (omega arith)
+use Rattle.rdm_lists.proofs.Below.{each_below_at, each_below_from}
+use Rattle.rdm_lists.proofs.Places.{slice_get_some}
+use Rattle.rdm_lists.proofs.Options.{some-or_else_left}
+use Rattle.std.proofs.lemmas.Option.{slice_get_past}
 
 -- a piece has the places from its offset to its end
 pub byte_in_some : (p : Piece) (place : ℕ) → p.offset ≤ place → place < p.offset + length p.bytes → is_some (byte_in p place) ≡ true
@@ -32,13 +23,7 @@ byte_in_before p place low = rw (lt-ltb place p.offset low) refl
 -- a piece has no place past its end
 pub byte_in_after : (p : Piece) (place : ℕ) → p.offset + length p.bytes ≤ place → byte_in p place ≡ None
 unfolding byte_in
-byte_in_after p place high = rw (le-ltb place p.offset (omega arith)) (slice_get_none p.bytes (place - p.offset) (omega arith))
-
--- the first value is there
-some_first : {A : Type 0} (x y : Option A) → is_some x ≡ true → is_some (or_else x y) ≡ true
-unfolding or_else
-some_first None y h = cc
-some_first (Some a) y h = refl
+byte_in_after p place high = rw (le-ltb place p.offset (omega arith)) (slice_get_past p.bytes (place - p.offset) (omega arith))
 
 -- where there is no first value it is the second
 none_first : {A : Type 0} (x y : Option A) → x ≡ None → or_else x y ≡ y
@@ -52,7 +37,7 @@ row_has bytes from [] place r low high = absurd (omega arith)
 row_has bytes from (p ∷ ps) place r low high =
     let o = r.0 in
     elim (cases_lt place (p.offset + length p.bytes)) [
-      | inl here ↦ some_first (byte_in p place) (byte_at ps place) (byte_in_some p place (omega arith) here)
+      | inl here ↦ some-or_else_left (byte_in p place) (byte_at ps place) (byte_in_some p place (omega arith) here)
       | inr later ↦ ap (λ (v : Option ℕ). is_some v) (none_first (byte_in p place) (byte_at ps place) (byte_in_after p place later))
           ∙ row_has bytes (from + length p.bytes) ps place r.2 (omega arith) (omega arith)
     ]
@@ -64,12 +49,6 @@ row_lacks bytes from [] place r high = refl
 row_lacks bytes from (p ∷ ps) place r high =
     let o = r.0 in
     none_first (byte_in p place) (byte_at ps place) (byte_in_after p place (omega arith)) ∙ row_lacks bytes (from + length p.bytes) ps place r.2 (omega arith)
-
--- a test that each number below passes
-pub each_below_from : (t : ℕ → Bool) (n : ℕ) → ((k : ℕ) → k < n → t k ≡ true) → each_below t n ≡ true
-unfolding each_below
-each_below_from t zero h = refl
-each_below_from t (suc n) h = and_from (each_below t n) (t n) (each_below_from t n (λ k l. h k (omega arith))) (h n (omega arith))
 
 -- a row from the start covers as much as it has bytes
 pub row_covers : (bytes : List ℕ) (ps : List Piece) (n : ℕ) → InRow bytes 0 ps → n ≤ piece_bytes ps → covers ps n ≡ true

@@ -17,13 +17,13 @@ use Rattle.rdm_model.specs.Sends.{Sent}
 use Rattle.rdm_model.specs.Scenes.{Scene}
 use Rattle.rdm_model.specs.Named.{live_send, live_pair}
 use Rattle.rdm_model.specs.Classes.{is_received, passes_grants, allowed_bytes, is_wrong_grant, is_early_end, is_mismatch, is_taken, is_taken_pair, repeats, is_overlap, item_class, body_class, class_of, body_lives_class, lives_class}
-use Rattle.rdm_model.proofs.Members.{some_of}
 use Rattle.rdm_model.proofs.SameMatches.{carried_pieces_same}
 use Rattle.rdm_model.proofs.SameReceives.{recv_ends_same, and_where}
 use Rattle.rdm_model.proofs.SameReplies.{granted_bytes_same}
 use Rattle.rdm_model.proofs.SameTurns.{progress_same}
 use Rattle.rdm_model.proofs.SameAnswers.{by_account, AgreesIn}
 use Rattle.rdm_model.proofs.SameNamed.{live_send_same, live_pair_same, live_pair_head, bad_key_same, no_op_same}
+use Rattle.rdm_lists.proofs.Options.{some_of}
 
 -- a message is received by both or by neither
 received_same : (s : Scene) (ns : Messages) (source : Life) (n : ℕ) → AgreesIn s ns → is_received s source n ≡ is_received (by_account s ns) source n

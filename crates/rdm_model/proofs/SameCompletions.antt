@@ -1,7 +1,7 @@
 -- By two accounts that agree, the completions and the counts of the pools are the same.
 use Rattle.std.proofs.Common.{◌≡◌, List, [], ◌∷◌, refl, inl, inr}
 use Rattle.std.specs.Prelude.{option_to_list}
-use Rattle.rdm_num.specs.Lists.{Member}
+use Rattle.rdm_lists.specs.Lists.{Member}
 use Rattle.rdm_num.specs.declared.completion.Completion.TheVariants.{Recv}
 use Rattle.rdm_model.specs.Deeds.{Deed}
 use Rattle.rdm_model.specs.Owns.{Own, Messages, Heads}
@@ -10,11 +10,11 @@ use Rattle.rdm_model.specs.Receives.{RecvEnd, Filled, Withdrawn, Gone, ended_rec
 use Rattle.rdm_model.specs.Regions.{kept_bytes}
 use Rattle.rdm_model.specs.Turns.{Progress, progress, after_push}
 use Rattle.rdm_model.specs.Completions.{took_outcome, outcome, recv_completion, recv_completions, ended_sends, completions_by, completions, tx_count, rx_count, early_count, cq_count}
-use Rattle.rdm_model.proofs.Lists.{map_same}
 use Rattle.rdm_model.proofs.SameMatches.{HeadsAgree, pairs_same}
 use Rattle.rdm_model.proofs.SameReceives.{recv_ends_by_same, recv_ends_same, live_receives_same}
 use Rattle.rdm_model.proofs.SameRegions.{Agree, AgreeEnd, agree_before, ends_agree, sends_same}
 use Rattle.rdm_model.proofs.SameTurns.{after_push_same, after_deed_same, progress_same, live_sends_same}
+use Rattle.rdm_lists.proofs.Same.{map_same}
 
 -- a receive has the same outcome
 outcome_same : (ms ns : Messages) (e : RecvEnd) (r : Receive) → AgreeEnd ms ns e → outcome ms e r ≡ outcome ns e r

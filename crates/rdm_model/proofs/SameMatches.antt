@@ -1,6 +1,6 @@
 -- By two accounts that agree on what was heard, the same messages meet the same receives, and the same bytes came.
 use Rattle.std.proofs.Common.{◌≡◌, ℕ, true, subst, List, [], ◌∷◌, map, Some, refl, ap}
-use Rattle.rdm_num.specs.Lists.{Member}
+use Rattle.rdm_lists.specs.Lists.{Member}
 use Rattle.rdm_num.specs.declared.numbers.Life.{Life}
 use Rattle.rdm_num.specs.declared.head.Head.{Head}
 use Rattle.rdm_match.specs.Matcher.{is_pair, Matching}
@@ -10,8 +10,8 @@ use Rattle.rdm_model.specs.Owns.{Heads}
 use Rattle.rdm_model.specs.Heard.{heard_head, entering}
 use Rattle.rdm_model.specs.Matches.{matching, pairs, events_by, arrival, merge}
 use Rattle.rdm_model.specs.Parts.{carried_pieces}
-use Rattle.rdm_model.proofs.Lists.{map_same}
 use Rattle.rdm_model.proofs.Matches.{is_pair_member, heard_still, entered_heard, entering_parts, pair_heard}
+use Rattle.rdm_lists.proofs.Same.{map_same}
 
 -- the heads agree on each message that was heard of
 abbrev pub HeadsAgree : Heads → Heads → List Deed → Type 0

@@ -1,7 +1,7 @@
 -- By two accounts that agree, a datagram is for the same operation.
 use Rattle.std.proofs.Common.{◌≡◌, ℕ, Bool, not, Option, Some, None, refl, ◌∙◌, ap}
 use Rattle.std.specs.Prelude.{◌&&◌}
-use Rattle.rdm_num.specs.Lists.{Member}
+use Rattle.rdm_lists.specs.Lists.{Member}
 use Rattle.rdm_num.specs.Lives.{same_life}
 use Rattle.rdm_num.specs.declared.numbers.Life.{Life}
 use Rattle.rdm_num.specs.declared.head.Shape.{Shape}
@@ -15,12 +15,12 @@ use Rattle.rdm_model.specs.Receives.{has_ended, recv_ends}
 use Rattle.rdm_model.specs.Sends.{Sent}
 use Rattle.rdm_model.specs.Scenes.{Scene}
 use Rattle.rdm_model.specs.Named.{live_send, live_pair, is_good_ask, is_bad_key, is_long_shape, is_read_shape, has_shape, is_no_op}
-use Rattle.rdm_model.proofs.Members.{find_member}
 use Rattle.rdm_model.proofs.Matches.{pair_heard}
 use Rattle.rdm_model.proofs.SameMatches.{pairs_same}
 use Rattle.rdm_model.proofs.SameReceives.{recv_ends_same}
 use Rattle.rdm_model.proofs.SameTurns.{live_sends_same}
 use Rattle.rdm_model.proofs.SameAnswers.{by_account, AgreesIn}
+use Rattle.rdm_lists.proofs.Members.{find_member}
 
 -- the live send of a number is the same
 pub live_send_same : (s : Scene) (ns : Messages) (to : Life) (n : ℕ) → AgreesIn s ns → live_send s to n ≡ live_send (by_account s ns) to n

@@ -2,7 +2,7 @@
 use Rattle.std.proofs.Common.{◌≡◌, ℕ, Bool, true, false, not, List, [], ◌∷◌, ◌++◌, Some, None, refl, ◌∙◌, ap}
 use Rattle.std.specs.Prelude.{◌&&◌, is_some, filter}
 use Rattle.std.proofs.lemmas.Bool.{and_parts, and_from}
-use Rattle.rdm_num.specs.Lists.{or_else}
+use Rattle.rdm_lists.specs.Lists.{or_else}
 use Rattle.rdm_num.specs.Pieces.{Piece, covers, byte_at, byte_in}
 use Rattle.rdm_num.specs.declared.numbers.Life.{Life}
 use Rattle.rdm_match.specs.Matcher.{Pair, Matching, is_pair}
@@ -12,10 +12,11 @@ use Rattle.rdm_model.specs.Currents.{forgotten_by}
 use Rattle.rdm_model.specs.Matches.{pairs}
 use Rattle.rdm_model.specs.Parts.{carried_pieces, has_landed}
 use Rattle.rdm_model.specs.Receives.{RecvEnd, is_filled, filled_by, gone_with, recv_ends_by, with_recv_ends, recv_ends, live_receives}
-use Rattle.rdm_model.proofs.Members.{some_of, is_some_from, each_below_more}
-use Rattle.rdm_model.proofs.Lists.{filter_same, flat_map_same}
 use Rattle.rdm_model.proofs.Matches.{is_pair_still}
 use Rattle.rdm_model.proofs.SameMatches.{is_pair_heard, HeadsAgree, heads_before, matching_same, pairs_same, carried_pieces_same}
+use Rattle.rdm_lists.proofs.Options.{some_of, is_some_from}
+use Rattle.rdm_lists.proofs.Same.{flat_map_same, filter_same}
+use Rattle.rdm_lists.proofs.Below.{each_below_more}
 
 -- whether a matched message has landed is the same
 landed_same : (first : ℕ) (hs ks : Heads) (log : List Deed) (source : Life) (n : ℕ) → HeadsAgree hs ks log → hs source n ≡ ks source n

@@ -2,7 +2,7 @@
 use Rattle.std.proofs.Common.{◌≡◌, ℕ, true, not, List, [], ◌∷◌, ◌++◌, map, Option, Some, None, refl, inl, inr, ◌∙◌, ap, subst}
 use Rattle.std.specs.Prelude.{◌&&◌, filter, flat_map}
 use Rattle.std.proofs.lemmas.Bool.{and_parts}
-use Rattle.rdm_num.specs.Lists.{Member}
+use Rattle.rdm_lists.specs.Lists.{Member}
 use Rattle.rdm_num.specs.declared.numbers.Life.{Life}
 use Rattle.rdm_match.specs.Matcher.{Pair, is_pair}
 use Rattle.rdm_model.specs.declared.job.Instr.TheVariants.{Send, Cancel}
@@ -14,10 +14,9 @@ use Rattle.rdm_model.specs.Parts.{has_landed}
 use Rattle.rdm_model.specs.Receives.{RecvEnd, Filled, Withdrawn, Gone, ended_recv, withdrawn_by, is_filled, filled_by, concerns, has_ended, gone_with, recv_ends_by, recv_ends, receive_numbered}
 use Rattle.rdm_model.specs.Regions.{written_by, after_end, after_ends, kept_bytes, region_by, regions}
 use Rattle.rdm_model.specs.Sends.{Sent, sent_by, with_sent, sends}
-use Rattle.rdm_model.proofs.Members.{member-append_cases, member-filter, member-map}
-use Rattle.rdm_model.proofs.Lists.{member-flat_map}
 use Rattle.rdm_model.proofs.SameMatches.{is_pair_heard, HeadsAgree, heads_before}
 use Rattle.rdm_model.proofs.SameReceives.{recv_ends_by_same, recv_ends_same, filled_still}
+use Rattle.rdm_lists.proofs.Members.{member-append_cases, member-filter, member-map, member-flat_map}
 
 -- the accounts agree on the heads of messages that were heard of, and on the bytes of those that were received
 pub record Agree (first : ℕ) (ms ns : Messages) (log : List Deed) : Type 0 where

@@ -2,7 +2,7 @@
 use Rattle.std.proofs.Common.{◌≡◌, ℕ, Bool, true, false, cond, List, [], ◌∷◌, refl, ◌∙◌}
 use Rattle.std.specs.Prelude.{◌+◌, ◌&&◌}
 use Rattle.std.proofs.lemmas.Bool.{and_parts}
-use Rattle.rdm_num.specs.Lists.{Member}
+use Rattle.rdm_lists.specs.Lists.{Member}
 use Rattle.rdm_num.specs.Pieces.{covers}
 use Rattle.rdm_num.specs.declared.limits.EpLimits.{EpLimits}
 use Rattle.rdm_match.specs.Matcher.{Pair, is_pair}
@@ -13,10 +13,10 @@ use Rattle.rdm_model.specs.Parts.{carried_pieces}
 use Rattle.rdm_model.specs.Sends.{Sent}
 use Rattle.rdm_model.specs.Grants.{first_part, window_of, window, with_window, granted_bytes}
 use Rattle.rdm_model.specs.Replies.{pair_items, pair_replies, replies_by}
-use Rattle.rdm_model.proofs.Lists.{flat_map_same}
 use Rattle.rdm_model.proofs.Matches.{pair_heard}
 use Rattle.rdm_model.proofs.SameMatches.{is_pair_heard, HeadsAgree, heads_before, pairs_same, carried_pieces_same}
 use Rattle.rdm_model.proofs.SameReceives.{is_filled_same}
+use Rattle.rdm_lists.proofs.Same.{flat_map_same}
 
 -- values that agree where a test holds
 pub cond_where : {A : Type 0} (b : Bool) (x y z : A) → (b ≡ true → x ≡ y) → cond b x z ≡ cond b y z

@@ -5,7 +5,7 @@ use Rattle.std.proofs.lemmas.List.{length-append, length-take, length-drop}
 use Rattle.std.proofs.lemmas.Bool.{cases_lt, and_parts, eqb-true}
 use Rattle.std.proofs.lemmas.Option.{slice_get_within}
 use Rattle.std.proofs.lemmas.List.Sums.{sum_by-append}
-use Rattle.rdm_num.specs.Lists.{Member}
+use Rattle.rdm_lists.specs.Lists.{Member}
 use Rattle.rdm_num.specs.Lives.{op_id, same_life}
 use Rattle.rdm_num.specs.Pieces.{piece_bytes}
 use Rattle.rdm_num.specs.declared.numbers.Life.{Life}
@@ -25,11 +25,13 @@ use Rattle.rdm_model.specs.Owns.{Own, Messages}
 use Rattle.rdm_model.specs.Sends.{Sent, sends}
 use Rattle.rdm_model.specs.Grants.{Grant, grants_by, grants, grant_bytes, data_room}
 use Rattle.rdm_model.specs.Turns.{Sends, pieces_in}
-use Rattle.rdm_model.proofs.Members.{slice_get-member, member-append_cases, same_life-true}
 use Rattle.rdm_model.proofs.Opens.{opening_is}
 use Rattle.rdm_model.proofs.Turns.{IsData, AllData, GrantedNext, next_is}
 use Rattle.rdm_model.proofs.Pushes.{pushed_of, underway}
 use Rattle.rdm_model.proofs.Served.{PushedAt, next_send_turn, ServedAt, served_at, served_stands, served_once, push_member}
+use Rattle.rdm_lists.proofs.Members.{member-append_cases}
+use Rattle.rdm_lists.proofs.Places.{slice_get-member}
+use Rattle.rdm_num.proofs.Lives.{same_life-true}
 
 -- the deed that took a grant
 grant_by_taken : (peer : Life) (send : ℕ) (d : Deed) (g : Grant) → Member g (grants_by peer send d)

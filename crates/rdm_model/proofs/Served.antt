@@ -3,7 +3,7 @@ use Rattle.std.proofs.Common.{◌≡◌, ℕ, ◌+◌, ◌<◌, ◌≤◌, true,
 use Rattle.std.specs.Prelude.{slice_get}
 use Rattle.std.proofs.lemmas.List.{append-nil}
 use Rattle.std.proofs.lemmas.Option.{slice_get_within}
-use Rattle.rdm_num.specs.Lists.{Member}
+use Rattle.rdm_lists.specs.Lists.{Member}
 use Rattle.rdm_num.specs.Pieces.{Piece, piece_bytes, overlaps}
 use Rattle.rdm_pkt.specs.declared.Packet.{Packet}
 use Rattle.rdm_model.specs.Deeds.{Deed, Pushed}
@@ -11,13 +11,12 @@ use Rattle.rdm_model.specs.Owns.{Own, Messages}
 use Rattle.rdm_model.specs.Sends.{Sent, sends}
 use Rattle.rdm_model.specs.Grants.{grants}
 use Rattle.rdm_model.specs.Turns.{Turn, Sends, packet_piece, pieces_in, is_over, next_packet, progress, turn}
-use Rattle.rdm_model.proofs.Members.{slice_get-append}
 use Rattle.rdm_model.proofs.Cuts.{Part, piece_bytes-append, single_bytes}
 use Rattle.rdm_model.proofs.Rows.{apart, apart_after}
 use Rattle.rdm_model.proofs.Opens.{pieces_in-append, pieces_in_one}
-use Rattle.rdm_model.proofs.Numbers.{slice_get_seam}
 use Rattle.rdm_model.proofs.Turns.{turn_cases, next_is, next_piece}
 use Rattle.rdm_model.proofs.Pushes.{pushed_of, PushesOf, pushed_step, pushed_here, member_later, underway}
+use Rattle.rdm_lists.proofs.Places.{slice_get-append, slice_get_seam}
 
 -- that turn was pushed, after so many deeds, by an account of the messages
 abbrev pub PushedAt : Own → Messages → Turn → ℕ → List Deed → Type 0

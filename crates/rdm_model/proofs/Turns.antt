@@ -3,7 +3,7 @@ use Rattle.std.proofs.Common.{◌≡◌, ℕ, ◌+◌, ◌-◌, ◌<◌, min, tr
 use Rattle.std.specs.Prelude.{slice_get, nat_lt}
 use Rattle.std.proofs.lemmas.Bool.{ltb-true}
 use Rattle.std.proofs.lemmas.List.{append-nil}
-use Rattle.rdm_num.specs.Lists.{Member, or_else}
+use Rattle.rdm_lists.specs.Lists.{Member, or_else}
 use Rattle.rdm_num.specs.Lives.{op_id}
 use Rattle.rdm_num.specs.Pieces.{Piece, piece_bytes}
 use Rattle.rdm_pkt.specs.declared.Packet.{Packet}

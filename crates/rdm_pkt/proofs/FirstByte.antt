@@ -1,7 +1,7 @@
 -- Which row the first byte names.
-use Rattle.std.proofs.Common.{◌≡◌, ℕ, ◌+◌, ◌≤◌, ◌<◌, Bool, true, false, List, [], ◌∷◌, Some, None, refl, arith, ◌⊎◌, inl, inr}
+use Rattle.std.proofs.Common.{◌≡◌, ℕ, ◌+◌, ◌≤◌, ◌<◌, false, List, [], ◌∷◌, Some, None, refl, arith, ◌⊎◌, inl, inr}
 use Rattle.std.specs.Prelude.{◌==◌, slice_get}
-use Rattle.std.proofs.lemmas.Bool.{eqb-true}
+use Rattle.std.proofs.lemmas.Bool.{eqb-true, false_from_ne_true}
 use Rattle.std.proofs.lemmas.Bool.Decides.{leb_tells}
 use Rattle.rdm_hdr.specs.Fields.{number_at}
 use Rattle.rdm_pkt.specs.Reading.{Row, EagerRow, MediumRow, LongCtsRow, LongReadRow, RuntRow, CtsRow, CtsDataRow, EorRow, HandshakeRow, row_of, rtm_row, rtm_at, values_at, if_spelled, packet_in}
@@ -74,14 +74,9 @@ pub of-runt : (bytes : List ℕ) (kind : ℕ) → Some kind ≡ slice_get bytes 
 unfolding row_of rtm_row values_at
 of-runt bytes kind first least most = of-row bytes kind RuntRow first (elim (one_of_two 192 kind least most) [ inl e ↦ rw e refl | inr e ↦ rw e refl ])
 
--- a test that cannot hold
-differ_by : (test : Bool) → (test ≡ true → ⊥) → test ≡ false
-differ_by true wrong = absurd (wrong refl)
-differ_by false wrong = refl
-
 -- two numbers that differ
 differ : (a b : ℕ) → (a ≡ b → ⊥) → (a == b) ≡ false
-differ a b wrong = differ_by (a == b) (λ h. wrong (eqb-true a b h))
+differ a b wrong = false_from_ne_true (a == b) (λ h. wrong (eqb-true a b h))
 
 -- a type of no row
 pub of-other : (bytes : List ℕ) (kind : ℕ) → Some kind ≡ slice_get bytes 0

@@ -5,7 +5,7 @@ use Rattle.std.specs.List.{list_all}
 use Rattle.std.specs.Bool.{one_answer}
 use Rattle.std.proofs.lemmas.List.Folds.{list_all_at}
 use Rattle.std.proofs.lemmas.List.Sums.{sum_by_more_le}
-use Rattle.std.proofs.lemmas.Bool.{and_parts, leb-true, eqb-true, le-leb}
+use Rattle.std.proofs.lemmas.Bool.{and_parts, leb-true, eqb-true, le-leb, false_from_ne_true}
 use Rattle.std.proofs.lemmas.Bool.Decides.{Decides-eqb}
 use Rattle.rdm_num.specs.declared.lists.IovEntry.{IovEntry}
 use Rattle.rdm_hdr.specs.Fields.{Field, Number, fields_fit, number_at}
@@ -75,11 +75,6 @@ stands-iov place (suc n) more bytes h room =
 
 -- ---- the conditions of a read list
 
--- a test that cannot hold
-false-by : (test : Bool) → (test ≡ true → ⊥) → test ≡ false
-false-by true wrong = absurd (wrong refl)
-false-by false wrong = refl
-
 -- a test has one answer
 two-answers : {b : Bool} → b ≡ false → b ≡ true → ⊥
 two-answers p q = cc
@@ -89,7 +84,7 @@ iov-never : (iov : List IovEntry) (size : ℕ) → (1 ≤ length iov → length 
 unfolding iov_fits
 iov-never iov size wrong =
     let counts : Bool = nat_le 1 (length iov) && nat_le (length iov) 4 in
-    false-by (counts && list_all entry_test iov && (sum_by entry_length iov == size)) (λ h.
+    false_from_ne_true (counts && list_all entry_test iov && (sum_by entry_length iov == size)) (λ h.
     let a = and_parts (counts && list_all entry_test iov) (sum_by entry_length iov == size) h in
     let b = and_parts counts (list_all entry_test iov) a.0 in
     let d = and_parts (nat_le 1 (length iov)) (nat_le (length iov) 4) b.0 in

@@ -1,14 +1,13 @@
 -- What built deeds say of the lives of a port.
-use Rattle.std.proofs.Common.{◌≡◌, ◌≤◌, ℕ, ◌+◌, Bool, true, false, cond, List, [], ◌∷◌, Option, Some, None, refl, ap, subst, arith}
+use Rattle.std.proofs.Common.{◌≡◌, ◌≤◌, ◌+◌, Bool, true, false, cond, List, [], ◌∷◌, Option, Some, None, refl, ap, subst, arith}
 use Rattle.std.specs.Prelude.{is_some}
 use Rattle.std.specs.List.{list_any}
-use Rattle.std.proofs.lemmas.Bool.{eqb-true, eq-eqb, leb-true, le-leb}
+use Rattle.std.proofs.lemmas.Bool.{eqb-true, eq-eqb, leb-true, le-leb, or_parts}
 use Rattle.rdm_num.specs.declared.numbers.Connid.{Connid}
 use Rattle.rdm_num.specs.declared.numbers.Life.{Life}
 use Rattle.rdm_num.specs.declared.request.SendReq.{SendReq}
 use Rattle.rdm_pkt.specs.Choice.{eager_room}
 use Rattle.rdm_pkt.proofs.EagerRoom.{eager_header_size}
-use Rattle.rdm_model.proofs.Members.{or_false}
 use Rattle.rdm_model.specs.declared.job.Instr.TheVariants.{OpenLife, CloseLife}
 use Rattle.rdm_model.specs.Deeds.{Deed, Did, open_after, open_life, is_connid, of_life}
 use Rattle.rdm_model.specs.Notes.{opens}
@@ -18,10 +17,7 @@ use Rattle.rdm_port.specs.Views.{PortView}
 use Rattle.rdm_port.specs.Kept.{own_at}
 use Rattle.rdm_port.specs.Machine.{header_size, has_room}
 use Rattle.rdm_port.specs.Built.{AreBuilt, IsBuiltDeed}
-
--- identifiers with one number are one
-connid_is : (a b : Connid) → a.0 ≡ b.0 → a ≡ b
-connid_is a b h = ap (λ (n : ℕ). record { 0 = n }) h
+use Rattle.rdm_num.proofs.Lives.{connid_is}
 
 -- an identifier that is open is that one
 pub open_is_that : (o : Option Connid) (connid : Connid) → is_connid o connid ≡ true → o ≡ Some connid
@@ -61,7 +57,7 @@ unopened : (life : Life) (log : List Deed) → list_any (opens life) log ≡ fal
 unfolding open_life of_life is_connid
 unopened life [] h = record { closed = refl; none = refl }
 unopened life (d ∷ before) h =
-    let parts = or_false (opens life d) (list_any (opens life) before) h in
+    let parts = or_parts (opens life d) (list_any (opens life) before) h in
     let u = unopened life before parts.1 in
     let c = u.closed in
     record { closed = stays_closed life d (open_life before) parts.0 c; none = rw c u.none }

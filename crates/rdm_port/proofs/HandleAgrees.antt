@@ -1,6 +1,6 @@
 -- What a port answers to a datagram, by what it keeps, is what the definitions say.
 use Rattle.std.proofs.Common.{◌≡◌, false, List, Option, Some, None, refl, ap, ◌∙◌, sym, subst}
-use Rattle.rdm_num.specs.Lists.{first_case}
+use Rattle.rdm_lists.specs.Lists.{first_case}
 use Rattle.rdm_num.specs.declared.numbers.Connid.{Connid}
 use Rattle.rdm_wire.specs.declared.Body.{Body}
 use Rattle.rdm_wire.specs.declared.Body.TheVariants.{Note, Between}

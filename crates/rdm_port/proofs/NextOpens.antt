@@ -1,8 +1,8 @@
 -- What a port keeps after it opened a life.
-use Rattle.std.proofs.Common.{◌≡◌, ℕ, Bool, true, false, cond, List, [], ◌∷◌, ◌++◌, Option, Some, None, refl, ap, ◌∙◌, sym, subst}
+use Rattle.std.proofs.Common.{◌≡◌, ℕ, Bool, true, false, cond, List, [], ◌∷◌, ◌++◌, Option, None, refl, ap, ◌∙◌, sym, subst}
 use Rattle.std.specs.Prelude.{not, ◌&&◌, ◌||◌, ◌==◌, is_some}
 use Rattle.std.specs.List.{list_any}
-use Rattle.std.proofs.lemmas.Bool.{eqb-true, eqb-false, eq-eqb, ne_eqb}
+use Rattle.std.proofs.lemmas.Bool.{eqb-true, eqb-false, eq-eqb, ne_eqb, or_parts}
 use Rattle.std.proofs.lemmas.List.Folds.{list_any-append}
 use Rattle.rdm_num.specs.Lives.{same_life}
 use Rattle.rdm_num.specs.declared.numbers.Connid.{Connid}
@@ -13,7 +13,6 @@ use Rattle.rdm_model.specs.declared.answer.DidWhat.{DidWhat}
 use Rattle.rdm_model.specs.declared.answer.DidWhat.TheVariants.{Plain}
 use Rattle.rdm_model.specs.Deeds.{Deed, Did, open_after, open_life, is_connid, of_life}
 use Rattle.rdm_model.specs.Notes.{is_note_push, tells_open, opens, knows_open, says, was_told}
-use Rattle.rdm_model.proofs.Members.{or_false}
 use Rattle.rdm_ep.specs.View.{new_endpoint}
 use Rattle.rdm_ep.specs.Keeps.{Keeps}
 use Rattle.rdm_ep.proofs.KeepsQuiet.{keeps_new}
@@ -24,6 +23,7 @@ use Rattle.rdm_port.specs.Built.{IsBuiltDeed}
 use Rattle.rdm_port.proofs.Counted.{none_open}
 use Rattle.rdm_port.proofs.BuiltDeeds.{unopened_has_none}
 use Rattle.rdm_port.proofs.NextDeeds.{KeepsDeeds, notes_more}
+use Rattle.rdm_lists.proofs.Options.{none_there}
 
 -- the life of the port with that identifier
 abbrev pub own_life : ℕ → Connid → Life
@@ -69,11 +69,6 @@ could_by : (b : Bool) (what : DidWhat) → cond b Memory (DidAnswer Plain) ≡ D
 could_by true what h = cc
 could_by false what h = refl
 
--- no value is there
-none_there : {A : Type 0} (o : Option A) → is_some o ≡ false → o ≡ None
-none_there None h = refl
-none_there (Some x) h = cc
-
 -- what is not new twice over is not there
 twice_not : (b : Bool) → not (not b) ≡ false → b ≡ false
 twice_not true h = h
@@ -84,7 +79,7 @@ could_open : (v : PortView) (k : Kept) (connid : Connid) (what : DidWhat) → ma
 unfolding machine_answer
 could_open v k connid what a =
     let test = could_by (is_some k.endpoint || not (is_new_life k.opened v connid)) what a in
-    let parts = or_false (is_some k.endpoint) (not (is_new_life k.opened v connid)) test in
+    let parts = or_parts (is_some k.endpoint) (not (is_new_life k.opened v connid)) test in
     record { endpoint = none_there k.endpoint parts.0; fresh = twice_not (is_opened k.opened (own_life v.number connid)) parts.1 }
 
 -- a test that holds beside another one

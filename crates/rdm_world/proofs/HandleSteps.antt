@@ -2,7 +2,7 @@
 use Rattle.std.proofs.Common.{◌≡◌, ℕ, suc, ◌+◌, ◌<◌, min, Bool, true, false, cond, not, ◌||◌, List, [], ◌++◌, length, get_or, set, take, drop, remove, Option, Some, None, refl, arith, eq-eqb, sym, ◌∙◌, ap, subst, inl, inr, length-append, length-take}
 use Rattle.std.specs.Prelude.{◌==◌}
 use Rattle.std.proofs.lemmas.Bool.{cases_eq, ne_eqb}
-use Rattle.rdm_num.specs.Lists.{Member}
+use Rattle.rdm_lists.specs.Lists.{Member}
 use Rattle.rdm_wire.specs.declared.Datagram.{Datagram}
 use Rattle.rdm_wire.specs.declared.Body.{Body}
 use Rattle.rdm_wire.specs.declared.Body.TheVariants.{Note, Between}
@@ -23,13 +23,14 @@ use Rattle.rdm_model.specs.Worlds.{World, scene_in, put_at, with_entry, after_fe
 use Rattle.rdm_port.specs.Views.{PortView, scene_at, logged, stashed}
 use Rattle.rdm_port.specs.Built.{IsBuiltDatagram}
 use Rattle.rdm_port.specs.Handles.{answer_to, is_handling, place_of, picked, after_answer, Answers, Fetched, DoesHandle}
-use Rattle.rdm_model.proofs.Members.{member-append_left, member-append_cases, member-append_right}
 use Rattle.rdm_law.proofs.Apart.{put_at_here, put_at_there}
 use Rattle.rdm_world.specs.Views.{WorldView}
 use Rattle.rdm_world.specs.Shows.{port_in, IsWorld, IsBuiltWorld, has_changed}
 use Rattle.rdm_world.specs.Steps.{Tries}
-use Rattle.rdm_world.proofs.Lists.{first_part, last_part, member_at, member_take}
+use Rattle.rdm_world.proofs.Lists.{first_part, last_part}
 use Rattle.rdm_world.proofs.Putting.{IsAfter, own_port, same_after, entry_after, port_from, after_shows}
+use Rattle.rdm_lists.proofs.Members.{member-append_left, member-append_right, member-append_cases, member_take}
+use Rattle.rdm_lists.proofs.Places.{slice_get-member}
 
 -- what is known after the answer to a datagram of a stash: the port and the world, the entries, and what did not change
 pub record HandleIs (job : Job) (u v : World) (r : ℕ) (q : PortView) (made : Bool) : Type 0 where
@@ -142,7 +143,7 @@ picked_built : (job : Job) (w : World) (r pick : ℕ) (d : Datagram) → IsBuilt
     → IsBuiltDatagram job (port_in job (after_fetch job w r) r) d
 unfolding after_fetch scene_at scene_in
 picked_built job w r pick d built is =
-    built r d (waits job w r d (member_at ((after_fetch job w r).stashes r) (place_of (port_in job (after_fetch job w r) r) pick) d is))
+    built r d (waits job w r d (slice_get-member ((after_fetch job w r).stashes r) (place_of (port_in job (after_fetch job w r) r) pick) d is))
 
 -- how many datagrams are in the stash after a fetch
 fetched_length : (job : Job) (w : World) (r : ℕ) → length ((after_fetch job w r).stashes r) ≡ length (w.stashes r) + min job.inbox (length (w.queues r))

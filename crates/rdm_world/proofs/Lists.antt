@@ -1,8 +1,7 @@
 -- Lists of which a part was taken.
-use Rattle.std.proofs.Common.{◌≡◌, ℕ, suc, zero, ◌<◌, ◌≤◌, List, [], ◌∷◌, ◌++◌, length, take, drop, get_or, ◌+◌, slice_get, Some, arith, sym, ◌∙◌, ap, inl, inr}
+use Rattle.std.proofs.Common.{◌≡◌, ℕ, ◌<◌, ◌≤◌, List, [], ◌∷◌, ◌++◌, length, take, drop, get_or, ◌+◌, arith, sym, ◌∙◌, ap, inl, inr}
 use Rattle.std.proofs.lemmas.Bool.{cases_eq, cases_lt}
 use Rattle.std.proofs.lemmas.List.{take_at, drop_at, take_all, drop_all, append-nil, get_or_append_left, get_or_push}
-use Rattle.rdm_num.specs.Lists.{Member}
 
 -- the first part of a list, where no more than n are in it, and fewer only where nothing is left
 pub first_part : {A : Type 0} (n : ℕ) (xs got rest : List A) → xs ≡ got ++ rest → length got ≤ n → (length got < n → rest ≡ []) → got ≡ take n xs
@@ -21,20 +20,6 @@ last_part {A} n xs got rest is few all = elim (cases_eq (length got) n) [
       let whole : xs ≡ got = is ∙ ap (λ (r : List A). got ++ r) none ∙ append-nil got in
       none ∙ sym (drop_all n xs (omega (arith, ap length whole))))
 ]
-
--- what stands at a place of a list is in it
-pub member_at : {A : Type 0} (xs : List A) (i : ℕ) (x : A) → slice_get xs i ≡ Some x → Member x xs
-member_at [] zero x h = cc
-member_at [] (suc i) x h = cc
-member_at (y ∷ ys) zero x h = inl cc
-member_at (y ∷ ys) (suc i) x h = inr (member_at ys i x h)
-
--- what is in the first part of a list is in the list
-pub member_take : {A : Type 0} (n : ℕ) (xs : List A) (x : A) → Member x (take n xs) → Member x xs
-member_take zero xs x m = elim m [ ]
-member_take (suc n) [] x m = elim m [ ]
-member_take (suc n) (y ∷ ys) x (inl is) = inl is
-member_take (suc n) (y ∷ ys) x (inr m) = inr (member_take n ys x m)
 
 -- each of a list and one more is what stands for its place
 pub get_or_more : {A : Type 0} (xs : List A) (x : A) (f : ℕ → A) (n : ℕ) (ys : List A) → ys ≡ xs ++ x ∷ [] → length xs ≡ n → ((i : ℕ) (d : A) → i < n → get_or xs i d ≡ f i)

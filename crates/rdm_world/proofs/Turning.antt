@@ -1,6 +1,6 @@
 -- Steps after each other, as a turn and a round have them.
 use Rattle.std.proofs.Common.{◌≡◌, ℕ, suc, zero, ◌+◌, ◌<◌, ◌≤◌, Bool, false, not, ◌||◌, List, [], ◌∷◌, ◌++◌, length, refl, arith, eq-eqb, sym, ◌∙◌, ap, subst}
-use Rattle.rdm_num.specs.Lists.{below}
+use Rattle.rdm_lists.specs.Lists.{below}
 use Rattle.rdm_model.specs.declared.job.Job.{Job}
 use Rattle.rdm_model.specs.declared.job.Choice.{Choice}
 use Rattle.rdm_model.specs.Owns.{port_count}

@@ -1,7 +1,7 @@
 -- What the report of a world is made of.
 use Rattle.std.specs.Prelude.{◌≡◌, Bool, List, map, is_some}
 use Rattle.std.specs.List.{list_any}
-use Rattle.rdm_num.specs.Lists.{below}
+use Rattle.rdm_lists.specs.Lists.{below}
 use Rattle.rdm_model.specs.declared.job.Job.{Job}
 use Rattle.rdm_model.specs.declared.report.End.{End}
 use Rattle.rdm_model.specs.Owns.{port_count}

@@ -1,5 +1,5 @@
 use Rattle.std.proofs.Common.{◌≡◌, ◌+◌, ◌<◌, ◌≤◌, ◌++◌, ◌∷◌, [], ℕ, Vec, Global, map, take, length, get_or, refl, sym, ◌∙◌, subst}
-use Rattle.rdm_num.specs.Lists.{without_first}
+use Rattle.rdm_lists.specs.Lists.{without_first}
 use Rattle.rdm_model.specs.Regions.{change_at, put}
 use Rattle.rdm_ep.specs.contracts.endpoint.Endpoint.{the_view}
 use Rattle.rdm_ep.specs.View.{EndpointView}

@@ -1,5 +1,5 @@
 use Rattle.std.proofs.Common.{◌≡◌, ◌<◌, List, length, get_or, map, subst, arith, ◌∙◌, ap}
-use Rattle.rdm_num.specs.Lists.{below}
+use Rattle.rdm_lists.specs.Lists.{below}
 use Rattle.rdm_port.specs.Views.{PortView}
 use Rattle.rdm_model.specs.Owns.{port_count}
 use Rattle.rdm_model.specs.Played.{end_at}

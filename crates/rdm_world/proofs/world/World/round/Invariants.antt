@@ -1,5 +1,5 @@
 use Rattle.std.proofs.Common.{◌≡◌, length}
-use Rattle.rdm_num.specs.Lists.{below}
+use Rattle.rdm_lists.specs.Lists.{below}
 use Rattle.rdm_model.specs.Played.{turns_of}
 use Rattle.rdm_world.specs.Steps.{Makes}
 use Rattle.rdm_world.proofs.world.World.round.Given as goal

@@ -1,0 +1,2 @@
+-- Words on lists and options.
+pub mod Lists
