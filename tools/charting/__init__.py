@@ -1,0 +1,1 @@
+"""What tools/chart is made of: reading, naming, layout and drawing."""
