@@ -16,9 +16,9 @@ use Rattle.rdm_model.specs.declared.job.Instr.TheVariants.{OpenLife, Insert, Reg
 use Rattle.rdm_model.specs.Jobs.{is_fair, law_ops, lives_fit, rank_fits, features_fit, instr_fits, limits_fit, is_within, choices_fit, opens_well, opened_by, is_open_after}
 use Rattle.rdm_model.specs.Owns.{rank_of, no_rank}
 use Rattle.rdm_model.specs.Worlds.{new_world}
-use Rattle.rdm_law.proofs.PlainDeeds.{IsPlainOp}
-use Rattle.rdm_law.proofs.PlainPorts.{PlainJob}
-use Rattle.rdm_law.proofs.PlainJobs.{fits_one_packet}
+use Rattle.rdm_law.proofs.Plain.PlainDeeds.{IsPlainOp}
+use Rattle.rdm_law.proofs.Plain.PlainPorts.{PlainJob}
+use Rattle.rdm_law.proofs.Plain.PlainJobs.{fits_one_packet}
 use Rattle.rdm_world.specs.Shows.{StaysBuilt}
 use Rattle.rdm_world.proofs.PlainStays.{plain_stays_built}
 use Rattle.rdm_script.specs.Played.{is_eager, goes_eager, is_played_instr, is_played_rank, is_played}

@@ -11,9 +11,9 @@ use Rattle.rdm_script.specs.Script.{job_in, text_job, whole, script_max}
 use Rattle.rdm_top.specs.Reads.{IsRead}
 use Rattle.rdm_top.specs.Promise.{Plays}
 use Rattle.rdm_top.proofs.PlayedJobs.{is_fair-job_in}
-use Rattle.rdm_law.proofs.PlaysRight.{plays_right}
-use Rattle.rdm_law.proofs.Bounded.{is_bounded}
-use Rattle.rdm_law.proofs.TheLaw.{the_headline}
+use Rattle.rdm_law.proofs.Played.PlaysRight.{plays_right}
+use Rattle.rdm_law.proofs.Bound.Bounded.{is_bounded}
+use Rattle.rdm_law.proofs.Central.TheLaw.{the_headline}
 
 -- known bytes that are not touched are kept
 pub keeps : (known : Option (List ℕ)) → Keeps known known

@@ -16,7 +16,7 @@ use Rattle.rdm_model.specs.Answers.{answer_of, is_entry}
 use Rattle.rdm_model.specs.Going.{Going, going}
 use Rattle.rdm_model.specs.Settled.{is_worn, instruction_left}
 use Rattle.rdm_model.specs.Worlds.{World, put_at, scene_in, with_entry, next_act, step_next, datagram_of, with_push, step_push, with_poll, next_completion, after_choice}
-use Rattle.rdm_law.proofs.Apart.{put_at_here}
+use Rattle.rdm_law.proofs.Played.Apart.{put_at_here}
 use Rattle.rdm_world.specs.Shows.{has_changed}
 use Rattle.rdm_world.specs.Views.{WorldView}
 use Rattle.rdm_world.specs.Steps.{Steps, Enters, has_made}

@@ -6,7 +6,7 @@ use Rattle.rdm_model.specs.declared.entry.Entry.{Entry}
 use Rattle.rdm_model.specs.Deeds.{log_of}
 use Rattle.rdm_port.specs.Views.{PortView}
 use Rattle.std.proofs.lemmas.Bool.{cases_Bool}
-use Rattle.rdm_law.proofs.Logs.{log_of-same, log_of-other}
+use Rattle.rdm_law.proofs.Lives.Logs.{log_of-same, log_of-other}
 use Rattle.rdm_world.specs.Gathers.{log_or_none, logs_of, IsLater, IsOwnLog}
 use Rattle.rdm_world.specs.Joined.{joined}
 use Rattle.rdm_world.proofs.GatheredClasses.{filter_yes, filter_no}

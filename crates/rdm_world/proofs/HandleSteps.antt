@@ -23,7 +23,7 @@ use Rattle.rdm_model.specs.Worlds.{World, scene_in, put_at, with_entry, after_fe
 use Rattle.rdm_port.specs.Views.{PortView, scene_at, logged, stashed}
 use Rattle.rdm_port.specs.Built.{IsBuiltDatagram}
 use Rattle.rdm_port.specs.Handles.{answer_to, is_handling, place_of, picked, after_answer, Answers, Fetched, DoesHandle}
-use Rattle.rdm_law.proofs.Apart.{put_at_here, put_at_there}
+use Rattle.rdm_law.proofs.Played.Apart.{put_at_here, put_at_there}
 use Rattle.rdm_world.specs.Views.{WorldView}
 use Rattle.rdm_world.specs.Shows.{port_in, IsWorld, IsBuiltWorld, has_changed}
 use Rattle.rdm_world.specs.Steps.{Tries}

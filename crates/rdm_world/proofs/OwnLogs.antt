@@ -11,9 +11,9 @@ use Rattle.rdm_model.specs.Jobs.{is_fair, law_ops}
 use Rattle.rdm_model.specs.Worlds.{World}
 use Rattle.rdm_model.specs.Played.{played_world}
 use Rattle.rdm_port.specs.Views.{PortView}
-use Rattle.rdm_law.proofs.Stamps.{stamps_rise}
-use Rattle.rdm_law.proofs.Sound.{Sound}
-use Rattle.rdm_law.proofs.PlaysLawfully.{played_sound}
+use Rattle.rdm_law.proofs.Lives.Stamps.{stamps_rise}
+use Rattle.rdm_law.proofs.Played.Sound.{Sound}
+use Rattle.rdm_law.proofs.Played.PlaysLawfully.{played_sound}
 use Rattle.rdm_world.specs.Views.{WorldView}
 use Rattle.rdm_world.specs.Shows.{IsWorld, port_in}
 use Rattle.rdm_world.specs.Gathers.{log_or_none, logs_of, IsLater, IsOwnLog, AreOwnLogs}

@@ -13,12 +13,12 @@ use Rattle.rdm_model.specs.Deeds.{Deed, Item, Spelled, item_of}
 use Rattle.rdm_model.specs.Jobs.{is_fair, law_ops}
 use Rattle.rdm_model.specs.Owns.{Own}
 use Rattle.rdm_model.specs.Worlds.{World, new_world, scene_in, after_choices}
-use Rattle.rdm_law.proofs.PlainDeeds as Law
-use Rattle.rdm_law.proofs.PlainWaiting.{waiting_built}
-use Rattle.rdm_law.proofs.PlainWaiting as Waiting
-use Rattle.rdm_law.proofs.PlainPorts.{PlainJob}
-use Rattle.rdm_law.proofs.PlainPlayed.{PlainWorld, new_plain_world, plain_keeps}
-use Rattle.rdm_law.proofs.PlayedSteps.{choices_keep}
+use Rattle.rdm_law.proofs.Plain.PlainDeeds as Law
+use Rattle.rdm_law.proofs.Plain.PlainWaiting.{waiting_built}
+use Rattle.rdm_law.proofs.Plain.PlainWaiting as Waiting
+use Rattle.rdm_law.proofs.Plain.PlainPorts.{PlainJob}
+use Rattle.rdm_law.proofs.Plain.PlainPlayed.{PlainWorld, new_plain_world, plain_keeps}
+use Rattle.rdm_law.proofs.Played.PlayedSteps.{choices_keep}
 use Rattle.rdm_ep.specs.Plain.{IsPlainItem}
 use Rattle.rdm_port.specs.Built.{IsBuiltBody}
 use Rattle.rdm_world.specs.Shows.{IsBuiltWorld, StaysBuilt}

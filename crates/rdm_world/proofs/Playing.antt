@@ -15,7 +15,7 @@ use Rattle.rdm_model.specs.Settled.{instruction_left}
 use Rattle.rdm_model.specs.Steps.{count, is_next}
 use Rattle.rdm_model.specs.Worlds.{World, new_world, scene_in, after_choice, after_choices}
 use Rattle.rdm_model.specs.Played.{end_at, rounds, round_bound, played_world}
-use Rattle.rdm_law.proofs.PlayedSteps.{choices_keep, fair_choices}
+use Rattle.rdm_law.proofs.Played.PlayedSteps.{choices_keep, fair_choices}
 use Rattle.rdm_port.specs.Views.{PortView, scene_at}
 use Rattle.rdm_port.specs.Nexts.{EndsAs}
 use Rattle.rdm_world.specs.Views.{WorldView}

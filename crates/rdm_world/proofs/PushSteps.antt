@@ -17,7 +17,7 @@ use Rattle.rdm_model.specs.Settled.{is_worn}
 use Rattle.rdm_model.specs.Worlds.{World, scene_in, put_at, with_entry, with_push, step_push, datagram_of, after_choice}
 use Rattle.rdm_port.specs.Views.{PortView, scene_at, logged}
 use Rattle.rdm_port.specs.Pushes.{lone_world, out_of, IsPushOf, PushedAs, DoesPush, PushesOn}
-use Rattle.rdm_law.proofs.Apart.{put_at_here, put_at_there}
+use Rattle.rdm_law.proofs.Played.Apart.{put_at_here, put_at_there}
 use Rattle.rdm_world.specs.Views.{WorldView}
 use Rattle.rdm_world.specs.Shows.{port_in, has_changed}
 use Rattle.rdm_world.specs.Answers.{is_pushed}

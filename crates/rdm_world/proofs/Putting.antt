@@ -10,7 +10,7 @@ use Rattle.rdm_model.specs.Worlds.{World, with_entry}
 use Rattle.rdm_wire.specs.declared.Datagram.{Datagram}
 use Rattle.rdm_wire.specs.Queues.{MemWireState}
 use Rattle.rdm_port.specs.Views.{PortView, IsPortOf, logged}
-use Rattle.rdm_law.proofs.Apart.{put_at_here, put_at_there}
+use Rattle.rdm_law.proofs.Played.Apart.{put_at_here, put_at_there}
 use Rattle.rdm_world.specs.Views.{WorldView}
 use Rattle.rdm_world.specs.Shows.{port_in, IsWorld, has_changed}
 

@@ -13,7 +13,7 @@ use Rattle.rdm_model.specs.Jobs.{choice_rank}
 use Rattle.rdm_model.specs.Going.{Going, going}
 use Rattle.rdm_model.specs.Settled.{instruction_left}
 use Rattle.rdm_model.specs.Worlds.{World, scene_in, with_entry, step_next, with_push, step_push, after_fetch, with_handle, after_handle_at, after_pick, step_handle, with_poll, next_completion, after_choice, after_choices}
-use Rattle.rdm_law.proofs.PlayedSteps.{Keeps}
+use Rattle.rdm_law.proofs.Played.PlayedSteps.{Keeps}
 use Rattle.rdm_world.specs.Shows.{IsBuiltWorld, StaysBuilt, has_changed}
 
 -- a world that stays built is built

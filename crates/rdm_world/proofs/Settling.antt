@@ -5,7 +5,7 @@ use Rattle.std.proofs.lemmas.Bool.{not-true, not-false}
 use Rattle.rdm_model.specs.declared.job.Job.{Job}
 use Rattle.rdm_model.specs.Worlds.{World}
 use Rattle.rdm_model.specs.Played.{stop_if, unless_quiet, round_of, rounds}
-use Rattle.rdm_law.proofs.PlayedSteps.{round_keeps}
+use Rattle.rdm_law.proofs.Played.PlayedSteps.{round_keeps}
 use Rattle.rdm_world.specs.Views.{WorldView}
 use Rattle.rdm_world.specs.Shows.{IsWorld, StaysBuilt, has_changed}
 use Rattle.rdm_world.specs.Steps.{Makes, Reaches}

@@ -11,7 +11,7 @@ use Rattle.rdm_model.specs.Jobs.{choice_rank}
 use Rattle.rdm_model.specs.Worlds.{World, put_at, with_entry, after_fetch, with_handle, after_handle_at, after_pick, step_handle, after_choice}
 use Rattle.rdm_model.specs.Played.{stop_if, is_last_try, try_then, after_first_handle, handle_any}
 use Rattle.rdm_port.specs.Views.{PortView}
-use Rattle.rdm_law.proofs.Apart.{put_at_here}
+use Rattle.rdm_law.proofs.Played.Apart.{put_at_here}
 use Rattle.rdm_world.specs.declared.world.Handling.{Handling}
 use Rattle.rdm_world.specs.Views.{WorldView}
 use Rattle.rdm_world.specs.Shows.{port_in, IsWorld, StaysBuilt, has_changed}

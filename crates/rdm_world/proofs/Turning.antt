@@ -7,7 +7,7 @@ use Rattle.rdm_model.specs.Owns.{port_count}
 use Rattle.rdm_model.specs.Jobs.{choice_rank}
 use Rattle.rdm_model.specs.Worlds.{World, after_choice}
 use Rattle.rdm_model.specs.Played.{handle_any, turn_of, turns_of, round_of}
-use Rattle.rdm_law.proofs.PlayedSteps.{Keeps, first_handle_keeps, turn_keeps}
+use Rattle.rdm_law.proofs.Played.PlayedSteps.{Keeps, first_handle_keeps, turn_keeps}
 use Rattle.rdm_world.specs.Views.{WorldView}
 use Rattle.rdm_world.specs.Shows.{IsWorld, StaysBuilt, has_changed}
 use Rattle.rdm_world.specs.Steps.{Steps, Makes}

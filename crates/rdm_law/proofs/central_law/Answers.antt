@@ -1,5 +1,5 @@
 use Rattle.rdm_law.proofs.central_law.Goals as goal
-use Rattle.rdm_law.proofs.TheLaw.{the_law, the_joint_law}
+use Rattle.rdm_law.proofs.Central.TheLaw.{the_law, the_joint_law}
 
 pub returns-clause-law : goal.returns-clause-law
 returns-clause-law c = the_law

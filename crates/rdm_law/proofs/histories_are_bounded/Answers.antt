@@ -1,5 +1,5 @@
 use Rattle.rdm_law.proofs.histories_are_bounded.Goals as goal
-use Rattle.rdm_law.proofs.Bounded.{is_bounded}
+use Rattle.rdm_law.proofs.Bound.Bounded.{is_bounded}
 
 pub returns : goal.returns
 returns c = is_bounded

@@ -1,8 +1,8 @@
 use Rattle.rdm_law.proofs.messages_are_kept.Goals as goal
-use Rattle.rdm_law.proofs.ClassFree.{all_free}
-use Rattle.rdm_law.proofs.EntersInOrder.{enter_in_order}
-use Rattle.rdm_law.proofs.MatchedOnce.{matched_once}
-use Rattle.rdm_law.proofs.PolledWas.{polled_was_sent}
+use Rattle.rdm_law.proofs.Classes.ClassFree.{all_free}
+use Rattle.rdm_law.proofs.Matching.EntersInOrder.{enter_in_order}
+use Rattle.rdm_law.proofs.Matching.MatchedOnce.{matched_once}
+use Rattle.rdm_law.proofs.Ends.PolledWas.{polled_was_sent}
 
 pub returns-clause-in_order : goal.returns-clause-in_order
 returns-clause-in_order c = enter_in_order

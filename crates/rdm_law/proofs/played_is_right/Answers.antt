@@ -1,6 +1,6 @@
 use Rattle.rdm_law.proofs.played_is_right.Goals as goal
-use Rattle.rdm_law.proofs.PlaysRight.{plays_right, plays_right_where, plays_right_bounded}
-use Rattle.rdm_law.proofs.Bounded.{is_bounded}
+use Rattle.rdm_law.proofs.Played.PlaysRight.{plays_right, plays_right_where, plays_right_bounded}
+use Rattle.rdm_law.proofs.Bound.Bounded.{is_bounded}
 
 pub returns-clause-right : goal.returns-clause-right
 returns-clause-right c = plays_right is_bounded

@@ -1,7 +1,7 @@
 use Rattle.rdm_law.proofs.refusals_and_drops.Goals as goal
-use Rattle.rdm_law.proofs.AgainFull.{again_is_full}
-use Rattle.rdm_law.proofs.DroppedOnly.{bytes_come_once, drops_are_of_others, drops_change_nothing}
-use Rattle.rdm_law.proofs.OwesNothing.{drops_owe_nothing}
+use Rattle.rdm_law.proofs.Refusals.AgainFull.{again_is_full}
+use Rattle.rdm_law.proofs.Refusals.DroppedOnly.{bytes_come_once, drops_are_of_others, drops_change_nothing}
+use Rattle.rdm_law.proofs.Refusals.OwesNothing.{drops_owe_nothing}
 
 pub returns-clause-again : goal.returns-clause-again
 returns-clause-again c = again_is_full

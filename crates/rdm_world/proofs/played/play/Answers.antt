@@ -1,5 +1,5 @@
 use Rattle.std.proofs.Common.{arith}
-use Rattle.rdm_law.proofs.PlaysRight.{some_inbox}
+use Rattle.rdm_law.proofs.Played.PlaysRight.{some_inbox}
 use Rattle.rdm_world.proofs.Playing.{few_ranks}
 use Rattle.rdm_world.proofs.played.play.Goals as goal
 

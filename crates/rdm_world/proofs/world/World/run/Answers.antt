@@ -3,7 +3,7 @@ use Rattle.rdm_port.specs.Views.{PortView}
 use Rattle.rdm_model.specs.Jobs.{law_ops}
 use Rattle.rdm_model.specs.Joint.{IsJoint}
 use Rattle.rdm_model.specs.Played.{played_world}
-use Rattle.rdm_law.proofs.PlayedSteps.{fair_choices}
+use Rattle.rdm_law.proofs.Played.PlayedSteps.{fair_choices}
 use Rattle.rdm_world.specs.Views.{WorldView}
 use Rattle.rdm_world.specs.Gathers.{AreOwnLogs, logs_of}
 use Rattle.rdm_world.specs.Shows.{AreOfRanks}

@@ -1,0 +1,176 @@
+-- What a life heard of was sent to it.
+use Rattle.std.proofs.Common.{◌≡◌, ℕ, ◌-◌, List, [], ◌∷◌, Option, Some, inl, inr, sym, ◌∙◌, ap, subst}
+use Rattle.std.specs.Prelude.{◌&&◌, nat_eq, slice_get}
+use Rattle.std.proofs.lemmas.Bool.{and_parts, eqb-true}
+use Rattle.rdm_lists.specs.Lists.{Member}
+use Rattle.rdm_num.specs.Lives.{same_life}
+use Rattle.rdm_num.specs.declared.numbers.Life.{Life}
+use Rattle.rdm_num.specs.declared.numbers.MsgNo.{MsgNo}
+use Rattle.rdm_num.specs.declared.head.Head.{Head}
+use Rattle.rdm_hdr.specs.declared.Opt.{Opt}
+use Rattle.rdm_pkt.specs.declared.Packet.{Packet}
+use Rattle.rdm_pkt.specs.declared.Packet.TheVariants.{Rtm}
+use Rattle.rdm_pkt.specs.declared.Form.{Form}
+use Rattle.rdm_pkt.specs.Heads.{head_of}
+use Rattle.rdm_pkt.specs.Openings.{message_head}
+use Rattle.rdm_wire.specs.declared.Datagram.{Datagram}
+use Rattle.rdm_model.specs.declared.job.Job.{Job}
+use Rattle.rdm_model.specs.declared.entry.Entry.{Entry}
+use Rattle.rdm_model.specs.Deeds.{Deed, Took, Spelled}
+use Rattle.rdm_model.specs.Owns.{Own, Messages, own_of}
+use Rattle.rdm_model.specs.Heard.{head_by, heard_head}
+use Rattle.rdm_model.specs.Replies.{Reply}
+use Rattle.rdm_model.specs.Sends.{Sent, sends, sends_to}
+use Rattle.rdm_model.specs.Turns.{Sends}
+use Rattle.rdm_model.specs.Local.{heard_by}
+use Rattle.rdm_model.specs.Lawful.{life_deeds}
+use Rattle.rdm_model.proofs.Numbers.{placed}
+use Rattle.rdm_law.proofs.Replies.Owed.{OwedIn}
+use Rattle.rdm_law.proofs.Accounts.Wired.{Played, TakenTurn, taken_pushed}
+use Rattle.rdm_law.proofs.Accounts.Turned.{turn_member, turn_rtm}
+use Rattle.rdm_law.proofs.Lives.Lives.{TurnedAt}
+use Rattle.rdm_law.proofs.Accounts.Went.{SentIt, went}
+use Rattle.rdm_lists.proofs.Options.{or_else_cases, then_some_parts}
+use Rattle.rdm_num.proofs.Lives.{same_life-true}
+
+-- what each life knows of the messages to it
+abbrev pub account : Job → List Entry → Life → Messages
+account job history life' = heard_by (own_of job life').limits.first (life_deeds job history life')
+
+-- the accepted sends of a life, by what it took itself
+abbrev pub sends_of : Job → List Entry → Life → List Sent
+sends_of job history life' = sends (own_of job life') (account job history life') (life_deeds job history life')
+
+-- a packet that opens the message and was taken
+pub record HeadTaken (log : List Deed) (source : Life) (n : ℕ) (h : Head) : Type 0 where
+  pub number : MsgNo
+  pub tag : Option ℕ
+  pub opt : Opt
+  pub form : Form
+  pub took : Member (Took source (Spelled (Rtm number tag opt form))) log
+  pub number_is : number.0 ≡ n
+  pub head_is : head_of tag opt form ≡ h
+
+-- a head that a deed tells is of a packet that it took
+head_by_taken : (source : Life) (n : ℕ) (d : Deed) (before : List Deed) (h : Head) → head_by source n d ≡ Some h → HeadTaken (d ∷ before) source n h
+unfolding head_by
+head_by_taken source n (Took from (Spelled (Rtm number tag opt form))) before h is =
+    let t = then_some_parts (same_life from source && nat_eq number.0 n) (head_of tag opt form) h is in
+    let p = and_parts (same_life from source) (nat_eq number.0 n) t.0 in
+    let s : from ≡ source = same_life-true from source p.0 in
+    record {
+      number = number;
+      tag = tag;
+      opt = opt;
+      form = form;
+      took = inl (ap (λ (x : Life). Took x (Spelled (Rtm number tag opt form))) s);
+      number_is = eqb-true number.0 n p.1;
+      head_is = t.1;
+    }
+head_by_taken source n _ before h is = cc
+
+-- a message that was heard of has a packet that was taken
+pub heard_taken : (log : List Deed) (source : Life) (n : ℕ) (h : Head) → heard_head log source n ≡ Some h → HeadTaken log source n h
+unfolding heard_head
+heard_taken [] source n h is = cc
+heard_taken (d ∷ before) source n h is =
+    elim (or_else_cases (heard_head before source n) (head_by source n d) h is) [
+      | inl a ↦
+          let r = heard_taken before source n h a in
+          record { number = r.number; tag = r.tag; opt = r.opt; form = r.form; took = inr r.took; number_is = r.number_is; head_is = r.head_is }
+      | inr a ↦ head_by_taken source n d before h a.1
+    ]
+
+-- no reply opens a message
+pub owed_rtm : (own : Own) (ms : Messages) (log : List Deed) (r : Reply) (number : MsgNo) (tag : Option ℕ) (opt : Opt) (form : Form)
+    → OwedIn own ms r log → r.item ≡ Spelled (Rtm number tag opt form) → ⊥
+owed_rtm own ms [] r number tag opt form h is = elim h [ ]
+owed_rtm own ms (d ∷ before) r number tag opt form (inr h) is = owed_rtm own ms before r number tag opt form h is
+owed_rtm own ms (d ∷ before) r number tag opt form (inl (inl n)) is = (let e = n.is in cc)
+owed_rtm own ms (d ∷ before) r number tag opt form (inl (inr (inl n))) is = (let e = n.is in cc)
+owed_rtm own ms (d ∷ before) r number tag opt form (inl (inr (inr (inl n)))) is = (let e = n.is in cc)
+owed_rtm own ms (d ∷ before) r number tag opt form (inl (inr (inr (inr (inl n))))) is = (let e = n.is in cc)
+owed_rtm own ms (d ∷ before) r number tag opt form (inl (inr (inr (inr (inr n))))) is = (let e = n.is in cc)
+
+-- the message of that number to a life was sent
+pub record Known (job : Job) (history : List Entry) (life' source : Life) (n : ℕ) : Type 0 where
+  pub sent : Sent
+  pub member : Member sent (sends_of job history source)
+  pub to_is : sent.to ≡ life'
+  pub number_is : sent.message.no.0 ≡ n
+
+-- each number to a life is of one send
+pub known_one : (job : Job) (history : List Entry) (life' source : Life) (n : ℕ) (a b : Known job history life' source n) → a.sent ≡ b.sent
+known_one job history life' source n a b =
+    let own = own_of job source in
+    let log = life_deeds job history source in
+    let ms = account job history source in
+    let p = (placed own ms log a.sent a.member).1 in
+    let q = (placed own ms log b.sent b.member).1 in
+    let at : (to : Life) (m : ℕ) (s : Sent) → s.to ≡ to → s.message.no.0 ≡ m
+    → slice_get (sends_to (sends own ms log) s.to) (s.message.no.0 - own.limits.first) ≡ Some s
+    → slice_get (sends_to (sends own ms log) to) (m - own.limits.first) ≡ Some s
+    = λ to m s h k is. subst (λ (x : ℕ). slice_get (sends_to (sends own ms log) to) (x - own.limits.first) ≡ Some s) k
+    (subst (λ (x : Life). slice_get (sends_to (sends own ms log) x) (s.message.no.0 - own.limits.first) ≡ Some s) h is) in
+    let x = at life' n a.sent a.to_is a.number_is p in
+    let y = at life' n b.sent b.to_is b.number_is q in
+    cc
+
+-- a packet that opens a message and was pushed is of a send, and tells its head
+pub record Opened (job : Job) (history : List Entry) (life' source : Life) (number : MsgNo) (tag : Option ℕ) (opt : Opt) (form : Form) (k : ℕ) : Type 0 where
+  pub known : Known job history life' source number.0
+  pub head_is : head_of tag opt form ≡ message_head job.limits known.sent.message known.sent.kind
+  pub tag_is : tag ≡ known.sent.message.tag
+  pub opt_is : opt ≡ known.sent.message.opt
+  pub turned : TurnedAt (own_of job source) (Sends known.sent (Rtm number tag opt form)) k (life_deeds job history source)
+
+-- a packet that opens a message, by the send that it is of
+opened_by : (job : Job) (history : List Entry) (life' source : Life) (number : MsgNo) (tag : Option ℕ) (opt : Opt) (form : Form) (k : ℕ)
+    → SentIt (own_of job source) (life_deeds job history source) life' (Spelled (Rtm number tag opt form)) k
+    → Opened job history life' source number tag opt form k
+unfolding own_of
+opened_by job history life' source number tag opt form k s =
+    let own = own_of job source in
+    let log = life_deeds job history source in
+    let is = s.is in
+    let e : s.packet ≡ Rtm number tag opt form = cc in
+    let turned : TurnedAt own (Sends s.sent (Rtm number tag opt form)) k log = subst (λ (x : Packet). TurnedAt own (Sends s.sent x) k log) e s.turned in
+    let r = turn_rtm own s.sent number tag opt form k log turned in
+    record {
+      known = record {
+        sent = s.sent;
+        member = turn_member own s.sent s.packet k log s.turned;
+        to_is = s.to_is;
+        number_is = ap (λ (x : MsgNo). x.0) (sym r.0);
+      };
+      head_is = r.3;
+      tag_is = r.1;
+      opt_is = r.2;
+      turned = turned;
+    }
+
+-- a packet that opens a message and went to a life is of a send
+pub opened : (job : Job) (history : List Entry) (life' source : Life) (number : MsgNo) (tag : Option ℕ) (opt : Opt) (form : Form) (d : Datagram)
+    (t : TakenTurn job history life' source (Spelled (Rtm number tag opt form)) d) → Opened job history life' source number tag opt form t.place
+opened job history life' source number tag opt form d t =
+    elim (went job history life' source (Spelled (Rtm number tag opt form)) d t) [
+      | inl s ↦ opened_by job history life' source number tag opt form t.place s
+      | inr r ↦ absurd (owed_rtm (own_of job source) (account job history source) (life_deeds job history source) r.reply number tag opt form r.owed r.is)
+    ]
+
+-- a message that was heard of was sent, and its head is that of the send
+pub record KnownHead (job : Job) (history : List Entry) (life' source : Life) (n : ℕ) (h : Head) : Type 0 where
+  pub known : Known job history life' source n
+  pub head_is : h ≡ message_head job.limits known.sent.message known.sent.kind
+
+-- a message that was heard of was sent as it was heard of
+pub known_head : (job : Job) (history : List Entry) (life' source : Life) (n : ℕ) (h : Head) → Played job history
+    → heard_head (life_deeds job history life') source n ≡ Some h → KnownHead job history life' source n h
+known_head job history life' source n h played is =
+    let t = heard_taken (life_deeds job history life') source n h is in
+    let p = taken_pushed job history life' source (Spelled (Rtm t.number t.tag t.opt t.form)) played t.took in
+    let o = opened job history life' source t.number t.tag t.opt t.form p.datagram p.taken in
+    record {
+      known = record { sent = o.known.sent; member = o.known.member; to_is = o.known.to_is; number_is = o.known.number_is ∙ t.number_is };
+      head_is = sym t.head_is ∙ o.head_is;
+    }

@@ -1,0 +1,20 @@
+-- A lawful history of a fair job has no more entries than the bound of the job.
+pub mod Totals
+pub mod Pigeons
+pub mod SquareCounts
+pub mod PacketCounts
+pub mod PushCounts
+pub mod EntryCounts
+pub mod KindCounts
+pub mod LifeCounts
+pub mod Covers
+pub mod SeenLives
+pub mod SeenCounts
+pub mod PairCounts
+pub mod NoteCounts
+pub mod OwedCounts
+pub mod AskCounts
+pub mod SendSums
+pub mod PollCounts
+pub mod Exchange
+pub mod Bounded

@@ -1,0 +1,7 @@
+-- The central law both ways: local logs and a wire that delivers once make a lawful history.
+pub mod Joint
+pub mod Agreed
+pub mod Lawfully
+pub mod LawfulPlayed
+pub mod TheLaw
+pub mod Says

@@ -1,0 +1,23 @@
+-- What is played is lawful and right: each choice keeps a world sound, and rounds end.
+pub mod Apart
+pub mod Delivers
+pub mod DeliverSteps
+pub mod Sound
+pub mod GoesWell
+pub mod SoundSteps
+pub mod SoundHandles
+pub mod PlayedSteps
+pub mod JointDelivered
+pub mod Waiting
+pub mod WaitingAll
+pub mod PlaysLawfully
+pub mod Quiet
+pub mod QuietHandles
+pub mod QuietRounds
+pub mod QuietSettled
+pub mod Ranks
+pub mod Outside
+pub mod Counted
+pub mod HandledApart
+pub mod MovedOnce
+pub mod PlaysRight
