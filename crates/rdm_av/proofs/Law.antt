@@ -15,7 +15,7 @@ use Rattle.rdm_av.specs.declared.InsertRefused.{InsertRefused}
 use Rattle.rdm_av.specs.declared.InsertRefused.TheVariants.{Superseded}
 use Rattle.rdm_av.specs.Lives.{Lives, life_order, current_life, is_superseded, with_current, with_superseded, insert_answer, after_insert}
 use Rattle.rdm_av.specs.Runs.{Call, Insert, Implicit, after_calls, AreCalls, is_current, was_current, SupersededOnceCurrent}
-use Rattle.rdm_av.proofs.Kept.{life_order_total, life_order-IsAntisymmetric, not_both}
+use Rattle.rdm_av.proofs.HeldLives.{life_order_total, life_order-IsAntisymmetric, not_both}
 use Rattle.rdm_av.proofs.Answered.{answers_refused, answers_new, answers_same, answers_supersedes}
 
 -- what holds of the lives after calls, beside what was current at some time

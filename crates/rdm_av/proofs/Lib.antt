@@ -1,3 +1,3 @@
-mod Kept
+mod HeldLives
 mod Answered
 mod Law

@@ -3,7 +3,7 @@ mod Neighbours
 mod Links
 mod Changes
 mod Items
-mod Kept
+mod Gathered
 mod Along
 mod Linked
 mod Unlinked

@@ -3,7 +3,7 @@
 
 ghost use Rattle.std.specs.Prelude.{◌≡◌, false, find, option_map, not, filter, Some, IfNone, IfOk, OnOk, OnErr};
 ghost use Rattle.std.specs.Map.{values_of};
-ghost use Rattle.rdm_num.specs.Lists.{without_first};
+ghost use Rattle.rdm_lists.specs.Lists.{without_first};
 ghost use Rattle.rdm_match.specs.Matcher as Plain;
 ghost use Rattle.rdm_match.specs.Waiting.{nothing_waits, waiting_after, taken_by, taker_of, is_posted, messages_of, receives_naming};
 ghost use Rattle.rdm_bins.specs.Shelf.{first_passing};

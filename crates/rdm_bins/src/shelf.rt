@@ -4,7 +4,7 @@ ghost use Rattle.std.specs.List.Sorted.{IsStrictlySortedBy};
 ghost use Rattle.std.specs.Ordering.{nat_cmp};
 ghost use Rattle.std.specs.Map.{keys_of, values_of, remove_entry};
 ghost use Rattle.std.specs.BTreeMap.{is_at};
-ghost use Rattle.rdm_num.specs.Lists.{without_first};
+ghost use Rattle.rdm_lists.specs.Lists.{without_first};
 ghost use Rattle.rdm_bins.specs.Chains.{AreChains};
 ghost use Rattle.rdm_bins.specs.Shelf.{item_at, without_at, entries_from, is_in, is_in_at, first_passing};
 

@@ -1,4 +1,4 @@
--- Of plain deeds: the account of a message is what its one packet said, and stays.
+-- Of eager deeds: the account of a message is what its one packet said, and stays.
 use Rattle.std.proofs.Common.{◌≡◌, ℕ, zero, suc, ◌-◌, ◌≤◌, true, false, List, [], ◌∷◌, map, length, Option, Some, None, refl, arith, inl, inr, ap, ◌∙◌, sym, take}
 use Rattle.std.specs.Prelude.{◌==◌, nat_lt, slice_get, unwrap_or, is_some}
 use Rattle.std.proofs.lemmas.Bool.{le-ltb, eq-eqb}
@@ -20,7 +20,7 @@ use Rattle.rdm_model.specs.Heard.{head_by, heard_head, is_heard}
 use Rattle.rdm_model.specs.Matches.{pairs}
 use Rattle.rdm_model.specs.Parts.{piece_by, carried_by, carried_pieces, has_landed}
 use Rattle.rdm_model.specs.Local.{heads_by, bytes_by}
-use Rattle.rdm_ep.specs.Plain.{IsPlain}
+use Rattle.rdm_ep.specs.Eager.{IsEager}
 use Rattle.rdm_model.proofs.Matches.{heard_still}
 use Rattle.rdm_model.proofs.Grows.{heads_by_heard, heads_grow}
 use Rattle.rdm_model.proofs.SameMatches.{carried_pieces_same}
@@ -71,7 +71,7 @@ read_by : (ps : List Piece) (bytes : List ℕ) (n : ℕ) → ps ≡ whole bytes 
 read_by ps bytes n p l = rw (p, l) (whole_read bytes)
 
 -- what was heard of has landed
-pub heard_landed : (own : Own) (log : List Deed) (source : Life) (n : ℕ) (head : Head) → IsPlain own log → heard_head log source n ≡ Some head
+pub heard_landed : (own : Own) (log : List Deed) (source : Life) (n : ℕ) (head : Head) → IsEager own log → heard_head log source n ≡ Some head
     → has_landed own.limits.first (heads_by log) log source n ≡ true
 unfolding has_landed
 heard_landed own log source n head h is =
@@ -93,7 +93,7 @@ pub head_stays : (d : Deed) (before : List Deed) (source : Life) (n : ℕ) (head
 head_stays d before source n head is = sym (heads_grow d before source n head is)
 
 -- what was heard of keeps its bytes
-pub bytes_stay : (own : Own) (d : Deed) (before : List Deed) (source : Life) (n : ℕ) (head : Head) → IsPlain own (d ∷ before) → heard_head before source n ≡ Some head
+pub bytes_stay : (own : Own) (d : Deed) (before : List Deed) (source : Life) (n : ℕ) (head : Head) → IsEager own (d ∷ before) → heard_head before source n ≡ Some head
     → bytes_by own.limits.first (d ∷ before) source n ≡ bytes_by own.limits.first before source n
 unfolding carried_pieces
 bytes_stay own d before source n head h is =
@@ -110,7 +110,7 @@ bytes_stay own d before source n head h is =
     let p : carried_pieces first hs (d ∷ before) source n ≡ whole c.bytes ∷ [] = rw (← same, none, c.carried) refl in
     heard_bytes own (d ∷ before) source n head c.bytes now c.length_is p ∙ sym (heard_bytes own before source n head c.bytes is c.length_is c.carried)
 
--- the packet that a plain deed takes is the account of its message
+-- the packet that an eager deed takes is the account of its message
 pub record IsTold (own : Own) (log : List Deed) (source : Life) (n : ℕ) (head : Head) (bytes : List ℕ) : Type 0 where
   pub heard : heard_head log source n ≡ Some head
   pub head_is : heads_by log source n ≡ head
@@ -118,7 +118,7 @@ pub record IsTold (own : Own) (log : List Deed) (source : Life) (n : ℕ) (head 
 
 -- what a deed that takes a message in one packet tells of it
 pub took_told : (own : Own) (before : List Deed) (from : Life) (number : MsgNo) (tag : Option ℕ) (opt : Opt) (bytes : List ℕ)
-    → IsPlain own (Took from (Spelled (Rtm number tag opt (Eager bytes))) ∷ before)
+    → IsEager own (Took from (Spelled (Rtm number tag opt (Eager bytes))) ∷ before)
     → IsTold own (Took from (Spelled (Rtm number tag opt (Eager bytes))) ∷ before) from number.0 (head_of tag opt (Eager bytes)) bytes
 unfolding heard_head is_heard head_by or_else carried_pieces carried_by piece_by piece_of head_of size_of shape_of
 took_told own before from number tag opt bytes h =

@@ -25,7 +25,7 @@ use Rattle.rdm_ep.specs.View.{EndpointView, current_in}
 use Rattle.rdm_ep.specs.Entering.{next_in, is_message, is_held_in, is_heard_in}
 use Rattle.rdm_ep.specs.Handling.{inbound_head, is_other_message, is_eager, rtm_class, load_class, item_class_in}
 use Rattle.rdm_ep.specs.Answers.{life_scene}
-use Rattle.rdm_ep.specs.Plain.{IsPlainItem}
+use Rattle.rdm_ep.specs.Eager.{IsEagerItem}
 use Rattle.rdm_ep.specs.Keeps.{Keeps}
 use Rattle.rdm_ep.proofs.Groups.{kept_of}
 use Rattle.rdm_ep.proofs.Still.{waiting_heard, held_heard}
@@ -101,8 +101,8 @@ unheard_no_other : (o : Option Head) (head : Head) (b : Bool) → o ≡ None →
 unfolding is_other_head
 unheard_no_other o head b e = rw e refl
 
--- what the life expects of a plain item is what the endpoint does
-expected_agrees : (ports : ℕ) (port_log log : List Deed) (v : EndpointView) (from : Life) (item : Item) → IsPlainItem v.own log from item → Keeps log v
+-- what the life expects of an eager item is what the endpoint does
+expected_agrees : (ports : ℕ) (port_log log : List Deed) (v : EndpointView) (from : Life) (item : Item) → IsEagerItem v.own log from item → Keeps log v
     → expected_class (life_scene ports v.own port_log log) from item ≡ load_class v from item
 unfolding expected_class first_case load_class is_bad_key is_no_op is_mismatch is_overlap
 expected_agrees ports port_log log v from (Spelled (Rtm number tag opt (Eager bytes))) h keeps =
@@ -114,8 +114,8 @@ expected_agrees ports port_log log v from (Spelled (Rtm number tag opt (Eager by
 expected_agrees ports port_log log v from (Spelled (Handshake words connid)) h keeps = let e = keeps.known_are from in rw e refl
 expected_agrees ports port_log log v from item h keeps = elim h [ ]
 
--- a plain datagram has the same class
-pub class_agrees : (ports : ℕ) (port_log log : List Deed) (v : EndpointView) (from : Life) (to : Connid) (item : Item) → IsPlainItem v.own log from item → Keeps log v
+-- an eager datagram has the same class
+pub class_agrees : (ports : ℕ) (port_log log : List Deed) (v : EndpointView) (from : Life) (to : Connid) (item : Item) → IsEagerItem v.own log from item → Keeps log v
     → item_class (life_scene ports v.own port_log log) from to item ≡ item_class_in v from to item
 unfolding is_connid
 class_agrees ports port_log log v from to item h keeps =

@@ -1,4 +1,4 @@
--- What plain deeds complete, and what they write to regions.
+-- What eager deeds complete, and what they write to regions.
 use Rattle.std.proofs.Common.{◌≡◌, ℕ, Bool, false, not, List, [], ◌∷◌, ◌++◌, map, refl, ap, ◌∙◌, sym, subst}
 use Rattle.std.specs.Prelude.{◌==◌, filter}
 use Rattle.std.specs.List.{list_any}
@@ -12,14 +12,14 @@ use Rattle.rdm_model.specs.Receives.{RecvEnd, recv_ends, recv_ends_by}
 use Rattle.rdm_model.specs.Regions.{after_ends, region_by, regions}
 use Rattle.rdm_model.specs.Sends.{Sent, sends}
 use Rattle.rdm_model.specs.Replies.{Reply}
-use Rattle.rdm_model.specs.Turns.{Progress, after_push, after_deed, progress, live_of, live_sends}
+use Rattle.rdm_model.specs.Dues.{Progress, after_push, after_deed, progress, live_of, live_sends}
 use Rattle.rdm_model.specs.Completions.{recv_completions, ended_sends, send_completion, completions_by, completions}
 use Rattle.rdm_model.specs.Local.{heard_by}
 use Rattle.rdm_model.proofs.SameRegions.{regions_same}
-use Rattle.rdm_model.proofs.SameTurns.{progress_same, live_sends_same}
+use Rattle.rdm_model.proofs.SameDues.{progress_same, live_sends_same}
 use Rattle.rdm_model.proofs.SameCompletions.{completions_same}
 use Rattle.rdm_model.proofs.Grows.{agree_grows}
-use Rattle.rdm_ep.specs.Plain.{IsPlain}
+use Rattle.rdm_ep.specs.Eager.{IsEager}
 use Rattle.rdm_ep.proofs.Apart.{ApartBy, apart_filter}
 use Rattle.rdm_ep.proofs.Currents.{never_forgotten}
 use Rattle.rdm_ep.proofs.EagerSends.{send_number, sends_apart, has_any}
@@ -58,7 +58,7 @@ gone_by_push [] (s ∷ ss) a = gone_first s ss a
 gone_by_push (r ∷ rs) live a = gone_none live live (λ x m. m)
 
 -- live sends have numbers of their own
-unsent_apart : (own : Own) (ms : Messages) (log : List Deed) → IsPlain own log → ApartBy send_number (live_sends own ms log)
+unsent_apart : (own : Own) (ms : Messages) (log : List Deed) → IsEager own log → ApartBy send_number (live_sends own ms log)
 unsent_apart own ms log h =
     subst (ApartBy send_number) (sym (live_sends_are own ms log h))
     (apart_filter send_number (λ (s : Sent). not (has_any ((progress own ms log).packets s.number))) (sends own ms log) (sends_apart own ms log))
@@ -68,7 +68,7 @@ abbrev pub live_then : Own → Messages → Deed → List Deed → List Sent
 live_then own ms d before = live_of (d ∷ before) (after_deed own ms before d (after_push own ms before d (progress own ms before))) (sends own ms before)
 
 -- the sends that are live after a push
-then_pushed : (own : Own) (ms : Messages) (before : List Deed) → IsPlain own (Pushed ∷ before)
+then_pushed : (own : Own) (ms : Messages) (before : List Deed) → IsEager own (Pushed ∷ before)
     → live_then own ms Pushed before ≡ sends_left (progress own ms before).replies (live_sends own ms before)
 unfolding after_deed
 then_pushed own ms before h =
@@ -78,7 +78,7 @@ then_pushed own ms before h =
     ∙ l.live_are ∙ ap (sends_left (progress own ms before).replies) (sym (live_sends_are own ms before h.0))
 
 -- the sends that are live after a deed that pushes nothing
-then_other : (own : Own) (ms : Messages) (d : Deed) (before : List Deed) → IsPlain own (d ∷ before)
+then_other : (own : Own) (ms : Messages) (d : Deed) (before : List Deed) → IsEager own (d ∷ before)
     → after_push own ms before d (progress own ms before) ≡ progress own ms before → live_then own ms d before ≡ live_sends own ms before
 unfolding after_deed
 then_other own ms d before h e =
@@ -94,15 +94,15 @@ unfolding ended_sends live_sends
 ended_is own ms d before = refl
 
 -- a deed that pushes nothing ends no send
-ended_other : (own : Own) (ms : Messages) (d : Deed) (before : List Deed) → IsPlain own (d ∷ before)
+ended_other : (own : Own) (ms : Messages) (d : Deed) (before : List Deed) → IsEager own (d ∷ before)
     → after_push own ms before d (progress own ms before) ≡ progress own ms before → ended_sends own ms d before (progress own ms before) ≡ []
 ended_other own ms d before h e =
     ended_is own ms d before
     ∙ ap (λ (xs : List Sent). gone_from xs (live_sends own ms before)) (then_other own ms d before h e)
     ∙ gone_none (live_sends own ms before) (live_sends own ms before) (λ x m. m)
 
--- the sends that a plain deed ends, by any account
-ended_by : (own : Own) (ms : Messages) (d : Deed) (before : List Deed) → IsPlain own (d ∷ before)
+-- the sends that an eager deed ends, by any account
+ended_by : (own : Own) (ms : Messages) (d : Deed) (before : List Deed) → IsEager own (d ∷ before)
     → ended_sends own ms d before (progress own ms before) ≡ ended_left d (progress own ms before).replies (live_sends own ms before)
 unfolding ended_left after_push
 ended_by own ms Pushed before h =
@@ -111,8 +111,8 @@ ended_by own ms Pushed before h =
     ∙ gone_by_push (progress own ms before).replies (live_sends own ms before) (unsent_apart own ms before h.0)
 ended_by own ms d before h = ended_other own ms d before h refl
 
--- the sends that a plain deed ends
-pub ended_step : (own : Own) (d : Deed) (before : List Deed) → IsPlain own (d ∷ before)
+-- the sends that an eager deed ends
+pub ended_step : (own : Own) (d : Deed) (before : List Deed) → IsEager own (d ∷ before)
     → ended_sends own (heard_by own.limits.first (d ∷ before)) d before (progress own (heard_by own.limits.first (d ∷ before)) before)
     ≡ ended_left d (own_progress own before).replies (own_live_sends own before)
 ended_step own d before h =
@@ -131,21 +131,21 @@ own_completions own log = completions own (heard_by own.limits.first log) log
 abbrev pub own_regions : Own → List Deed → List (List ℕ)
 own_regions own log = regions own.limits.first (heard_by own.limits.first log) log
 
--- the completions of the receives that a plain deed ends, and those of the sends
+-- the completions of the receives that an eager deed ends, and those of the sends
 abbrev pub new_received : Own → List Deed → Deed → List Completion
 new_received own before d = recv_completions (heard_by own.limits.first (d ∷ before)) (receives (d ∷ before)) (ends_of own before d)
 
 abbrev pub new_sent_done : Own → List Deed → Deed → List Completion
 new_sent_done own before d = map (send_completion (d ∷ before)) (ended_left d (own_progress own before).replies (own_live_sends own before))
 
--- the receives that a plain deed ends, by its own account
-ends_by_account : (own : Own) (log : List Deed) (d : Deed) (before : List Deed) (ends : List RecvEnd) → log ≡ d ∷ before → IsPlain own (d ∷ before)
+-- the receives that an eager deed ends, by its own account
+ends_by_account : (own : Own) (log : List Deed) (d : Deed) (before : List Deed) (ends : List RecvEnd) → log ≡ d ∷ before → IsEager own (d ∷ before)
     → recv_ends_by own.limits.first (heard_by own.limits.first log).head d before ends ≡ ends_of own before d
 unfolding heard_by
 ends_by_account own log d before ends e h = rw e (ends_step own d before ends h)
 
--- the completions after a plain deed
-pub completions_step : (own : Own) (d : Deed) (before : List Deed) → IsPlain own (d ∷ before)
+-- the completions after an eager deed
+pub completions_step : (own : Own) (d : Deed) (before : List Deed) → IsEager own (d ∷ before)
     → own_completions own (d ∷ before) ≡ own_completions own before ++ (new_received own before d ++ new_sent_done own before d)
 unfolding completions completions_by
 completions_step own d before h =
@@ -160,8 +160,8 @@ completions_step own d before h =
     ++ map (send_completion (d ∷ before)) (ended_sends own now d before (progress own now before)))) r
     ∙ ap (λ (ss : List Sent). own_completions own before ++ (new_received own before d ++ map (send_completion (d ∷ before)) ss)) e
 
--- the regions after a plain deed
-pub regions_step : (own : Own) (d : Deed) (before : List Deed) → IsPlain own (d ∷ before)
+-- the regions after an eager deed
+pub regions_step : (own : Own) (d : Deed) (before : List Deed) → IsEager own (d ∷ before)
     → own_regions own (d ∷ before)
     ≡ after_ends (heard_by own.limits.first (d ∷ before)) (receives (d ∷ before)) (ends_of own before d) (own_regions own before) ++ region_by d
 unfolding regions

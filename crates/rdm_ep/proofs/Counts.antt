@@ -7,11 +7,11 @@ use Rattle.rdm_num.specs.declared.completion.Completion.{Completion}
 use Rattle.rdm_model.specs.Deeds.{Deed}
 use Rattle.rdm_model.specs.Receives.{live_receives}
 use Rattle.rdm_model.specs.Regions.{regions}
-use Rattle.rdm_model.specs.Turns.{live_sends}
+use Rattle.rdm_model.specs.Dues.{live_sends}
 use Rattle.rdm_model.specs.Completions.{tx_count, rx_count, early_count, cq_count, completions, poll_count}
 use Rattle.rdm_model.specs.Local.{heard_by}
 use Rattle.rdm_ep.specs.View.{EndpointView, cq_in}
-use Rattle.rdm_ep.specs.Plain.{IsPlain}
+use Rattle.rdm_ep.specs.Eager.{IsEager}
 use Rattle.rdm_ep.specs.Keeps.{posted_of, outbound_of, Keeps}
 use Rattle.rdm_ep.proofs.EarlyCounts.{early_is}
 use Rattle.rdm_ep.proofs.Groups.{kept_of}
@@ -27,7 +27,7 @@ unfolding rx_count
 rx_agrees log v k = sym (ap length k.posted_are ∙ length-map (live_receives v.own.limits.first (heard_by v.own.limits.first log).head log) posted_of)
 
 -- messages that wait, for a receive or for those before them
-pub early_agrees : (log : List Deed) (v : EndpointView) → IsPlain v.own log → Keeps log v
+pub early_agrees : (log : List Deed) (v : EndpointView) → IsEager v.own log → Keeps log v
     → early_count v.own (heard_by v.own.limits.first log).head log ≡ length v.arrived + length v.held
 unfolding heard_by
 early_agrees log v h k =

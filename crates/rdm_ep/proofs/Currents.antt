@@ -1,4 +1,4 @@
--- Of plain deeds: no life is forgotten, and the current life of a port stays.
+-- Of eager deeds: no life is forgotten, and the current life of a port stays.
 use Rattle.std.proofs.Common.{◌≡◌, ℕ, true, false, cond, not, List, [], ◌∷◌, Option, Some, None, refl, inl, inr, ap, ◌∙◌, sym, subst}
 use Rattle.std.specs.Prelude.{◌==◌, ◌&&◌}
 use Rattle.std.specs.Bool.{then_some}
@@ -10,18 +10,18 @@ use Rattle.rdm_model.specs.declared.job.Instr.TheVariants.{Insert}
 use Rattle.rdm_model.specs.Deeds.{Deed, Did, Took}
 use Rattle.rdm_model.specs.Owns.{Own}
 use Rattle.rdm_model.specs.Currents.{inserted_by, last_inserted, seen_by, first_seen, current, is_current, was_current, is_superseded, other_life, forgotten_by, is_forgotten}
-use Rattle.rdm_ep.specs.Plain.{IsPlainDeed, IsPlain}
+use Rattle.rdm_ep.specs.Eager.{IsEagerDeed, IsEager}
 use Rattle.rdm_lists.proofs.Options.{or_else-none, or_else-assoc}
 use Rattle.rdm_num.proofs.Lives.{same_life-true, same_life-refl}
 
--- a plain deed forgets no life
-pub forgotten_none : (own : Own) (before : List Deed) (d : Deed) → IsPlainDeed own before d → forgotten_by before d ≡ []
+-- an eager deed forgets no life
+pub forgotten_none : (own : Own) (before : List Deed) (d : Deed) → IsEagerDeed own before d → forgotten_by before d ≡ []
 unfolding forgotten_by
 forgotten_none own before (Did (Insert life)) h = h
 forgotten_none own before _ h = refl
 
 -- no life is forgotten
-pub never_forgotten : (own : Own) (log : List Deed) (life : Life) → IsPlain own log → is_forgotten log life ≡ false
+pub never_forgotten : (own : Own) (log : List Deed) (life : Life) → IsEager own log → is_forgotten log life ≡ false
 unfolding is_forgotten
 never_forgotten own [] life h = refl
 never_forgotten own (d ∷ before) life h = rw (never_forgotten own before life h.0, forgotten_none own before d h.1) refl
@@ -58,8 +58,8 @@ insert_shows l s port life now is none =
       | false ↦ λ e. sym (or_else-none (or_else l s))
     ]) refl
 
--- a plain deed makes the life current that it shows, where no life of the port was
-pub current_step : (own : Own) (d : Deed) (before : List Deed) (port : ℕ) → IsPlainDeed own before d
+-- an eager deed makes the life current that it shows, where no life of the port was
+pub current_step : (own : Own) (d : Deed) (before : List Deed) (port : ℕ) → IsEagerDeed own before d
     → current (d ∷ before) port ≡ or_else (current before port) (shown_by port d)
 unfolding current last_inserted first_seen inserted_by seen_by shown_by forgotten_by or_else
 current_step own (Did (Insert life)) before port h =
@@ -71,7 +71,7 @@ current_step own _ before port h =
     ∙ sym (or_else-none (or_else (last_inserted before port) (first_seen before port)))
 
 -- the current life of a port stays
-pub current_stays : (own : Own) (d : Deed) (before : List Deed) (port : ℕ) (life : Life) → IsPlainDeed own before d
+pub current_stays : (own : Own) (d : Deed) (before : List Deed) (port : ℕ) (life : Life) → IsEagerDeed own before d
     → current before port ≡ Some life → current (d ∷ before) port ≡ Some life
 unfolding or_else
 current_stays own d before port life h is = current_step own d before port h ∙ rw is refl
@@ -91,7 +91,7 @@ unfolding is_current is_life
 is_current_from log life h = rw h (same_life-refl life)
 
 -- a life that was current is so
-was_current_is : (own : Own) (log : List Deed) (life : Life) → IsPlain own log → was_current log life ≡ true → is_current log life ≡ true
+was_current_is : (own : Own) (log : List Deed) (life : Life) → IsEager own log → was_current log life ≡ true → is_current log life ≡ true
 unfolding was_current
 was_current_is own [] life h w = cc
 was_current_is own (d ∷ before) life h w =
@@ -101,7 +101,7 @@ was_current_is own (d ∷ before) life h w =
     ]
 
 -- no life was current once and is not now
-pub never_superseded : (own : Own) (log : List Deed) (life : Life) → IsPlain own log → is_superseded log life ≡ false
+pub never_superseded : (own : Own) (log : List Deed) (life : Life) → IsEager own log → is_superseded log life ≡ false
 unfolding is_superseded
 never_superseded own log life h =
     (elim (was_current log life) as (λ b. was_current log life ≡ b → (b && not (is_current log life)) ≡ false) [

@@ -1,4 +1,4 @@
--- Of plain deeds: each send is one packet, and the live sends are those whose packet was not pushed.
+-- Of eager deeds: each send is one packet, and the live sends are those whose packet was not pushed.
 use Rattle.std.proofs.Common.{◌≡◌, ℕ, Bool, true, false, cond, not, List, [], ◌∷◌, length, take, drop, Option, Some, None, refl, arith, ◌⊎◌, inl, inr, ap, ◌∙◌, sym, subst, get_or}
 use Rattle.std.specs.Prelude.{◌||◌, nat_le, filter, is_some}
 use Rattle.std.specs.List.{list_any}
@@ -20,9 +20,9 @@ use Rattle.rdm_model.specs.Owns.{Own, Messages}
 use Rattle.rdm_model.specs.Currents.{is_forgotten}
 use Rattle.rdm_model.specs.Regions.{regions}
 use Rattle.rdm_model.specs.Sends.{Sent, sends_to, known_word, wants_raw, new_sent, range_of, sends}
-use Rattle.rdm_model.specs.Turns.{Turn, Sends, packet_piece, pieces_in, next_packet, ends_send, is_read, is_pushed, is_over, send_turn, next_send}
+use Rattle.rdm_model.specs.Dues.{Due, Sends, packet_piece, pieces_in, next_packet, ends_send, is_read, is_pushed, is_over, send_due, next_send}
 use Rattle.rdm_model.proofs.Numbers.{NewSent, sends_step, sends_keep, new_number, send_below}
-use Rattle.rdm_ep.specs.Plain.{FitsOnePacket, IsPlainDeed, IsPlain}
+use Rattle.rdm_ep.specs.Eager.{FitsOnePacket, IsEagerDeed, IsEager}
 use Rattle.rdm_ep.proofs.Apart.{ApartBy, apart_push}
 use Rattle.rdm_ep.proofs.Accounts.{whole_covers}
 
@@ -68,15 +68,15 @@ new_eager own before n m req to rs h =
     choose_eager (length bytes) (is_some req.tag) (is_some req.cq_data) raw own.features (known_word before to) own.limits
     (range_fits rs req.region.0 req.at req.len (eager_room (is_some req.tag) (is_some req.cq_data) raw own.limits) (h raw))
 
--- a plain deed makes a send of one packet
-pub new_sent_eager : (own : Own) (ms : Messages) (before : List Deed) (sents : List Sent) (d : Deed) (s : Sent) → IsPlainDeed own before d
+-- an eager deed makes a send of one packet
+pub new_sent_eager : (own : Own) (ms : Messages) (before : List Deed) (sents : List Sent) (d : Deed) (s : Sent) → IsEagerDeed own before d
     → NewSent own ms before sents d s → s.kind ≡ Eager
 new_sent_eager own ms before sents d s h n =
-    let fits : FitsOnePacket own n.req = subst (IsPlainDeed own before) n.by h in
+    let fits : FitsOnePacket own n.req = subst (IsEagerDeed own before) n.by h in
     ap (λ (x : Sent). x.kind) n.is ∙ new_eager own before (length sents) (length (sends_to sents n.to)) n.req n.to (regions own.limits.first ms before) fits
 
 -- each send is of one packet
-pub all_eager : (own : Own) (ms : Messages) (log : List Deed) (s : Sent) → IsPlain own log → Member s (sends own ms log) → s.kind ≡ Eager
+pub all_eager : (own : Own) (ms : Messages) (log : List Deed) (s : Sent) → IsEager own log → Member s (sends own ms log) → s.kind ≡ Eager
 unfolding sends
 all_eager own ms [] s h m = elim m [ ]
 all_eager own ms (d ∷ before) s h m =
@@ -135,9 +135,9 @@ over_is log ps s none e h =
     ∙ pushed_is s ps h
 
 -- the packet of the first of these sends
-unfoldable pub first_turn : List Sent → Option Turn
-first_turn [] = None
-first_turn (s ∷ ss) = Some (Sends s (opening s))
+unfoldable pub first_due : List Sent → Option Due
+first_due [] = None
+first_due (s ∷ ss) = Some (Sends s (opening s))
 
 -- the packet of a send goes out next while it was not pushed
 next_of : (own : Own) (log : List Deed) (s : Sent) → s.kind ≡ Eager → next_packet own log s [] ≡ Some (opening s)
@@ -146,8 +146,8 @@ next_of own log s e = rw e refl
 
 -- what goes out from sends of one packet: that of the first one that was not pushed
 pub next_send_is : (own : Own) (log : List Deed) (packets : ℕ → List Packet) (sents : List Sent) → ForgetsNone log → AreOfOne packets sents
-    → next_send own log packets sents ≡ first_turn (unsent packets sents)
-unfolding next_send send_turn first_turn
+    → next_send own log packets sents ≡ first_due (unsent packets sents)
+unfolding next_send send_due first_due
 next_send_is own log packets [] none h = refl
 next_send_is own log packets (s ∷ ss) none h =
     let e = h.eager s (inl refl) in

@@ -1,4 +1,4 @@
--- Of plain deeds: of the messages that were heard of, those that no pair has are as many as all but the pairs.
+-- Of eager deeds: of the messages that were heard of, those that no pair has are as many as all but the pairs.
 use Rattle.std.proofs.Common.{◌≡◌, ℕ, zero, suc, ◌+◌, ◌≤◌, Bool, true, false, cond, not, List, [], ◌∷◌, ◌++◌, map, length, Option, Some, None, refl, arith, ap, ◌∙◌, sym, subst, inl, inr}
 use Rattle.std.specs.Prelude.{◌==◌, ◌&&◌, find, filter}
 use Rattle.std.proofs.lemmas.Bool.{and_parts, eqb-true, false_from_ne_true}
@@ -17,7 +17,7 @@ use Rattle.rdm_model.specs.Heard.{has_entered, entering}
 use Rattle.rdm_model.specs.Matches.{receive, receives, matching}
 use Rattle.rdm_model.specs.Completions.{Name}
 use Rattle.rdm_model.specs.Local.{heads_by}
-use Rattle.rdm_ep.specs.Plain.{IsPlain}
+use Rattle.rdm_ep.specs.Eager.{IsEager}
 use Rattle.rdm_ep.proofs.Apart.{ApartBy, apart_push, apart_filter}
 use Rattle.rdm_ep.proofs.Entered.{entered_still}
 use Rattle.rdm_ep.proofs.Pairs.{own_matching, message_by, arriving, event_of, matching_step, arriving_enters}
@@ -197,7 +197,7 @@ most_arrived own d before x k =
           ]) refl,
     )
 
--- after a plain deed
+-- after an eager deed
 most_after : (own : Own) (d : Deed) (before : List Deed) (x : Name) → AtMostOne own before x
     → (has_entered own.limits.first (d ∷ before) x.life x.number ≡ false → occurs (run (own_matching own before) (event_of own d before)) x ≡ 0)
     × (occurs (run (own_matching own before) (event_of own d before)) x ≤ 1)
@@ -213,7 +213,7 @@ most_after own (Did (Cancel recv)) before x k =
 most_after own d before x k = most_arrived own d before x k
 
 -- no name has two messages
-pub at_most_one : (own : Own) (log : List Deed) (x : Name) → IsPlain own log → AtMostOne own log x
+pub at_most_one : (own : Own) (log : List Deed) (x : Name) → IsEager own log → AtMostOne own log x
 unfolding matching
 at_most_one own [] x h = record { none = λ e. refl; most = omega arith }
 at_most_one own (d ∷ before) x h =

@@ -1,4 +1,4 @@
--- Of plain deeds: as many messages have an early place as were heard of, but for those that were paired.
+-- Of eager deeds: as many messages have an early place as were heard of, but for those that were paired.
 use Rattle.std.proofs.Common.{◌≡◌, ℕ, ◌+◌, ◌≤◌, Bool, true, false, cond, not, List, [], ◌∷◌, ◌++◌, length, Option, Some, None, refl, arith, ap, ◌∙◌, sym, subst, inl, inr}
 use Rattle.std.specs.Prelude.{◌==◌, ◌&&◌, ◌||◌, filter, is_some}
 use Rattle.std.proofs.lemmas.List.{append-nil}
@@ -20,7 +20,7 @@ use Rattle.rdm_model.specs.Heard.{head_by, heard_head, is_heard}
 use Rattle.rdm_model.specs.Completions.{Name, named_by, heard_names, is_matched, early_count}
 use Rattle.rdm_model.specs.Local.{heads_by}
 use Rattle.rdm_model.proofs.Matches.{pair_heard}
-use Rattle.rdm_ep.specs.Plain.{IsPlain}
+use Rattle.rdm_ep.specs.Eager.{IsEager}
 use Rattle.rdm_ep.proofs.Currents.{never_forgotten}
 use Rattle.rdm_ep.proofs.Entered.{heard_stays}
 use Rattle.rdm_ep.proofs.Pairs.{own_matching}
@@ -210,7 +210,7 @@ unmet_and_pairs ps (x ∷ xs) h =
     omega arith
 
 -- as many messages have an early place as were heard of and not paired
-pub early_is : (own : Own) (log : List Deed) → IsPlain own log → early_count own (heads_by log) log + length (own_matching own log).pairs ≡ length (heard_names log)
+pub early_is : (own : Own) (log : List Deed) → IsEager own log → early_count own (heads_by log) log + length (own_matching own log).pairs ≡ length (heard_names log)
 unfolding early_count
 early_is own log h =
     let ps = (own_matching own log).pairs in

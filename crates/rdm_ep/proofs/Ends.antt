@@ -1,4 +1,4 @@
--- Of plain deeds: a receive ends when it meets its message, or when it is taken back.
+-- Of eager deeds: a receive ends when it meets its message, or when it is taken back.
 use Rattle.std.proofs.Common.{◌≡◌, ℕ, ◌<◌, Bool, true, false, not, List, [], ◌∷◌, ◌++◌, map, length, refl, arith, inl, inr, ap, ◌∙◌, sym, subst, length-append}
 use Rattle.std.proofs.Math.Bool.{and-false}
 use Rattle.std.specs.Prelude.{◌&&◌, filter, find}
@@ -15,7 +15,7 @@ use Rattle.rdm_model.specs.Matches.{pairs, receives, with_received, received_by}
 use Rattle.rdm_model.specs.Parts.{has_landed}
 use Rattle.rdm_model.specs.Receives.{RecvEnd, Filled, Withdrawn, ended_recv, is_filled, filled_by, withdrawn_by, recv_ends_by, with_recv_ends, recv_ends}
 use Rattle.rdm_model.specs.Local.{heads_by}
-use Rattle.rdm_ep.specs.Plain.{IsPlain}
+use Rattle.rdm_ep.specs.Eager.{IsEager}
 use Rattle.rdm_model.proofs.Matches.{member_is_pair, pair_heard}
 use Rattle.rdm_model.proofs.SameReceives.{is_filled_same, recv_ends_same}
 use Rattle.rdm_model.proofs.Grows.{heads_grow}
@@ -27,7 +27,7 @@ use Rattle.rdm_lists.proofs.Options.{some_of}
 use Rattle.rdm_lists.proofs.Filters.{filter_all, filter_nothing}
 
 -- each pair is filled
-pub pair_filled : (own : Own) (log : List Deed) (p : Pair) → IsPlain own log → Member p (own_matching own log).pairs
+pub pair_filled : (own : Own) (log : List Deed) (p : Pair) → IsEager own log → Member p (own_matching own log).pairs
     → is_filled own.limits.first (heads_by log) log p ≡ true
 unfolding is_filled
 pair_filled own log p h m =
@@ -38,15 +38,15 @@ pair_filled own log p h m =
     (member_is_pair (pairs first heads log) p m) (heard_landed own log p.message.life p.message.no.0 x.0 h x.1)
 
 -- a new pair was not filled before
-new_unfilled : (own : Own) (d : Deed) (before : List Deed) (q : Pair) → IsPlain own (d ∷ before) → Member q (new_pairs own before d)
+new_unfilled : (own : Own) (d : Deed) (before : List Deed) (q : Pair) → IsEager own (d ∷ before) → Member q (new_pairs own before d)
     → is_filled own.limits.first (heads_by before) before q ≡ false
 unfolding is_filled
 new_unfilled own d before q h m =
     and_left (is_pair (own_matching own before).pairs q.recv.id.0 q.message.life q.message.no.0)
     (has_landed own.limits.first (heads_by before) before q.message.life q.message.no.0) (new_unpaired own d before q h m)
 
--- the pairs that a plain deed fills are those that it makes
-pub filled_step : (own : Own) (d : Deed) (before : List Deed) → IsPlain own (d ∷ before)
+-- the pairs that an eager deed fills are those that it makes
+pub filled_step : (own : Own) (d : Deed) (before : List Deed) → IsEager own (d ∷ before)
     → filled_by own.limits.first (heads_by (d ∷ before)) d before ≡ new_pairs own before d
 unfolding filled_by
 filled_step own d before h =
@@ -69,7 +69,7 @@ filled_step own d before h =
     rw (is, not_before) refl) in
     ap (λ (ps : List Pair). filter t ps) step ∙ filter-append t olds news ∙ (rw (old, new) refl)
 
--- the receives that end by a plain deed: one that is taken back, or those of the pairs that it makes
+-- the receives that end by an eager deed: one that is taken back, or those of the pairs that it makes
 abbrev pub ends_of : Own → List Deed → Deed → List RecvEnd
 ends_of own before (Did (Cancel recv)) = Withdrawn recv.0 ∷ []
 ends_of own before d = map Filled (new_pairs own before d)
@@ -79,8 +79,8 @@ pub cancel_pairs : (own : Own) (before : List Deed) (recv : RecvNo) → new_pair
 unfolding event_of met_by_all met_by
 cancel_pairs own before recv = refl
 
--- of the pairs that a plain deed makes, of a receive that is taken back, and of no forgotten life
-ends_by : (own : Own) (d : Deed) (before : List Deed) (ends : List RecvEnd) → IsPlain own (d ∷ before)
+-- of the pairs that an eager deed makes, of a receive that is taken back, and of no forgotten life
+ends_by : (own : Own) (d : Deed) (before : List Deed) (ends : List RecvEnd) → IsEager own (d ∷ before)
     → recv_ends_by own.limits.first (heads_by (d ∷ before)) d before ends ≡ map Filled (new_pairs own before d) ++ withdrawn_by d
 unfolding recv_ends_by
 ends_by own d before ends h =
@@ -94,8 +94,8 @@ unfolding withdrawn_by
 ends_told own (Did (Cancel recv)) before = let e = cancel_pairs own before recv in rw e refl
 ends_told own d before = append-nil (map Filled (new_pairs own before d))
 
--- the receives that end by a plain deed
-pub ends_step : (own : Own) (d : Deed) (before : List Deed) (ends : List RecvEnd) → IsPlain own (d ∷ before)
+-- the receives that end by an eager deed
+pub ends_step : (own : Own) (d : Deed) (before : List Deed) (ends : List RecvEnd) → IsEager own (d ∷ before)
     → recv_ends_by own.limits.first (heads_by (d ∷ before)) d before ends ≡ ends_of own before d
 ends_step own d before ends h = ends_by own d before ends h ∙ ends_told own d before
 
@@ -103,8 +103,8 @@ ends_step own d before ends h = ends_by own d before ends h ∙ ends_told own d 
 abbrev pub own_ends : Own → List Deed → List RecvEnd
 own_ends own log = recv_ends own.limits.first (heads_by log) log
 
--- the receives that ended after a plain deed
-pub ends_more : (own : Own) (d : Deed) (before : List Deed) → IsPlain own (d ∷ before) → own_ends own (d ∷ before) ≡ own_ends own before ++ ends_of own before d
+-- the receives that ended after an eager deed
+pub ends_more : (own : Own) (d : Deed) (before : List Deed) → IsEager own (d ∷ before) → own_ends own (d ∷ before) ≡ own_ends own before ++ ends_of own before d
 unfolding recv_ends with_recv_ends
 ends_more own d before h =
     let first = own.limits.first in
@@ -117,8 +117,8 @@ ends_more own d before h =
 abbrev pub EndedBelow : ℕ → List RecvEnd → Type 0
 EndedBelow count ends = (e : RecvEnd) → Member e ends → ended_recv e < count
 
--- so does one that a plain deed ends
-new_below : (own : Own) (d : Deed) (before : List Deed) → IsPlain own (d ∷ before) → EndedBelow (length (receives (d ∷ before))) (ends_of own before d)
+-- so does one that an eager deed ends
+new_below : (own : Own) (d : Deed) (before : List Deed) → IsEager own (d ∷ before) → EndedBelow (length (receives (d ∷ before))) (ends_of own before d)
 unfolding receives with_received received_by is_recv ended_recv
 new_below own (Did (Cancel recv)) before h e (inl is) =
     let r = some_of (find (is_recv recv.0) (own_matching own before).posted) h.1 in
@@ -136,7 +136,7 @@ new_below own d before h e m =
     subst (λ (x : RecvEnd). ended_recv x < length (receives (d ∷ before))) r.2 p
 
 -- each receive that ended has a number below the count of receives
-pub ended_below : (own : Own) (log : List Deed) → IsPlain own log → EndedBelow (length (receives log)) (own_ends own log)
+pub ended_below : (own : Own) (log : List Deed) → IsEager own log → EndedBelow (length (receives log)) (own_ends own log)
 unfolding recv_ends
 ended_below own [] h = λ e m. elim m [ ]
 ended_below own (d ∷ before) h = λ e m.

@@ -15,7 +15,7 @@ use Rattle.rdm_ep.specs.declared.state.Outbound.{Outbound}
 use Rattle.rdm_ep.specs.View.{EndpointView, current_in}
 use Rattle.rdm_ep.specs.Peers.{peer_in, with_peer, greeted_peer, known_peer}
 use Rattle.rdm_ep.specs.Handling.{with_source, with_greeting}
-use Rattle.rdm_ep.specs.Plain.{IsPlain}
+use Rattle.rdm_ep.specs.Eager.{IsEager}
 use Rattle.rdm_ep.specs.Keeps.{greeting}
 use Rattle.rdm_ep.proofs.Currents.{of_port, shown_by, current_step}
 use Rattle.rdm_ep.proofs.PeersOf.{peer_kept, peer_changed}
@@ -93,7 +93,7 @@ greeted_is from peers life =
     ]) refl
 
 -- which lives are current and greeted after a datagram was taken, where it tells what that says of features
-pub lives_met : (own : Own) (from : Life) (item : Item) (log : List Deed) (currents : List Life) (peers now : List Peer) → IsPlain own (Took from item ∷ log)
+pub lives_met : (own : Own) (from : Life) (item : Item) (log : List Deed) (currents : List Life) (peers now : List Peer) → IsEager own (Took from item ∷ log)
     → ((life : Life) → (peer_in now life).greeted ≡ (peer_in (greeted_peers from peers) life).greeted)
     → ((life : Life) → (peer_in now life).known ≡ or_else (known_word log life) (known_by life (Took from item)))
     → LivesKept log currents peers → LivesKept (Took from item ∷ log) (with_current from currents) now
@@ -157,7 +157,7 @@ sends_met own log count peers now outgoing e k =
     record { sent_are = λ life. e life ∙ k.sent_are life; sends_are = k.sends_are; outgoing_are = k.outgoing_are }
 
 -- the first datagram from a life makes a handshake owed
-pub owed_met : (own : Own) (from : Life) (item : Item) (log : List Deed) (peers : List Peer) (owed : List Life) → IsPlain own (Took from item ∷ log)
+pub owed_met : (own : Own) (from : Life) (item : Item) (log : List Deed) (peers : List Peer) (owed : List Life) → IsEager own (Took from item ∷ log)
     → (peer_in peers from).greeted ≡ list_any (is_from from) log → OwedKept own log owed → OwedKept own (Took from item ∷ log) (greeted_owed from peers owed)
 unfolding handshake_by replies_left
 owed_met own from item log peers owed h e k =

@@ -1,4 +1,4 @@
--- Of plain deeds: nothing is owed but handshakes.
+-- Of eager deeds: nothing is owed but handshakes.
 use Rattle.std.proofs.Common.{◌≡◌, ℕ, Bool, true, false, cond, not, List, [], ◌∷◌, ◌++◌, map, refl, ap, ◌∙◌}
 use Rattle.std.specs.Prelude.{◌&&◌, filter}
 use Rattle.std.specs.List.{list_any}
@@ -21,7 +21,7 @@ use Rattle.rdm_model.specs.Replies.{Reply, reply, handshake_by, asks_for, grant_
 use Rattle.rdm_model.specs.Local.{heads_by}
 use Rattle.rdm_model.proofs.Matches.{pair_heard}
 use Rattle.rdm_model.proofs.Grows.{heads_by_heard}
-use Rattle.rdm_ep.specs.Plain.{IsPlainDeed, IsPlain}
+use Rattle.rdm_ep.specs.Eager.{IsEagerDeed, IsEager}
 use Rattle.rdm_ep.proofs.Currents.{forgotten_none}
 use Rattle.rdm_ep.proofs.Told.{heard_came}
 use Rattle.rdm_lists.proofs.Same.{flat_map_none}
@@ -36,8 +36,8 @@ nothing_owed own true false shape recv size e = rw e refl
 nothing_owed own false true shape recv size e = rw e refl
 nothing_owed own false false shape recv size e = rw e refl
 
--- a pair of plain deeds owes nothing
-pub pair_owes_nothing : (own : Own) (d : Deed) (before : List Deed) (p : Pair) → IsPlain own (d ∷ before)
+-- a pair of eager deeds owes nothing
+pub pair_owes_nothing : (own : Own) (d : Deed) (before : List Deed) (p : Pair) → IsEager own (d ∷ before)
     → Member p (pairs own.limits.first (heads_by (d ∷ before)) (d ∷ before)) → pair_replies own (heads_by (d ∷ before)) d before p ≡ []
 unfolding pair_replies pair_items
 pair_owes_nothing own d before p h m =
@@ -52,14 +52,14 @@ pair_owes_nothing own d before p h m =
     (is_filled first heads (d ∷ before) p && not (is_filled first heads before p))
     (heads p.message.life p.message.no.0).shape (record { 0 = p.recv.id.0 }) (window own.limits heads (d ∷ before) p (granted_bytes own.limits heads before p)) e)
 
--- a plain deed asks for no bytes of a send
-given_none : (own : Own) (before : List Deed) (sents : List Sent) (d : Deed) → IsPlainDeed own before d → given_by sents d ≡ []
+-- an eager deed asks for no bytes of a send
+given_none : (own : Own) (before : List Deed) (sents : List Sent) (d : Deed) → IsEagerDeed own before d → given_by sents d ≡ []
 unfolding given_by
 given_none own before sents (Took from (Asks ask)) h = elim h [ ]
 given_none own before sents _ h = refl
 
--- a plain deed makes a handshake owed, and nothing else
-pub replies_are : (own : Own) (sents : List Sent) (d : Deed) (before : List Deed) → IsPlain own (d ∷ before)
+-- an eager deed makes a handshake owed, and nothing else
+pub replies_are : (own : Own) (sents : List Sent) (d : Deed) (before : List Deed) → IsEager own (d ∷ before)
     → replies_by own (heads_by (d ∷ before)) sents d before ≡ handshake_by own before d
 unfolding replies_by
 replies_are own sents d before h =
@@ -68,8 +68,8 @@ replies_are own sents d before h =
     let g = given_none own before sents d h.1 in
     rw (f, g) (append-nil (handshake_by own before d ++ []) ∙ append-nil (handshake_by own before d))
 
--- a plain deed takes back nothing that is owed
-pub none_taken_back : (own : Own) (before : List Deed) (d : Deed) (rs : List Reply) → IsPlainDeed own before d → without_forgotten before d rs ≡ rs
+-- an eager deed takes back nothing that is owed
+pub none_taken_back : (own : Own) (before : List Deed) (d : Deed) (rs : List Reply) → IsEagerDeed own before d → without_forgotten before d rs ≡ rs
 unfolding without_forgotten without_lives
 none_taken_back own before d rs h =
     ap (λ (lives : List Life). filter (λ (r : Reply). not (list_any (same_life r.to) lives)) rs) (forgotten_none own before d h)

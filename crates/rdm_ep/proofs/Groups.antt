@@ -23,7 +23,7 @@ use Rattle.rdm_ep.specs.Peers.{peer_in}
 use Rattle.rdm_ep.specs.Receiving.{arrived_message}
 use Rattle.rdm_ep.specs.Entering.{is_message, is_held_in, is_heard_in}
 use Rattle.rdm_ep.specs.Handling.{inbound_head}
-use Rattle.rdm_ep.specs.Plain.{IsPlain}
+use Rattle.rdm_ep.specs.Eager.{IsEager}
 use Rattle.rdm_ep.specs.Keeps.{posted_of, outbound_of, greeting, Keeps}
 use Rattle.rdm_ep.proofs.Pairs.{own_matching}
 use Rattle.rdm_ep.proofs.Live.{own_live, waiting_are}
@@ -130,7 +130,7 @@ kept_of log v k =
     }
 
 -- and is made of them
-pub keeps_by : (log : List Deed) (v : EndpointView) → IsPlain v.own log → Kept log v → Keeps log v
+pub keeps_by : (log : List Deed) (v : EndpointView) → IsEager v.own log → Kept log v → Keeps log v
 unfolding current_in is_heard_in is_held_in heard_by
 keeps_by log v h k =
     record {

@@ -19,7 +19,7 @@ use Rattle.rdm_ep.specs.View.{EndpointView}
 use Rattle.rdm_ep.specs.Peers.{peer_in}
 use Rattle.rdm_ep.specs.Entering.{next_in, is_held_in, is_heard_in}
 use Rattle.rdm_ep.specs.Handling.{is_eager, rtm_class, load_class, item_class_in, after_take}
-use Rattle.rdm_ep.specs.Plain.{IsPlainItem, IsPlain}
+use Rattle.rdm_ep.specs.Eager.{IsEagerItem, IsEager}
 use Rattle.rdm_ep.specs.Keeps.{Keeps}
 use Rattle.rdm_ep.proofs.Classed.{by_source, class_in_is}
 use Rattle.rdm_ep.proofs.KeepsTook.{keeps_message, keeps_handshake}
@@ -42,41 +42,41 @@ none_of_three false false true h = cc
 none_of_three false false false h = (refl, refl)
 
 -- a packet that the endpoint takes is a message in one packet that was not heard of
-plain_rtm : (log : List Deed) (v : EndpointView) (from : Life) (number : MsgNo) (tag : Option ℕ) (opt : Opt) (form : Form) → Keeps log v
-    → rtm_class v from number.0 (head_of tag opt form) form ≡ None → IsPlainItem v.own log from (Spelled (Rtm number tag opt form))
+eager_rtm : (log : List Deed) (v : EndpointView) (from : Life) (number : MsgNo) (tag : Option ℕ) (opt : Opt) (form : Form) → Keeps log v
+    → rtm_class v from number.0 (head_of tag opt form) form ≡ None → IsEagerItem v.own log from (Spelled (Rtm number tag opt form))
 unfolding rtm_class is_eager is_heard_in
-plain_rtm log v from number tag opt (Eager bytes) k h =
+eager_rtm log v from number tag opt (Eager bytes) k h =
     let t = none_of_three _ (nat_lt number.0 (next_in v from) || is_held_in v from number.0) false h in
     let p = or_parts (nat_lt number.0 (next_in v from)) (is_held_in v from number.0) t.0 in
     let l = ltb-false number.0 (next_in v from) p.0 in (
       omega arith,
       sym (k.heard_are from number.0) ∙ (rw (p.0, p.1) (ap (λ b. b || false) (and_right (nat_le v.own.limits.first number.0) false refl))),
     )
-plain_rtm log v from number tag opt form k h = let t = none_of_three _ (nat_lt number.0 (next_in v from) || is_held_in v from number.0) true h in absurd (true≢false t.1)
+eager_rtm log v from number tag opt form k h = let t = none_of_three _ (nat_lt number.0 (next_in v from) || is_held_in v from number.0) true h in absurd (true≢false t.1)
 
--- what the endpoint expects is plain
-plain_load : (log : List Deed) (v : EndpointView) (from : Life) (item : Item) → Keeps log v → is_malformed from item ≡ false → load_class v from item ≡ None
-    → IsPlainItem v.own log from item
+-- what the endpoint expects is eager
+eager_load : (log : List Deed) (v : EndpointView) (from : Life) (item : Item) → Keeps log v → is_malformed from item ≡ false → load_class v from item ≡ None
+    → IsEagerItem v.own log from item
 unfolding load_class is_malformed
-plain_load log v from (Spelled (Rtm number tag opt form)) k m h = plain_rtm log v from number tag opt form k h
-plain_load log v from (Spelled (Handshake words connid)) k m h = tt
-plain_load log v from Garbled k m h = absurd (true≢false m)
-plain_load log v from item k m h = cc
+eager_load log v from (Spelled (Rtm number tag opt form)) k m h = eager_rtm log v from number tag opt form k h
+eager_load log v from (Spelled (Handshake words connid)) k m h = tt
+eager_load log v from Garbled k m h = absurd (true≢false m)
+eager_load log v from item k m h = cc
 
--- what has no class is plain
-pub taken_is_plain : (log : List Deed) (v : EndpointView) (from : Life) (to : Connid) (item : Item) → Keeps log v → item_class_in v from to item ≡ None
-    → IsPlainItem v.own log from item
-taken_is_plain log v from to item k h =
+-- what has no class is eager
+pub taken_is_eager : (log : List Deed) (v : EndpointView) (from : Life) (to : Connid) (item : Item) → Keeps log v → item_class_in v from to item ≡ None
+    → IsEagerItem v.own log from item
+taken_is_eager log v from to item k h =
     let n = none_by_source _ _ (is_malformed from item) _ (load_class v from item) (sym (class_in_is v from to item) ∙ h) in
-    plain_load log v from item k n.0 n.1
+    eager_load log v from item k n.0 n.1
 
 -- a handshake has no class where nothing is known
 known_none : (o : Option ℕ) → cond (is_some o) (Some Mismatch) None ≡ None → o ≡ None
 known_none None h = refl
 known_none (Some x) h = cc
 
--- the same, of a plain item
-took_kept : (log : List Deed) (v : EndpointView) (from : Life) (item : Item) → IsPlain v.own log → IsPlainItem v.own log from item → load_class v from item ≡ None → Keeps log v
+-- the same, of an eager item
+took_kept : (log : List Deed) (v : EndpointView) (from : Life) (item : Item) → IsEager v.own log → IsEagerItem v.own log from item → load_class v from item ≡ None → Keeps log v
     → Keeps (Took from item ∷ log) (after_take from item v)
 unfolding load_class
 took_kept log v from (Spelled (Rtm number tag opt (Eager bytes))) h p c k = keeps_message from number tag opt bytes log v (h, p) k
@@ -84,8 +84,8 @@ took_kept log v from (Spelled (Handshake words connid)) h p c k = keeps_handshak
 took_kept log v from item h p c k = elim p [ ]
 
 -- after a datagram that has no class was taken
-pub keeps_took : (log : List Deed) (v : EndpointView) (from : Life) (to : Connid) (item : Item) → IsPlain v.own log → item_class_in v from to item ≡ None → Keeps log v
+pub keeps_took : (log : List Deed) (v : EndpointView) (from : Life) (to : Connid) (item : Item) → IsEager v.own log → item_class_in v from to item ≡ None → Keeps log v
     → Keeps (Took from item ∷ log) (after_take from item v)
 keeps_took log v from to item h c k =
     let n = none_by_source _ _ (is_malformed from item) _ (load_class v from item) (sym (class_in_is v from to item) ∙ c) in
-    took_kept log v from item h (plain_load log v from item k n.0 n.1) n.1 k
+    took_kept log v from item h (eager_load log v from item k n.0 n.1) n.1 k

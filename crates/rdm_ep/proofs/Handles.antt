@@ -34,8 +34,8 @@ use Rattle.rdm_ep.specs.View.{EndpointView}
 use Rattle.rdm_ep.specs.Receiving.{arrived_message, takes}
 use Rattle.rdm_ep.specs.Entering.{next_in, following, entered_by}
 use Rattle.rdm_ep.specs.Handling.{item_class_in, inbound, is_met_in, enters_at_once, early_is_full, needs_place_in, taken_in, class_answer_in, item_answer, body_answer}
-use Rattle.rdm_ep.specs.Answers.{handled_of, life_scene, is_early, IsPlainBody, HandlesAs}
-use Rattle.rdm_ep.specs.Plain.{IsPlainItem, IsPlain}
+use Rattle.rdm_ep.specs.Answers.{handled_of, life_scene, is_early, IsEagerBody, IsAnswerTo}
+use Rattle.rdm_ep.specs.Eager.{IsEagerItem, IsEager}
 use Rattle.rdm_ep.specs.Keeps.{posted_of, Keeps}
 use Rattle.rdm_ep.proofs.Entering.{next_is}
 use Rattle.rdm_ep.proofs.Pairs.{own_matching}
@@ -62,7 +62,7 @@ both_found f g (Some x) = refl
 
 -- a posted receive accepts the message, that is next, here and in the matcher
 met_agrees : (ports : ℕ) (port_log log : List Deed) (v : EndpointView) (from : Life) (number : MsgNo) (tag : Option ℕ) (opt : Opt) (bytes : List ℕ)
-    → IsPlain v.own log → Keeps log v
+    → IsEager v.own log → Keeps log v
     → is_met (life_scene ports v.own port_log log) from number.0 tag ≡ enters_at_once v (inbound from number.0 tag opt bytes)
 unfolding is_met is_met_in enters_at_once heard_by
 met_agrees ports port_log log v from number tag opt bytes h keeps =
@@ -83,8 +83,8 @@ met_agrees ports port_log log v from number tag opt bytes h keeps =
     ∙ both_found seen posted_of (find (λ (r : Receive). accepts r.posted a) live)
     ∙ ap (λ (o : Option Posted). is_some o) (sym here))
 
--- a plain item needs a place, and there is none, by the definitions and by the endpoint
-places_agree : (ports : ℕ) (port_log log : List Deed) (v : EndpointView) (from : Life) (item : Item) → IsPlain v.own log → IsPlainItem v.own log from item → Keeps log v
+-- an eager item needs a place, and there is none, by the definitions and by the endpoint
+places_agree : (ports : ℕ) (port_log log : List Deed) (v : EndpointView) (from : Life) (item : Item) → IsEager v.own log → IsEagerItem v.own log from item → Keeps log v
     → (needs_place (life_scene ports v.own port_log log) from item && nat_le v.own.limits.early (early_count v.own (heard_by v.own.limits.first log).head log))
     ≡ needs_place_in v from item
 unfolding needs_place needs_place_in early_is_full
@@ -109,8 +109,8 @@ none_entered : entered_of [] ≡ None
 unfolding entered_of
 none_entered = refl
 
--- what enters by a plain item
-entered_agrees : (log : List Deed) (v : EndpointView) (from : Life) (item : Item) → IsPlain v.own log → IsPlainItem v.own log from item → Keeps log v
+-- what enters by an eager item
+entered_agrees : (log : List Deed) (v : EndpointView) (from : Life) (item : Item) → IsEager v.own log → IsEagerItem v.own log from item → Keeps log v
     → TookAnswer (entered_of (entering v.own.limits.first (Took from item) log from)) ≡ handled_of (taken_in v from item)
 unfolding handled_of taken_in entered_by head_by
 entered_agrees log v from (Spelled (Rtm number tag opt (Eager bytes))) h p keeps =
@@ -145,7 +145,7 @@ early_by_class false v from item = sym (taken_not_early v from item)
 
 -- the answers to what comes from one life to another, by its class
 handles_by : (ports : ℕ) (port_log log : List Deed) (v : EndpointView) (d : Datagram) (from to : Connid) (load : Load) (o : Option Class)
-    → IsPlain v.own log → IsPlainItem v.own log (life d.src from) (item_of load) → Keeps log v
+    → IsEager v.own log → IsEagerItem v.own log (life d.src from) (item_of load) → Keeps log v
     → ((is_none o && (needs_place (life_scene ports v.own port_log log) (life d.src from) (item_of load)
     && nat_le v.own.limits.early (early_count v.own (heard_by v.own.limits.first log).head log))) ≡ is_early (class_answer_in v (life d.src from) (item_of load) o))
     × (is_early (class_answer_in v (life d.src from) (item_of load) o) ≡ false
@@ -163,8 +163,8 @@ handles_by ports port_log log v d from to load None h p k =
 
 -- the same, by what the datagram has in it
 body_handles : (ports : ℕ) (port_log log : List Deed) (v : EndpointView) (d : Datagram) (body : Body) → d.body ≡ body
-    → IsPlain v.own log → IsPlainBody v.own log d body → Keeps log v
-    → HandlesAs (life_scene ports v.own port_log log) d (body_answer v d body)
+    → IsEager v.own log → IsEagerBody v.own log d body → Keeps log v
+    → IsAnswerTo (life_scene ports v.own port_log log) d (body_answer v d body)
 unfolding is_again_early handled_answer class_of body_class body_needs_place class_answer taken_answer body_answer item_answer is_early handled_of
 body_handles ports port_log log v d (Note note) e h p k =
     let s = life_scene ports v.own port_log log in
@@ -187,15 +187,15 @@ body_handles ports port_log log v d (Between from to load) e h p k =
           ∙ r.1 x;
     }
 
--- the handling of a plain datagram answers the same
-pub handle_agrees : (ports : ℕ) (port_log log : List Deed) (v : EndpointView) (d : Datagram) → IsPlain v.own log → IsPlainBody v.own log d d.body → Keeps log v
-    → HandlesAs (life_scene ports v.own port_log log) d (body_answer v d d.body)
+-- the handling of an eager datagram answers the same
+pub handle_agrees : (ports : ℕ) (port_log log : List Deed) (v : EndpointView) (d : Datagram) → IsEager v.own log → IsEagerBody v.own log d d.body → Keeps log v
+    → IsAnswerTo (life_scene ports v.own port_log log) d (body_answer v d d.body)
 handle_agrees ports port_log log v d h p k = body_handles ports port_log log v d d.body refl h p k
 
 -- the same, by what the datagram has in it
 drop_handles : (ports : ℕ) (port_log log : List Deed) (v : EndpointView) (d : Datagram) (body : Body) (class' : Class) → d.body ≡ body → Keeps log v
     → body_lives_class (life_scene ports v.own port_log log) d body ≡ Some class'
-    → HandlesAs (life_scene ports v.own port_log log) d (body_answer v d body) × (body_answer v d body ≡ HandleA.Dropped class')
+    → IsAnswerTo (life_scene ports v.own port_log log) d (body_answer v d body) × (body_answer v d body ≡ HandleA.Dropped class')
 unfolding is_again_early handled_answer class_of body_class body_lives_class body_needs_place class_answer body_answer item_answer class_answer_in is_early handled_of
 drop_handles ports port_log log v d (Note note) class' e k c = cc
 drop_handles ports port_log log v d (Between from to load) class' e k c =
@@ -205,7 +205,7 @@ drop_handles ports port_log log v d (Between from to load) class' e k c =
     let r = lives_class_agrees ports port_log log v source to item class' k c in
     let a : item_answer v source to item ≡ HandleA.Dropped class' = ap (class_answer_in v source item) r.1 in
     let b : body_class s d d.body ≡ Some class' = ap (body_class s d) e ∙ r.0 in (
-      subst (HandlesAs s d) (sym a) (record {
+      subst (IsAnswerTo s d) (sym a) (record {
         early = ap (λ (o : Option Class). is_none o && body_needs_place s d d.body && nat_le v.own.limits.early (early_count v.own (heard_by v.own.limits.first log).head log)) b;
         handled = λ x. ap (class_answer s d) b;
       }),
@@ -215,6 +215,6 @@ drop_handles ports port_log log v d (Between from to load) class' e k c =
 -- whatever comes to another life or from another one is dropped the same
 pub drop_agrees : (ports : ℕ) (port_log log : List Deed) (v : EndpointView) (d : Datagram) (class' : Class) → Keeps log v
     → lives_class (life_scene ports v.own port_log log) d ≡ Some class'
-    → HandlesAs (life_scene ports v.own port_log log) d (body_answer v d d.body) × (body_answer v d d.body ≡ HandleA.Dropped class')
+    → IsAnswerTo (life_scene ports v.own port_log log) d (body_answer v d d.body) × (body_answer v d d.body ≡ HandleA.Dropped class')
 unfolding lives_class
 drop_agrees ports port_log log v d class' k c = drop_handles ports port_log log v d d.body class' refl k c

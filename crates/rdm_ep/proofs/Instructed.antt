@@ -25,7 +25,7 @@ use Rattle.rdm_ep.specs.View.{EndpointView, current_in}
 use Rattle.rdm_ep.specs.Sending.{insert_answer}
 use Rattle.rdm_ep.specs.Cancelling as Ec
 use Rattle.rdm_ep.specs.Answers.{life_scene}
-use Rattle.rdm_ep.specs.Plain.{IsPlain}
+use Rattle.rdm_ep.specs.Eager.{IsEager}
 use Rattle.rdm_ep.specs.Keeps.{posted_of, Keeps}
 use Rattle.rdm_ep.proofs.Currents.{never_superseded}
 use Rattle.rdm_ep.proofs.Options.{find-map, is_some-map}
@@ -46,9 +46,9 @@ unfolding answer_of first_case
 wait_agrees ports port_log log v count k = ap (λ (n : ℕ). cond (nat_lt n count) (NotYet (Yet.Wait n count)) (Did Plain)) (polls_agree log v k)
 
 -- a receive waits where the matcher has it
-pub posted_agrees : (log : List Deed) (v : EndpointView) (recv : ℕ) → IsPlain v.own log → Keeps log v
-    → Ec.is_posted v recv ≡ is_some (find (is_recv recv) (own_matching v.own log).posted)
-unfolding Ec.is_posted Ec.has_number heard_by
+pub posted_agrees : (log : List Deed) (v : EndpointView) (recv : ℕ) → IsEager v.own log → Keeps log v
+    → Ec.waits_for_message v recv ≡ is_some (find (is_recv recv) (own_matching v.own log).posted)
+unfolding Ec.waits_for_message Ec.has_number heard_by
 posted_agrees log v recv h k =
     let live = own_live v.own log in
     let t : Receive → Bool = λ x. x.number == recv in
@@ -57,18 +57,18 @@ posted_agrees log v recv h k =
     ap is_some here ∙ is_some-map posted_of (find t live) ∙ sym (is_some-map seen (find t live)) ∙ ap is_some (sym there)
 
 -- a cancel does where the receive waits
-pub cancel_agrees : (ports : ℕ) (port_log log : List Deed) (v : EndpointView) (recv : RecvNo) → IsPlain v.own log → Keeps log v
-    → answer_of (life_scene ports v.own port_log log) (Cancel recv) ≡ cond (Ec.is_posted v recv.0) (Did Plain) (Refused NotPosted)
-unfolding answer_of first_case A.is_posted heard_by
+pub cancel_agrees : (ports : ℕ) (port_log log : List Deed) (v : EndpointView) (recv : RecvNo) → IsEager v.own log → Keeps log v
+    → answer_of (life_scene ports v.own port_log log) (Cancel recv) ≡ cond (Ec.waits_for_message v recv.0) (Did Plain) (Refused NotPosted)
+unfolding answer_of first_case A.is_unmatched heard_by
 cancel_agrees ports port_log log v recv h k =
     ap (λ (b : Bool). cond (not b) (Refused NotPosted) (Did Plain)) (sym (posted_agrees log v recv.0 h k))
-    ∙ elim (Ec.is_posted v recv.0) as (λ b. cond (not b) (Refused NotPosted) (Did Plain) ≡ cond b (Did Plain) (Refused NotPosted)) [
+    ∙ elim (Ec.waits_for_message v recv.0) as (λ b. cond (not b) (Refused NotPosted) (Did Plain) ≡ cond b (Did Plain) (Refused NotPosted)) [
       | true ↦ refl
       | false ↦ refl
     ]
 
 -- an insert waits for the note that the life was opened, and is not refused
-pub insert_agrees : (ports : ℕ) (port_log log : List Deed) (v : EndpointView) (life : Life) → IsPlain v.own log
+pub insert_agrees : (ports : ℕ) (port_log log : List Deed) (v : EndpointView) (life : Life) → IsEager v.own log
     → answer_of (life_scene ports v.own port_log log) (Insert life) ≡ cond (knows_open v.own.life.port.0 port_log life) (Did Plain) (NotYet Yet.Opened)
 unfolding answer_of first_case
 insert_agrees ports port_log log v life h =

@@ -19,7 +19,7 @@ use Rattle.rdm_model.specs.Completions.{outcome, recv_completion, recv_completio
 use Rattle.rdm_model.specs.Local.{heard_by}
 use Rattle.rdm_ep.specs.View.{EndpointView}
 use Rattle.rdm_ep.specs.Cancelling.{has_number, after_cancel}
-use Rattle.rdm_ep.specs.Plain.{IsPlain}
+use Rattle.rdm_ep.specs.Eager.{IsEager}
 use Rattle.rdm_ep.specs.Keeps.{posted_of, Keeps}
 use Rattle.rdm_ep.proofs.Options.{without-map}
 use Rattle.rdm_ep.proofs.Apart.{apart_numbered}
@@ -65,7 +65,7 @@ unfolding receive_numbered
 numbered_so log r n m same = subst (λ (k : ℕ). receive_numbered (receives log) k ≡ Some r) same (apart_numbered number_of (receives log) r (receives_apart log) m)
 
 -- after a receive that waits was cancelled
-pub keeps_cancel : (recv : RecvNo) (log : List Deed) (v : EndpointView) → IsPlain v.own (Did (Cancel recv) ∷ log) → Keeps log v
+pub keeps_cancel : (recv : RecvNo) (log : List Deed) (v : EndpointView) → IsEager v.own (Did (Cancel recv) ∷ log) → Keeps log v
     → Keeps (Did (Cancel recv) ∷ log) (after_cancel v recv)
 unfolding after_cancel has_number ended_recv region_by is_poll ended_left event_of run after live_after receives with_received received_by head_by heard_names named_by after_ends
 keeps_cancel recv log v g keeps =

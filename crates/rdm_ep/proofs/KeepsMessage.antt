@@ -26,7 +26,7 @@ use Rattle.rdm_ep.specs.Peers.{peer_in}
 use Rattle.rdm_ep.specs.Receiving.{arrived_message}
 use Rattle.rdm_ep.specs.Meeting.{meeting_of, with_meeting, after_arrivals}
 use Rattle.rdm_ep.specs.Handling.{inbound_head}
-use Rattle.rdm_ep.specs.Plain.{IsPlain}
+use Rattle.rdm_ep.specs.Eager.{IsEager}
 use Rattle.rdm_ep.specs.Keeps.{posted_of, IsToldBy, Keeps}
 use Rattle.rdm_ep.proofs.Apart.{apart_numbered}
 use Rattle.rdm_ep.proofs.Accepted.{number_of, receive_numbered_so, receives_apart}
@@ -76,7 +76,7 @@ pub record Comes (own : Own) (log : List Deed) (v : EndpointView) (from : Life) 
 
 -- what the arrivals of a message make
 pub arrivals_of : (from : Life) (number : MsgNo) (tag : Option ℕ) (opt : Opt) (bytes : List ℕ) (log : List Deed) (v : EndpointView) (is : List Inbound)
-    → IsPlain v.own log → Kept log v → ((i : Inbound) → Member i is → IsToldBy (heard_by v.own.limits.first (eager from number tag opt bytes ∷ log)) i)
+    → IsEager v.own log → Kept log v → ((i : Inbound) → Member i is → IsToldBy (heard_by v.own.limits.first (eager from number tag opt bytes ∷ log)) i)
     → Arrivals (heard_by v.own.limits.first (eager from number tag opt bytes ∷ log)) (receives (eager from number tag opt bytes ∷ log)) is (meeting_of v) (own_live v.own log) (own_matching v.own log)
 arrivals_of from number tag opt bytes log v is h k told =
     arrivals_meet (heard_by v.own.limits.first (eager from number tag opt bytes ∷ log)) (receives (eager from number tag opt bytes ∷ log)) is (meeting_of v) (own_live v.own log) (own_matching v.own log) told
@@ -85,7 +85,7 @@ arrivals_of from number tag opt bytes log v is h k told =
 
 -- after a message by which those enter
 pub message_kept : (from : Life) (number : MsgNo) (tag : Option ℕ) (opt : Opt) (bytes : List ℕ) (log : List Deed) (v : EndpointView) (is : List Inbound) (now : List Peer) (left : List Inbound)
-    → IsPlain v.own (eager from number tag opt bytes ∷ log) → Kept log v → Comes v.own log v from number tag opt bytes is now left
+    → IsEager v.own (eager from number tag opt bytes ∷ log) → Kept log v → Comes v.own log v from number tag opt bytes is now left
     → Keeps (eager from number tag opt bytes ∷ log) (with_meeting (after_arrivals (meeting_of v) is) (record (met_view from v) { peers = now; held = left }))
 unfolding region_by is_poll ended_left event_of live_after known_by
 message_kept from number tag opt bytes log v is now left g k c =

@@ -10,19 +10,19 @@ use Rattle.rdm_model.specs.Owns.{Own}
 use Rattle.rdm_model.specs.Regions.{region_by}
 use Rattle.rdm_model.specs.Sends.{Sent, sent_by, sends_to}
 use Rattle.rdm_model.specs.Replies.{Reply, handshake_by}
-use Rattle.rdm_model.specs.Turns.{reply_turn, turn}
-use Rattle.rdm_model.specs.Going.{Goes, turn_going}
+use Rattle.rdm_model.specs.Dues.{reply_due, due}
+use Rattle.rdm_model.specs.Going.{Goes, due_going}
 use Rattle.rdm_model.specs.Completions.{send_completion, recv_completions, is_poll, poll_count}
 use Rattle.rdm_model.specs.Local.{heard_by}
 use Rattle.rdm_ep.specs.declared.state.Outbound.{Outbound}
 use Rattle.rdm_ep.specs.View.{EndpointView}
 use Rattle.rdm_ep.specs.Going.{Leaving, outgoing_out, out_by, out_of, after_outgoing, sent_by as pushed_by, after_sent}
-use Rattle.rdm_ep.specs.Plain.{IsPlain}
+use Rattle.rdm_ep.specs.Eager.{IsEager}
 use Rattle.rdm_ep.specs.Keeps.{outbound_of, greeting, Keeps}
 use Rattle.rdm_ep.proofs.Currents.{never_forgotten}
-use Rattle.rdm_ep.proofs.EagerSends.{first_turn}
+use Rattle.rdm_ep.proofs.EagerSends.{first_due}
 use Rattle.rdm_ep.proofs.Progress.{sends_left}
-use Rattle.rdm_ep.proofs.Pushes.{own_sends, own_progress, own_live_sends, own_sends_step, replies_left, replies_step, live_left, live_sends_step, sends_ended, ended_left, turn_is}
+use Rattle.rdm_ep.proofs.Pushes.{own_sends, own_progress, own_live_sends, own_sends_step, replies_left, replies_step, live_left, live_sends_step, sends_ended, ended_left, due_is}
 use Rattle.rdm_ep.proofs.Completed.{own_completions, completions_step}
 use Rattle.rdm_ep.proofs.Groups.{CompletionsKept, kept_of, keeps_by}
 use Rattle.rdm_ep.proofs.Still.{lives_still, receives_still, messages_still, held_still, no_pairs, regions_still}
@@ -70,7 +70,7 @@ left_are own [] (s ∷ ss) = refl
 left_are own (l ∷ ls) live = refl
 
 -- the completion is that of the definitions
-done_are : (own : Own) (log : List Deed) (ls : List Life) (live : List Sent) → IsPlain own log
+done_are : (own : Own) (log : List Deed) (ls : List Life) (live : List Sent) → IsEager own log
     → outgoing_done ls (map outbound_of live) ≡ map (send_completion log) (sends_ended (map (greeting own) ls) live)
 unfolding outgoing_done sends_ended send_completion
 done_are own log [] [] h = refl
@@ -97,13 +97,13 @@ completions_more own d log polled completions more p e k =
     }
 
 -- after what goes out next was pushed
-pub keeps_pushed : (log : List Deed) (v : EndpointView) → IsPlain v.own log → Keeps log v → Keeps (Pushed ∷ log) (after_sent v)
+pub keeps_pushed : (log : List Deed) (v : EndpointView) → IsEager v.own log → Keeps log v → Keeps (Pushed ∷ log) (after_sent v)
 unfolding replies_left handshake_by live_left ended_left sent_by region_by is_poll recv_completions
 keeps_pushed log v h keeps =
     let k = kept_of log v keeps in
     let own = v.own in
     let d = Pushed in
-    let g : IsPlain own (d ∷ log) = (h, tt) in
+    let g : IsEager own (d ∷ log) = (h, tt) in
     let w : EndpointView = with_left v (drop 1 v.owed) (outgoing_left v.owed v.outgoing) (v.completions ++ outgoing_done v.owed v.outgoing) in
     let rs = (own_progress own log).replies in
     let live = own_live_sends own log in
@@ -133,21 +133,21 @@ keeps_pushed log v h keeps =
 
 -- the next handshake, or else the next send's packet
 out_is : (v : EndpointView) (ls : List Life) (live : List Sent)
-    → turn_going (reply_turn (slice_get (map (greeting v.own) ls) 0) (first_turn live))
+    → due_going (reply_due (slice_get (map (greeting v.own) ls) 0) (first_due live))
     ≡ option_map (λ (l : Leaving). Goes l.to (Spelled l.packet)) (out_by (record v { outgoing = map outbound_of live }) ls)
-unfolding turn_going reply_turn first_turn out_by outgoing_out
+unfolding due_going reply_due first_due out_by outgoing_out
 out_is v [] [] = refl
 out_is v [] (s ∷ ss) = refl
 out_is v (l ∷ ls) live = refl
 
 -- what goes out next from an endpoint is what the definitions say
-pub out_agrees : (log : List Deed) (v : EndpointView) → IsPlain v.own log → Keeps log v
-    → turn_going (turn v.own (heard_by v.own.limits.first log) log) ≡ option_map (λ (l : Leaving). Goes l.to (Spelled l.packet)) (out_of v)
+pub out_agrees : (log : List Deed) (v : EndpointView) → IsEager v.own log → Keeps log v
+    → due_going (due v.own (heard_by v.own.limits.first log) log) ≡ option_map (λ (l : Leaving). Goes l.to (Spelled l.packet)) (out_of v)
 unfolding out_of
 out_agrees log v h keeps =
     let k = kept_of log v keeps in
     let live = own_live_sends v.own log in
-    ap turn_going (turn_is v.own (heard_by v.own.limits.first log) log h)
-    ∙ ap (λ (rs : List Reply). turn_going (reply_turn (slice_get rs 0) (first_turn live))) (sym k.owed)
+    ap due_going (due_is v.own (heard_by v.own.limits.first log) log h)
+    ∙ ap (λ (rs : List Reply). due_going (reply_due (slice_get rs 0) (first_due live))) (sym k.owed)
     ∙ out_is v v.owed live
     ∙ ap (λ (os : List Outbound). option_map (λ (l : Leaving). Goes l.to (Spelled l.packet)) (out_by (record v { outgoing = os }) v.owed)) (sym k.sends.outgoing_are)

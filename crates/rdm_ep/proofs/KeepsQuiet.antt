@@ -16,13 +16,13 @@ use Rattle.rdm_model.specs.Receives.{live_receives}
 use Rattle.rdm_model.specs.Regions.{after_ends, region_by, regions}
 use Rattle.rdm_model.specs.Sends.{sends_to, sends, known_by, known_word}
 use Rattle.rdm_model.specs.Replies.{is_from}
-use Rattle.rdm_model.specs.Turns.{progress, live_of, live_sends}
+use Rattle.rdm_model.specs.Dues.{progress, live_of, live_sends}
 use Rattle.rdm_model.specs.Completions.{completions, is_poll, poll_count, heard_names}
 use Rattle.rdm_ep.specs.View.{EndpointView, new_endpoint, current_in}
 use Rattle.rdm_ep.specs.Peers.{peer_in}
 use Rattle.rdm_ep.specs.Sending.{after_reg, after_insert}
 use Rattle.rdm_ep.specs.Going.{polled_by, after_poll}
-use Rattle.rdm_ep.specs.Plain.{IsPlainDeed, IsPlain}
+use Rattle.rdm_ep.specs.Eager.{IsEagerDeed, IsEager}
 use Rattle.rdm_ep.specs.Keeps.{Keeps}
 use Rattle.rdm_ep.proofs.Options.{find-push}
 use Rattle.rdm_ep.proofs.Currents.{of_port, shown_by, current_step}
@@ -77,7 +77,7 @@ IsQuiet _ = ⊥
 
 -- what such a deed leaves out
 record LeavesOut (own : Own) (log : List Deed) (d : Deed) : Type 0 where
-  plain : IsPlainDeed own log d
+  plain : IsEagerDeed own log d
   life : ShowsNoLife d
   send : SendsNothing d
   message : MeetsNothing d
@@ -97,11 +97,11 @@ quiet_leaves own log Nothing q = record { plain = tt; life = tt; send = tt; mess
 quiet_leaves own log d q = elim q [ ]
 
 -- after such a deed
-pub keeps_quiet : (d : Deed) (log : List Deed) (v : EndpointView) → IsQuiet d → IsPlain v.own log → Keeps log v → Keeps (d ∷ log) v
+pub keeps_quiet : (d : Deed) (log : List Deed) (v : EndpointView) → IsQuiet d → IsEager v.own log → Keeps log v → Keeps (d ∷ log) v
 keeps_quiet d log v q h keeps =
     let k = kept_of log v keeps in
     let l = quiet_leaves v.own log d q in
-    let g : IsPlain v.own (d ∷ log) = (h, l.plain) in
+    let g : IsEager v.own (d ∷ log) = (h, l.plain) in
     keeps_by (d ∷ log) v g
     (record {
       lives = lives_still v.own d log v.currents v.peers l.plain l.life k.lives;
@@ -115,12 +115,12 @@ keeps_quiet d log v q h keeps =
     })
 
 -- after a region was registered
-pub keeps_reg : (content : List ℕ) (log : List Deed) (v : EndpointView) → IsPlain v.own log → Keeps log v → Keeps (Did (Reg content) ∷ log) (after_reg v content)
+pub keeps_reg : (content : List ℕ) (log : List Deed) (v : EndpointView) → IsEager v.own log → Keeps log v → Keeps (Did (Reg content) ∷ log) (after_reg v content)
 unfolding after_reg after_ends region_by is_poll
 keeps_reg content log v h keeps =
     let k = kept_of log v keeps in
     let d = Did (Reg content) in
-    let g : IsPlain v.own (d ∷ log) = (h, tt) in
+    let g : IsEager v.own (d ∷ log) = (h, tt) in
     keeps_by (d ∷ log) (after_reg v content) g
     (record {
       lives = lives_still v.own d log v.currents v.peers tt tt k.lives;
@@ -164,7 +164,7 @@ insert_is v life =
     ]
 
 -- after an insert of a life that takes the place of no other
-pub keeps_insert : (life : Life) (log : List Deed) (v : EndpointView) → IsPlain v.own (Did (Insert life) ∷ log) → Keeps log v
+pub keeps_insert : (life : Life) (log : List Deed) (v : EndpointView) → IsEager v.own (Did (Insert life) ∷ log) → Keeps log v
     → Keeps (Did (Insert life) ∷ log) (after_insert v life)
 unfolding shown_by region_by is_poll known_word known_by is_from or_else
 keeps_insert life log v g keeps =
@@ -196,13 +196,13 @@ drop_next zero (x ∷ xs) y ys e = (omega arith, cc)
 drop_next (suc k) (x ∷ xs) y ys e = let r = drop_next k xs y ys e in let s : suc k + 1 ≡ suc (k + 1) = omega arith in ((let f = r.0 in omega arith), rw s r.1)
 
 -- after the first completion was polled
-pub keeps_polled : (log : List Deed) (v : EndpointView) (c : Completion) (cs : List Completion) → IsPlain v.own log → v.completions ≡ c ∷ cs → Keeps log v
+pub keeps_polled : (log : List Deed) (v : EndpointView) (c : Completion) (cs : List Completion) → IsEager v.own log → v.completions ≡ c ∷ cs → Keeps log v
     → Keeps (Polled ∷ log) (after_poll v)
 unfolding after_poll polled_by region_by is_poll poll_count deed_count
 keeps_polled log v c cs h e keeps =
     let k = kept_of log v keeps in
     let d = Polled in
-    let g : IsPlain v.own (d ∷ log) = (h, tt) in
+    let g : IsEager v.own (d ∷ log) = (h, tt) in
     let w : EndpointView = record v { completions = cs; polled = v.polled + 1 } in
     let n = drop_next (poll_count log) (own_completions v.own log) c cs (sym k.completions.completions_are ∙ e) in
     let same = none_completed v.own d log g tt tt in

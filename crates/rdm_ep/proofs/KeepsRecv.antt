@@ -24,7 +24,7 @@ use Rattle.rdm_ep.specs.declared.state.Posted.{Posted}
 use Rattle.rdm_ep.specs.declared.state.Inbound.{Inbound}
 use Rattle.rdm_ep.specs.View.{EndpointView}
 use Rattle.rdm_ep.specs.Receiving.{posted_recv, arrived_message, takes, named_in, posted_by, completion_of, landed, after_post as post_in, after_recv}
-use Rattle.rdm_ep.specs.Plain.{IsPlain}
+use Rattle.rdm_ep.specs.Eager.{IsEager}
 use Rattle.rdm_ep.specs.Keeps.{posted_of, Keeps}
 use Rattle.rdm_ep.proofs.Options.{find-map, without-map}
 use Rattle.rdm_ep.proofs.Apart.{apart_numbered}
@@ -129,7 +129,7 @@ then_count p r None arrived e = omega arith
 then_count p r (Some i) arrived e = without_length (takes p) arrived i e
 
 -- the pair that the receive makes is of that message
-post_fills : (req : RecvReq) (log : List Deed) (v : EndpointView) (i : Inbound) → IsPlain v.own (Did (Recv req) ∷ log) → Kept log v → Member i v.arrived
+post_fills : (req : RecvReq) (log : List Deed) (v : EndpointView) (i : Inbound) → IsEager v.own (Did (Recv req) ∷ log) → Kept log v → Member i v.arrived
     → IsFill (heard_by v.own.limits.first (Did (Recv req) ∷ log)) (receives (Did (Recv req) ∷ log))
     (record { recv = (new_receive log req).posted; message = arrived_message i }) (new_receive log req) i
 unfolding heard_by receives with_received received_by receive_numbered
@@ -145,7 +145,7 @@ post_fills req log v i g k m =
     }
 
 -- the regions then
-post_regions : (req : RecvReq) (log : List Deed) (v : EndpointView) (o : Option Inbound) → IsPlain v.own (Did (Recv req) ∷ log) → Kept log v
+post_regions : (req : RecvReq) (log : List Deed) (v : EndpointView) (o : Option Inbound) → IsEager v.own (Did (Recv req) ∷ log) → Kept log v
     → ((i : Inbound) → o ≡ Some i → Member i v.arrived)
     → regions_then (posted_of (new_receive log req)) o v.regions
     ≡ after_ends (heard_by v.own.limits.first (Did (Recv req) ∷ log)) (receives (Did (Recv req) ∷ log))
@@ -159,7 +159,7 @@ post_regions req log v (Some i) g k h =
     ∙ sym (fill_written (heard_by v.own.limits.first (Did (Recv req) ∷ log)) (receives (Did (Recv req) ∷ log)) q r i (own_regions v.own log) (post_fills req log v i g k (h i refl)))
 
 -- the completion then
-post_done : (req : RecvReq) (log : List Deed) (v : EndpointView) (o : Option Inbound) → IsPlain v.own (Did (Recv req) ∷ log) → Kept log v
+post_done : (req : RecvReq) (log : List Deed) (v : EndpointView) (o : Option Inbound) → IsEager v.own (Did (Recv req) ∷ log) → Kept log v
     → ((i : Inbound) → o ≡ Some i → Member i v.arrived)
     → done_then (posted_of (new_receive log req)) o
     ≡ recv_completions (heard_by v.own.limits.first (Did (Recv req) ∷ log)) (receives (Did (Recv req) ∷ log))
@@ -177,7 +177,7 @@ unfolding event_of met_by_all met_by
 post_pairs own log req = append-nil (met_by_post (new_receive log req).posted (find (accepts (new_receive log req).posted) (own_matching own log).arrived))
 
 -- how many wait then, with the pairs
-recv_count : (req : RecvReq) (log : List Deed) (v : EndpointView) (o : Option Inbound) → IsPlain v.own (Did (Recv req) ∷ log) → Kept log v
+recv_count : (req : RecvReq) (log : List Deed) (v : EndpointView) (o : Option Inbound) → IsEager v.own (Did (Recv req) ∷ log) → Kept log v
     → find (takes (posted_of (new_receive log req))) v.arrived ≡ o
     → length (arrived_then (posted_of (new_receive log req)) o v.arrived) + length v.held + length (own_matching v.own (Did (Recv req) ∷ log)).pairs ≡ length (heard_names (Did (Recv req) ∷ log))
 unfolding event_of met_by_all met_by heard_names named_by
@@ -196,7 +196,7 @@ recv_count req log v o g k e =
     omega arith
 
 -- after a receive that finds that message, or none
-recv_kept : (req : RecvReq) (log : List Deed) (v : EndpointView) (o : Option Inbound) → IsPlain v.own (Did (Recv req) ∷ log) → Kept log v
+recv_kept : (req : RecvReq) (log : List Deed) (v : EndpointView) (o : Option Inbound) → IsEager v.own (Did (Recv req) ∷ log) → Kept log v
     → find (takes (posted_of (new_receive log req))) v.arrived ≡ o → Keeps (Did (Recv req) ∷ log) (post_view v (posted_of (new_receive log req)) o)
 unfolding region_by is_poll ended_left event_of met_by_all met_by run after live_after receives with_received received_by head_by
 recv_kept req log v o g k e =
@@ -249,7 +249,7 @@ recv_kept req log v o g k e =
     })
 
 -- after a receive
-pub keeps_recv : (req : RecvReq) (log : List Deed) (v : EndpointView) → IsPlain v.own log → Keeps log v → Keeps (Did (Recv req) ∷ log) (after_recv v req)
+pub keeps_recv : (req : RecvReq) (log : List Deed) (v : EndpointView) → IsEager v.own log → Keeps log v → Keeps (Did (Recv req) ∷ log) (after_recv v req)
 unfolding after_recv
 keeps_recv req log v h keeps =
     let p = posted_of (new_receive log req) in

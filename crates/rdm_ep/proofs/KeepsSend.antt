@@ -19,7 +19,7 @@ use Rattle.rdm_ep.specs.declared.state.Outbound.{Outbound}
 use Rattle.rdm_ep.specs.View.{EndpointView, current_in}
 use Rattle.rdm_ep.specs.Peers.{peer_in, with_peer, sent_peer}
 use Rattle.rdm_ep.specs.Sending.{number_to, outbound, after_send_to, after_send}
-use Rattle.rdm_ep.specs.Plain.{IsPlain}
+use Rattle.rdm_ep.specs.Eager.{IsEager}
 use Rattle.rdm_ep.specs.Keeps.{outbound_of, Keeps}
 use Rattle.rdm_ep.proofs.Pushes.{own_sends, own_live_sends, new_sends, own_sends_step, live_left, live_sends_step, ended_left}
 use Rattle.rdm_ep.proofs.Completed.{own_completions, own_regions, completions_step}
@@ -85,13 +85,13 @@ sent_more sents s life =
     ]) refl
 
 -- a send completes nothing
-send_completes_nothing : (own : Own) (req : SendReq) (log : List Deed) → IsPlain own (Did (Send req) ∷ log)
+send_completes_nothing : (own : Own) (req : SendReq) (log : List Deed) → IsEager own (Did (Send req) ∷ log)
     → own_completions own (Did (Send req) ∷ log) ≡ own_completions own log ++ []
 unfolding ended_left recv_completions
 send_completes_nothing own req log g = completions_step own (Did (Send req)) log g ∙ (let p = no_pairs own (Did (Send req)) log tt in rw p refl)
 
 -- a send to a life
-send_kept : (req : SendReq) (to : Life) (log : List Deed) (v : EndpointView) → IsPlain v.own (Did (Send req) ∷ log) → new_sends v.own log (Did (Send req)) ≡ send_to v.own log req to ∷ []
+send_kept : (req : SendReq) (to : Life) (log : List Deed) (v : EndpointView) → IsEager v.own (Did (Send req) ∷ log) → new_sends v.own log (Did (Send req)) ≡ send_to v.own log req to ∷ []
     → Kept log v → Keeps (Did (Send req) ∷ log) (after_send_to v req (Some to))
 unfolding after_send_to region_by is_poll live_left new_sent
 send_kept req to log v g made k =
@@ -133,7 +133,7 @@ send_kept req to log v g made k =
     })
 
 -- a send that no life takes changes nothing
-unsent_kept : (req : SendReq) (log : List Deed) (v : EndpointView) → IsPlain v.own (Did (Send req) ∷ log) → new_sends v.own log (Did (Send req)) ≡ []
+unsent_kept : (req : SendReq) (log : List Deed) (v : EndpointView) → IsEager v.own (Did (Send req) ∷ log) → new_sends v.own log (Did (Send req)) ≡ []
     → Kept log v → Keeps (Did (Send req) ∷ log) (after_send_to v req None)
 unfolding after_send_to region_by is_poll live_left
 unsent_kept req log v g made k =
@@ -169,13 +169,13 @@ new_by own log req o e =
     ap (λ (x : Option Life). sent_to_current own log (own_sends own log) req x (range_of (own_regions own log) req.region.0 req.at req.len)) e
 
 -- after a send, by the current life of its port
-send_by : (req : SendReq) (log : List Deed) (v : EndpointView) (o : Option Life) → IsPlain v.own (Did (Send req) ∷ log) → current log req.to.0 ≡ o → Kept log v
+send_by : (req : SendReq) (log : List Deed) (v : EndpointView) (o : Option Life) → IsEager v.own (Did (Send req) ∷ log) → current log req.to.0 ≡ o → Kept log v
     → Keeps (Did (Send req) ∷ log) (after_send_to v req o)
 unfolding sent_to_current
 send_by req log v None g e k = unsent_kept req log v g (new_by v.own log req None e) k
 send_by req log v (Some to) g e k = send_kept req to log v g (new_by v.own log req (Some to) e) k
 
 -- after a send of one packet
-pub keeps_send : (req : SendReq) (log : List Deed) (v : EndpointView) → IsPlain v.own (Did (Send req) ∷ log) → Keeps log v → Keeps (Did (Send req) ∷ log) (after_send v req)
+pub keeps_send : (req : SendReq) (log : List Deed) (v : EndpointView) → IsEager v.own (Did (Send req) ∷ log) → Keeps log v → Keeps (Did (Send req) ∷ log) (after_send v req)
 unfolding after_send
 keeps_send req log v g keeps = send_by req log v (current_in v req.to.0) g (sym (keeps.currents_are req.to.0)) (kept_of log v keeps)

@@ -30,7 +30,7 @@ use Rattle.rdm_ep.specs.Receiving.{arrived_message}
 use Rattle.rdm_ep.specs.Meeting.{meeting_of, after_arrivals}
 use Rattle.rdm_ep.specs.Entering.{is_message, following, left_held, entering_by, left_by, with_next, with_ahead, with_message}
 use Rattle.rdm_ep.specs.Handling.{inbound_head, inbound, with_item, after_take}
-use Rattle.rdm_ep.specs.Plain.{IsPlain}
+use Rattle.rdm_ep.specs.Eager.{IsEager}
 use Rattle.rdm_ep.specs.Keeps.{IsToldBy, Keeps}
 use Rattle.rdm_ep.proofs.Options.{list_any-push}
 use Rattle.rdm_ep.proofs.Accounts.{took_told}
@@ -93,7 +93,7 @@ heard_here own log peers arrived held from number n low c =
     ]
 
 -- the messages that enter by one that is next are told
-entering_told : (from : Life) (number : MsgNo) (tag : Option ℕ) (opt : Opt) (bytes : List ℕ) (log : List Deed) (v : EndpointView) → IsPlain v.own (eager from number tag opt bytes ∷ log) → Kept log v
+entering_told : (from : Life) (number : MsgNo) (tag : Option ℕ) (opt : Opt) (bytes : List ℕ) (log : List Deed) (v : EndpointView) → IsEager v.own (eager from number tag opt bytes ∷ log) → Kept log v
     → (i : Inbound) → Member i (entering_by (inbound from number.0 tag opt bytes) v.held) → IsToldBy (heard_by v.own.limits.first (eager from number tag opt bytes ∷ log)) i
 unfolding head_of size_of shape_of
 entering_told from number tag opt bytes log v g k i (inl is) =
@@ -120,7 +120,7 @@ entered_then from number peers held life =
     ∙ ap (λ (n : ℕ). cond (same_life from life) ((peer_in peers from).entered + count) n) (entered_met from peers life)
 
 -- how many were heard of then
-count_then : (from : Life) (number : MsgNo) (tag : Option ℕ) (opt : Opt) (bytes : List ℕ) (log : List Deed) (v : EndpointView) (is left : List Inbound) → IsPlain v.own (eager from number tag opt bytes ∷ log) → Kept log v
+count_then : (from : Life) (number : MsgNo) (tag : Option ℕ) (opt : Opt) (bytes : List ℕ) (log : List Deed) (v : EndpointView) (is left : List Inbound) → IsEager v.own (eager from number tag opt bytes ∷ log) → Kept log v
     → arriving v.own (eager from number tag opt bytes) log ≡ map arrived_message is → ((i : Inbound) → Member i is → IsToldBy (heard_by v.own.limits.first (eager from number tag opt bytes ∷ log)) i)
     → length is + length left ≡ length v.held + 1
     → length (after_arrivals (meeting_of v) is).arrived + length left + length (own_matching v.own (eager from number tag opt bytes ∷ log)).pairs ≡ length (heard_names (eager from number tag opt bytes ∷ log))
@@ -146,7 +146,7 @@ or_assoc true b c = refl
 or_assoc false b c = refl
 
 -- whether a message was heard of, after one that is next
-heard_then : (from : Life) (number : MsgNo) (tag : Option ℕ) (opt : Opt) (bytes : List ℕ) (log : List Deed) (v : EndpointView) (life : Life) (n : ℕ) → IsPlain v.own (eager from number tag opt bytes ∷ log)
+heard_then : (from : Life) (number : MsgNo) (tag : Option ℕ) (opt : Opt) (bytes : List ℕ) (log : List Deed) (v : EndpointView) (life : Life) (n : ℕ) → IsEager v.own (eager from number tag opt bytes ∷ log)
     → ComesNext v.own log v.peers v.arrived v.held from number
     → heard_of v.own.limits.first (next_peers from number v.peers v.held) (left_held (length v.held) v.held from (number.0 + 1)) life n ≡ is_heard (eager from number tag opt bytes ∷ log) life n
 heard_then from number tag opt bytes log v life n g c =
@@ -176,7 +176,7 @@ heard_then from number tag opt bytes log v life n g c =
     ]) refl
 
 -- what is held after a message that is next
-held_next : (from : Life) (number : MsgNo) (tag : Option ℕ) (opt : Opt) (bytes : List ℕ) (log : List Deed) (v : EndpointView) → IsPlain v.own (eager from number tag opt bytes ∷ log) → Kept log v
+held_next : (from : Life) (number : MsgNo) (tag : Option ℕ) (opt : Opt) (bytes : List ℕ) (log : List Deed) (v : EndpointView) → IsEager v.own (eager from number tag opt bytes ∷ log) → Kept log v
     → ComesNext v.own log v.peers v.arrived v.held from number
     → HeldKept v.own (eager from number tag opt bytes ∷ log) (next_peers from number v.peers v.held) (after_arrivals (meeting_of v) (entering_by (inbound from number.0 tag opt bytes) v.held)).arrived
     (left_by (inbound from number.0 tag opt bytes) v.held)
@@ -221,7 +221,7 @@ held_next from number tag opt bytes log v g k c =
     }
 
 -- what is held after a message that comes before it is next
-held_ahead : (from : Life) (number : MsgNo) (tag : Option ℕ) (opt : Opt) (bytes : List ℕ) (log : List Deed) (v : EndpointView) → IsPlain v.own (eager from number tag opt bytes ∷ log) → Kept log v
+held_ahead : (from : Life) (number : MsgNo) (tag : Option ℕ) (opt : Opt) (bytes : List ℕ) (log : List Deed) (v : EndpointView) → IsEager v.own (eager from number tag opt bytes ∷ log) → Kept log v
     → (number.0 ≡ next_of v.own.limits.first v.peers from → ⊥)
     → HeldKept v.own (eager from number tag opt bytes ∷ log) (greeted_peers from v.peers) v.arrived (v.held ++ inbound from number.0 tag opt bytes ∷ [])
 unfolding after_arrivals head_of size_of shape_of
@@ -264,7 +264,7 @@ held_ahead from number tag opt bytes log v g k other =
 
 -- after a message in one packet was taken
 pub keeps_message : (from : Life) (number : MsgNo) (tag : Option ℕ) (opt : Opt) (bytes : List ℕ) (log : List Deed) (v : EndpointView)
-    → IsPlain v.own (eager from number tag opt bytes ∷ log) → Keeps log v → Keeps (eager from number tag opt bytes ∷ log) (after_take from (Spelled (Rtm number tag opt (Eager bytes))) v)
+    → IsEager v.own (eager from number tag opt bytes ∷ log) → Keeps log v → Keeps (eager from number tag opt bytes ∷ log) (after_take from (Spelled (Rtm number tag opt (Eager bytes))) v)
 unfolding after_take with_item with_message with_next with_ahead after_arrivals
 keeps_message from number tag opt bytes log v g keeps =
     let k = kept_of log v keeps in
@@ -301,7 +301,7 @@ keeps_message from number tag opt bytes log v g keeps =
     ]
 
 -- after a handshake was taken, of a life of which nothing was known
-pub keeps_handshake : (from : Life) (words : List ℕ) (connid : Connid) (log : List Deed) (v : EndpointView) → IsPlain v.own log → (peer_in v.peers from).known ≡ None
+pub keeps_handshake : (from : Life) (words : List ℕ) (connid : Connid) (log : List Deed) (v : EndpointView) → IsEager v.own log → (peer_in v.peers from).known ≡ None
     → Keeps log v → Keeps (Took from (Spelled (Handshake words connid)) ∷ log) (after_take from (Spelled (Handshake words connid)) v)
 unfolding after_take with_item region_by is_poll known_by
 keeps_handshake from words connid log v h none keeps =
@@ -309,7 +309,7 @@ keeps_handshake from words connid log v h none keeps =
     let own = v.own in
     let item = Spelled (Handshake words connid) in
     let d = Took from item in
-    let g : IsPlain own (d ∷ log) = (h, tt) in
+    let g : IsEager own (d ∷ log) = (h, tt) in
     let word = slice_get words 0 in
     let peers = with_peer (known_peer word) from (greeted_peers from v.peers) in
     let w : EndpointView = record v { currents = with_current from v.currents; peers = peers; owed = greeted_owed from v.peers v.owed } in

@@ -12,7 +12,7 @@ pub mod Welcomed
 -- What an endpoint keeps is what the definitions say.
 pub mod Options
 pub mod Apart
--- Of plain deeds, by what they themselves tell. Lives, and the messages that were heard of:
+-- Of eager deeds, by what they themselves tell. Lives, and the messages that were heard of:
 pub mod Currents
 pub mod Told
 pub mod Accounts

@@ -1,4 +1,4 @@
--- Of plain deeds: the live receives are those that are posted.
+-- Of eager deeds: the live receives are those that are posted.
 use Rattle.std.proofs.Common.{◌≡◌, ℕ, ◌<◌, Bool, true, false, not, List, [], ◌∷◌, ◌++◌, map, length, Option, Some, None, refl, arith, ap, ◌∙◌, sym, subst}
 use Rattle.std.proofs.Math.Bool.{or-false, or-true}
 use Rattle.std.specs.Prelude.{◌==◌, ◌&&◌, ◌||◌, filter, find, option_map, is_some}
@@ -15,7 +15,7 @@ use Rattle.rdm_model.specs.Owns.{Own}
 use Rattle.rdm_model.specs.Matches.{Receive, receive, receives, received_by, with_received, matching}
 use Rattle.rdm_model.specs.Receives.{RecvEnd, Filled, Withdrawn, ended_recv, has_ended, live_receives}
 use Rattle.rdm_model.specs.Local.{heads_by}
-use Rattle.rdm_ep.specs.Plain.{IsPlain}
+use Rattle.rdm_ep.specs.Eager.{IsEager}
 use Rattle.rdm_ep.proofs.Options.{find-map, is_some-map, without-map, list_any-push, not_or}
 use Rattle.rdm_ep.proofs.Apart.{ApartBy, apart_filter, apart_without}
 use Rattle.rdm_ep.proofs.Accepted.{number_of, receive_numbered_so, receives_apart}
@@ -62,7 +62,7 @@ live_arrivals live (a ∷ as') = live_arrivals (live_arrive live a (find (λ (q 
 abbrev pub live_cancel : (recv : ℕ) → List Receive → List Receive
 live_cancel recv live = without_first (λ (r : Receive). r.number == recv) live
 
--- the live receives after a plain deed
+-- the live receives after an eager deed
 unfoldable pub live_after : Own → List Receive → Matching → List Deed → Deed → List Receive
 live_after own live m before (Did (Recv req)) =
     live_post live (receive (length (receives before)) before req) (find (accepts (receive (length (receives before)) before req).posted) m.arrived)
@@ -202,8 +202,8 @@ cancel_waits recv live m same w =
     ap (map seen) (without_where (λ (x : Receive). x.number == recv) (λ (x : Receive). is_recv recv (seen x)) live (λ x k. ap (λ (n : ℕ). n == recv) (sym (same x k))))
     ∙ sym (without-map seen (is_recv recv) live) ∙ ap (without_first (is_recv recv)) w
 
--- the receives after a plain deed
-deed_live : (own : Own) (d : Deed) (before : List Deed) → IsPlain own (d ∷ before) → map seen (own_live own before) ≡ (own_matching own before).posted
+-- the receives after an eager deed
+deed_live : (own : Own) (d : Deed) (before : List Deed) → IsEager own (d ∷ before) → map seen (own_live own before) ≡ (own_matching own before).posted
     → LiveOf (live_after own (own_live own before) (own_matching own before) before d) (receives (d ∷ before)) (own_ends own before ++ ends_of own before d)
     (run (own_matching own before) (event_of own d before))
 unfolding receives with_received received_by event_of live_after run after met_by_all met_by ended_recv
@@ -236,8 +236,8 @@ deed_live own d before h w =
     (λ x n. seen_number before x n) (record { live_are = live_is own before; waiting = w }) in
     rw (append-nil (receives before)) k
 
--- the live receives after a plain deed, where they were those that wait
-live_step_by : (own : Own) (d : Deed) (before : List Deed) → IsPlain own (d ∷ before) → map seen (own_live own before) ≡ (own_matching own before).posted
+-- the live receives after an eager deed, where they were those that wait
+live_step_by : (own : Own) (d : Deed) (before : List Deed) → IsEager own (d ∷ before) → map seen (own_live own before) ≡ (own_matching own before).posted
     → (own_live own (d ∷ before) ≡ live_after own (own_live own before) (own_matching own before) before d) × (map seen (own_live own (d ∷ before)) ≡ (own_matching own (d ∷ before)).posted)
 live_step_by own d before h w =
     let k = deed_live own d before h w in
@@ -247,12 +247,12 @@ live_step_by own d before h w =
     (e, ap (map seen) e ∙ k.waiting ∙ ap (λ (m : Matching). m.posted) (sym step))
 
 -- the live receives are those that wait in the matcher
-pub waiting_are : (own : Own) (log : List Deed) → IsPlain own log → map seen (own_live own log) ≡ (own_matching own log).posted
+pub waiting_are : (own : Own) (log : List Deed) → IsEager own log → map seen (own_live own log) ≡ (own_matching own log).posted
 unfolding live_receives matching receives
 waiting_are own [] h = refl
 waiting_are own (d ∷ before) h = (live_step_by own d before h (waiting_are own before h.0)).1
 
--- the live receives after a plain deed
-pub live_step : (own : Own) (d : Deed) (before : List Deed) → IsPlain own (d ∷ before)
+-- the live receives after an eager deed
+pub live_step : (own : Own) (d : Deed) (before : List Deed) → IsEager own (d ∷ before)
     → own_live own (d ∷ before) ≡ live_after own (own_live own before) (own_matching own before) before d
 live_step own d before h = (live_step_by own d before h (waiting_are own before h.0)).0

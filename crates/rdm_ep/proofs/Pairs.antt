@@ -1,4 +1,4 @@
--- The pairs that a plain deed makes.
+-- The pairs that an eager deed makes.
 use Rattle.std.proofs.Common.{◌≡◌, ℕ, ◌<◌, ◌≤◌, true, false, List, [], ◌∷◌, ◌++◌, map, length, Option, Some, None, refl, arith, ◌⊎◌, inl, inr, ap, ◌∙◌, sym, subst}
 use Rattle.std.specs.Prelude.{find}
 use Rattle.std.proofs.lemmas.Bool.{false_from_ne_true, not-true}
@@ -14,7 +14,7 @@ use Rattle.rdm_model.specs.Owns.{Own, Heads}
 use Rattle.rdm_model.specs.Heard.{has_entered, entering}
 use Rattle.rdm_model.specs.Matches.{receive, receives, received_by, with_received, events_by, matching}
 use Rattle.rdm_model.specs.Local.{heads_by}
-use Rattle.rdm_ep.specs.Plain.{IsPlainDeed, IsPlain}
+use Rattle.rdm_ep.specs.Eager.{IsEagerDeed, IsEager}
 use Rattle.rdm_model.proofs.Matches.{EventIs, AllArrived, run_keeps, is_pair_member, entering_parts}
 use Rattle.rdm_model.proofs.SameMatches.{matching_same}
 use Rattle.rdm_model.proofs.Grows.{heads_grow}
@@ -34,7 +34,7 @@ unfoldable pub arriving : Own → Deed → List Deed → List Arrived
 arriving own (Took from item) before = map (message_by (heads_by (Took from item ∷ before)) from) (entering own.limits.first (Took from item) before from)
 arriving own _ before = []
 
--- what a plain deed does to the matcher
+-- what an eager deed does to the matcher
 unfoldable pub event_of : Own → Deed → List Deed → List Event
 event_of own (Did (Recv req)) before = Post (receive (length (receives before)) before req).posted ∷ []
 event_of own (Did (CancelOp recv)) before = Cancel recv.0 ∷ []
@@ -45,8 +45,8 @@ map_twice : {A B C : Type 0} (g : B → C) (f : A → B) (xs : List A) → map (
 map_twice g f [] = refl
 map_twice g f (x ∷ xs) = ap (λ ys. g (f x) ∷ ys) (map_twice g f xs)
 
--- the events of a plain deed
-events_are : (own : Own) (d : Deed) (before : List Deed) → IsPlainDeed own before d
+-- the events of an eager deed
+events_are : (own : Own) (d : Deed) (before : List Deed) → IsEagerDeed own before d
     → events_by own.limits.first (heads_by (d ∷ before)) before d ≡ event_of own d before
 unfolding events_by event_of arriving
 events_are own (Did (Recv req)) before h = refl
@@ -56,8 +56,8 @@ events_are own (Took from item) before h =
     map_twice Arrive (message_by (heads_by (Took from item ∷ before)) from) (entering own.limits.first (Took from item) before from)
 events_are own _ before h = refl
 
--- the matcher's lists after a plain deed
-pub matching_step : (own : Own) (d : Deed) (before : List Deed) → IsPlain own (d ∷ before)
+-- the matcher's lists after an eager deed
+pub matching_step : (own : Own) (d : Deed) (before : List Deed) → IsEager own (d ∷ before)
     → own_matching own (d ∷ before) ≡ run (own_matching own before) (event_of own d before)
 unfolding matching
 matching_step own d before h =
@@ -86,7 +86,7 @@ unfoldable pub met_by_all : Matching → List Event → List Pair
 met_by_all m [] = []
 met_by_all m (e ∷ es) = met_by m e ++ met_by_all (after m e) es
 
--- the pairs that a plain deed makes
+-- the pairs that an eager deed makes
 abbrev pub new_pairs : Own → List Deed → Deed → List Pair
 new_pairs own before d = met_by_all (own_matching own before) (event_of own d before)
 
@@ -121,8 +121,8 @@ run_meets [] m = sym (append-nil m.pairs)
 run_meets (e ∷ es) m =
     run_meets es (after m e) ∙ ap (λ (ps : List Pair). ps ++ met_by_all (after m e) es) (after_meets m e) ∙ append_assoc m.pairs (met_by m e) (met_by_all (after m e) es)
 
--- the pairs after a plain deed
-pub pairs_step : (own : Own) (d : Deed) (before : List Deed) → IsPlain own (d ∷ before)
+-- the pairs after an eager deed
+pub pairs_step : (own : Own) (d : Deed) (before : List Deed) → IsEager own (d ∷ before)
     → (own_matching own (d ∷ before)).pairs ≡ (own_matching own before).pairs ++ new_pairs own before d
 pairs_step own d before h =
     ap (λ (m : Matching). m.pairs) (matching_step own d before h) ∙ run_meets (event_of own d before) (own_matching own before)
@@ -245,7 +245,7 @@ brings_next own (Did (CancelOp recv)) before e (inr never) = elim never [ ]
 brings_next own d before e h = arrival_below (length (receives (d ∷ before))) (arriving own d before) e h
 
 -- the receives of the matcher are accepted ones
-pub ids_below : (own : Own) (log : List Deed) → IsPlain own log → IdsBelow (length (receives log)) (own_matching own log)
+pub ids_below : (own : Own) (log : List Deed) → IsEager own log → IdsBelow (length (receives log)) (own_matching own log)
 unfolding matching
 ids_below own [] h = record { waiting = λ r m. elim m [ ]; paired = λ p m. elim m [ ] }
 ids_below own (d ∷ before) h =
@@ -305,7 +305,7 @@ event_entered own d before (Cancel n) k = tt
 event_entered own d before (Forget l) k = tt
 
 -- each message that waits or was paired has entered
-pub all_entered : (own : Own) (log : List Deed) → IsPlain own log → AllArrived (HasEntered own log) (own_matching own log)
+pub all_entered : (own : Own) (log : List Deed) → IsEager own log → AllArrived (HasEntered own log) (own_matching own log)
 unfolding matching
 all_entered own [] h = record { waiting = λ a m. elim m [ ]; paired = λ p m. elim m [ ] }
 all_entered own (d ∷ before) h =
@@ -319,7 +319,7 @@ all_entered own (d ∷ before) h =
     }))
 
 -- a new pair was none before
-pub new_unpaired : (own : Own) (d : Deed) (before : List Deed) (q : Pair) → IsPlain own (d ∷ before) → Member q (new_pairs own before d)
+pub new_unpaired : (own : Own) (d : Deed) (before : List Deed) (q : Pair) → IsEager own (d ∷ before) → Member q (new_pairs own before d)
     → is_pair (own_matching own before).pairs q.recv.id.0 q.message.life q.message.no.0 ≡ false
 new_unpaired own d before q h k =
     let m = own_matching own before in

@@ -1,4 +1,4 @@
--- Of plain deeds: what is left to push are handshakes in the order in which they became due, and then sends in order.
+-- Of eager deeds: what is left to push are handshakes in the order in which they became due, and then sends in order.
 use Rattle.std.proofs.Common.{◌≡◌, ℕ, ◌<◌, ◌≤◌, Bool, true, false, cond, not, List, [], ◌∷◌, ◌++◌, length, drop, Option, refl, arith, inl, inr, ap, ◌∙◌, sym, subst}
 use Rattle.std.specs.Prelude.{◌==◌, ◌&&◌, ◌||◌, filter, slice_get}
 use Rattle.std.proofs.lemmas.Bool.{not-true, eq-eqb, ne_eqb, cases_eq}
@@ -9,13 +9,13 @@ use Rattle.rdm_model.specs.Deeds.{Deed, Pushed}
 use Rattle.rdm_model.specs.Owns.{Own, Messages}
 use Rattle.rdm_model.specs.Sends.{Sent, sent_by, with_sent, sends}
 use Rattle.rdm_model.specs.Replies.{Reply}
-use Rattle.rdm_model.specs.Turns.{Progress, Turn, next_send, reply_turn, next_turn, after_turn, after_push, after_deed, progress}
+use Rattle.rdm_model.specs.Dues.{Progress, Due, next_send, reply_due, next_due, after_due, after_push, after_deed, progress}
 use Rattle.rdm_model.proofs.Numbers.{sent_by_is, new_number, send_below}
-use Rattle.rdm_ep.specs.Plain.{IsPlain}
+use Rattle.rdm_ep.specs.Eager.{IsEager}
 use Rattle.rdm_ep.proofs.Options.{not_or}
 use Rattle.rdm_ep.proofs.Apart.{ApartBy, apart_filter, apart_one}
 use Rattle.rdm_ep.proofs.Currents.{never_forgotten}
-use Rattle.rdm_ep.proofs.EagerSends.{send_number, sends_apart, all_eager, opening, has_any, AreOfOne, unsent, ForgetsNone, first_turn, next_send_is}
+use Rattle.rdm_ep.proofs.EagerSends.{send_number, sends_apart, all_eager, opening, has_any, AreOfOne, unsent, ForgetsNone, first_due, next_send_is}
 use Rattle.rdm_lists.proofs.Members.{member-append_cases, member-filter}
 use Rattle.rdm_lists.proofs.Same.{filter_where}
 use Rattle.rdm_lists.proofs.Filters.{filter_all, filter_both}
@@ -32,7 +32,7 @@ pub record SendsAre (packets : ℕ → List Packet) (sents : List Sent) : Type 0
   pub below : (s : Sent) → Member s sents → s.number < length sents
 
 -- the sends and the packets after a deed that pushes nothing
-sends_more : (own : Own) (ms : Messages) (d : Deed) (before : List Deed) (packets : ℕ → List Packet) → IsPlain own (d ∷ before)
+sends_more : (own : Own) (ms : Messages) (d : Deed) (before : List Deed) (packets : ℕ → List Packet) → IsEager own (d ∷ before)
     → SendsAre packets (sends own ms before) → SendsAre packets (sends own ms (d ∷ before))
 unfolding sends with_sent
 sends_more own ms d before packets h are =
@@ -136,8 +136,8 @@ sends_left (r ∷ rs) live = live
 
 -- what is left once the first send was pushed
 send_left : (sents : List Sent) (p : Progress) (live : List Sent) → SendsAre p.packets sents → unsent p.packets sents ≡ live → p.replies ≡ []
-    → Left [] (drop 1 live) sents (after_turn (first_turn live) p)
-unfolding after_turn first_turn
+    → Left [] (drop 1 live) sents (after_due (first_due live) p)
+unfolding after_due first_due
 send_left sents p [] are e r = record { replies_are = r; sends_are = are; live_are = e }
 send_left sents p (s ∷ ss) are e r =
     let f = first_unsent p.packets sents s ss e in
@@ -148,21 +148,21 @@ send_left sents p (s ∷ ss) are e r =
     }
 
 -- what is left once what goes out first was pushed
-turn_left : (own : Own) (log : List Deed) (sents : List Sent) (p : Progress) (rs : List Reply) → ForgetsNone log → SendsAre p.packets sents → p.replies ≡ rs
-    → Left rs (sends_left rs (unsent p.packets sents)) sents (after_turn (reply_turn (slice_get rs 0) (next_send own log p.packets sents)) p)
-unfolding sends_left reply_turn after_turn
-turn_left own log sents p [] none are e =
-    subst (λ (t : Option Turn). Left [] (drop 1 (unsent p.packets sents)) sents (after_turn t p)) (sym (next_send_is own log p.packets sents none are.each))
+due_left : (own : Own) (log : List Deed) (sents : List Sent) (p : Progress) (rs : List Reply) → ForgetsNone log → SendsAre p.packets sents → p.replies ≡ rs
+    → Left rs (sends_left rs (unsent p.packets sents)) sents (after_due (reply_due (slice_get rs 0) (next_send own log p.packets sents)) p)
+unfolding sends_left reply_due after_due
+due_left own log sents p [] none are e =
+    subst (λ (t : Option Due). Left [] (drop 1 (unsent p.packets sents)) sents (after_due t p)) (sym (next_send_is own log p.packets sents none are.each))
     (send_left sents p (unsent p.packets sents) are refl e)
-turn_left own log sents p (r ∷ rs) none are e = record { replies_are = ap (drop 1) e; sends_are = are; live_are = refl }
+due_left own log sents p (r ∷ rs) none are e = record { replies_are = ap (drop 1) e; sends_are = are; live_are = refl }
 
--- what is left after a push of plain deeds
-pub push_left : (own : Own) (ms : Messages) (before : List Deed) → IsPlain own before → SendsAre (progress own ms before).packets (sends own ms before)
+-- what is left after a push of eager deeds
+pub push_left : (own : Own) (ms : Messages) (before : List Deed) → IsEager own before → SendsAre (progress own ms before).packets (sends own ms before)
     → Left (progress own ms before).replies (sends_left (progress own ms before).replies (unsent (progress own ms before).packets (sends own ms before))) (sends own ms before)
     (after_push own ms before Pushed (progress own ms before))
-unfolding after_push next_turn
+unfolding after_push next_due
 push_left own ms before h are =
-    turn_left own before (sends own ms before) (progress own ms before) (progress own ms before).replies (λ l. never_forgotten own before l h) are refl
+    due_left own before (sends own ms before) (progress own ms before) (progress own ms before).replies (λ l. never_forgotten own before l h) are refl
 
 -- what is left after a deed that pushes nothing
 after_other : (own : Own) (ms : Messages) (d : Deed) (before : List Deed) → after_push own ms before d (progress own ms before) ≡ progress own ms before
@@ -171,15 +171,15 @@ unfolding progress after_deed
 after_other own ms d before e = ap (λ (p : Progress). p.packets) e
 
 -- the sends are of one packet each after a deed that pushes nothing
-other_sends : (own : Own) (ms : Messages) (d : Deed) (before : List Deed) → IsPlain own (d ∷ before)
+other_sends : (own : Own) (ms : Messages) (d : Deed) (before : List Deed) → IsEager own (d ∷ before)
     → after_push own ms before d (progress own ms before) ≡ progress own ms before
     → SendsAre (progress own ms before).packets (sends own ms before) → SendsAre (progress own ms (d ∷ before)).packets (sends own ms (d ∷ before))
 other_sends own ms d before h e are =
     subst (λ (packets : ℕ → List Packet). SendsAre packets (sends own ms (d ∷ before))) (sym (after_other own ms d before e))
     (sends_more own ms d before (progress own ms before).packets h are)
 
--- the sends of plain deeds are of one packet each
-pub sends_are : (own : Own) (ms : Messages) (log : List Deed) → IsPlain own log → SendsAre (progress own ms log).packets (sends own ms log)
+-- the sends of eager deeds are of one packet each
+pub sends_are : (own : Own) (ms : Messages) (log : List Deed) → IsEager own log → SendsAre (progress own ms log).packets (sends own ms log)
 unfolding progress after_deed after_push sends with_sent sent_by
 sends_are own ms [] h =
     record {

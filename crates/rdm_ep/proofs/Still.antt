@@ -1,4 +1,4 @@
--- What a plain deed leaves as it is.
+-- What an eager deed leaves as it is.
 use Rattle.std.proofs.Common.{◌≡◌, ℕ, ◌+◌, ◌-◌, Bool, true, false, not, List, [], ◌∷◌, ◌++◌, map, length, Option, Some, None, refl, arith, ap, ◌∙◌, sym, subst}
 use Rattle.std.specs.Prelude.{is_some, ◌&&◌, ◌==◌}
 use Rattle.std.proofs.Math.Bool.{or-true}
@@ -31,7 +31,7 @@ use Rattle.rdm_ep.specs.Peers.{peer_in}
 use Rattle.rdm_ep.specs.Receiving.{arrived_message}
 use Rattle.rdm_ep.specs.Entering.{is_message}
 use Rattle.rdm_ep.specs.Handling.{inbound_head}
-use Rattle.rdm_ep.specs.Plain.{IsPlainDeed, IsPlain}
+use Rattle.rdm_ep.specs.Eager.{IsEagerDeed, IsEager}
 use Rattle.rdm_ep.specs.Keeps.{posted_of, outbound_of}
 use Rattle.rdm_ep.proofs.Currents.{shown_by, current_step}
 use Rattle.rdm_ep.proofs.Accounts.{head_stays, bytes_stay}
@@ -80,7 +80,7 @@ unshown (Took from item) n = elim n [ ]
 unshown _ n = (λ port. refl, λ life. refl, λ life. refl)
 
 -- what is known of lives stays where none is shown
-pub lives_still : (own : Own) (d : Deed) (before : List Deed) (currents : List Life) (peers : List Peer) → IsPlainDeed own before d → ShowsNoLife d
+pub lives_still : (own : Own) (d : Deed) (before : List Deed) (currents : List Life) (peers : List Peer) → IsEagerDeed own before d → ShowsNoLife d
     → LivesKept before currents peers → LivesKept (d ∷ before) currents peers
 unfolding known_word or_else
 lives_still own d before currents peers h n k =
@@ -100,7 +100,7 @@ unsent_by own Pushed before n = elim n [ ]
 unsent_by own _ before n = (refl, λ rs live. refl, λ rs live. refl)
 
 -- the sends stay where none is made or pushed
-pub sends_still : (own : Own) (d : Deed) (before : List Deed) (count : ℕ) (peers : List Peer) (outgoing : List Outbound) → IsPlain own (d ∷ before) → SendsNothing d
+pub sends_still : (own : Own) (d : Deed) (before : List Deed) (count : ℕ) (peers : List Peer) (outgoing : List Outbound) → IsEager own (d ∷ before) → SendsNothing d
     → SendsKept own before count peers outgoing → SendsKept own (d ∷ before) count peers outgoing
 sends_still own d before count peers outgoing h n k =
     let u = unsent_by own d before n in
@@ -157,7 +157,7 @@ unmet own (Took from item) before n =
 unmet own _ before n = (refl, append-nil (receives before), λ live m. refl, λ life k. refl, refl)
 
 -- the receives stay where nothing is met
-pub receives_still : (own : Own) (d : Deed) (before : List Deed) (count : ℕ) (posted : List Posted) → IsPlain own (d ∷ before) → MeetsNothing d
+pub receives_still : (own : Own) (d : Deed) (before : List Deed) (count : ℕ) (posted : List Posted) → IsEager own (d ∷ before) → MeetsNothing d
     → ReceivesKept own before count posted → ReceivesKept own (d ∷ before) count posted
 receives_still own d before count posted h n k =
     let u = unmet own d before n in
@@ -174,7 +174,7 @@ waiting_heard own log arrived i e m =
     (subst (λ (xs : List _). Member (arrived_message i) xs) e (map-member arrived_message i arrived m))).0
 
 -- what was told of the messages that wait stays
-pub told_stays : (own : Own) (d : Deed) (before : List Deed) (arrived : List Inbound) (i : Inbound) → IsPlain own (d ∷ before)
+pub told_stays : (own : Own) (d : Deed) (before : List Deed) (arrived : List Inbound) (i : Inbound) → IsEager own (d ∷ before)
     → MessagesKept own before arrived → Member i arrived
     → (heads_by (d ∷ before) i.life i.no.0 ≡ heads_by before i.life i.no.0) × (bytes_by own.limits.first (d ∷ before) i.life i.no.0 ≡ bytes_by own.limits.first before i.life i.no.0)
 told_stays own d before arrived i h k m =
@@ -187,7 +187,7 @@ unfolding is_heard heard_head
 heard_more d before life n e = rw e (ap (λ (o : Option Head). is_some o) (or_else-none (heard_head before life n)))
 
 -- the messages stay where nothing is met
-pub messages_still : (own : Own) (d : Deed) (before : List Deed) (arrived : List Inbound) → IsPlain own (d ∷ before) → MeetsNothing d
+pub messages_still : (own : Own) (d : Deed) (before : List Deed) (arrived : List Inbound) → IsEager own (d ∷ before) → MeetsNothing d
     → MessagesKept own before arrived → MessagesKept own (d ∷ before) arrived
 unfolding run
 messages_still own d before arrived h n k =
@@ -209,7 +209,7 @@ held_heard own log peers arrived held i k m =
     some_of (heard_head log i.life i.no.0) (sym (k.heard_are i.life i.no.0) ∙ (rw here (or-true _)))
 
 -- what was told of the held messages stays
-pub held_stays : (own : Own) (d : Deed) (before : List Deed) (peers : List Peer) (arrived held : List Inbound) (i : Inbound) → IsPlain own (d ∷ before)
+pub held_stays : (own : Own) (d : Deed) (before : List Deed) (peers : List Peer) (arrived held : List Inbound) (i : Inbound) → IsEager own (d ∷ before)
     → HeldKept own before peers arrived held → Member i held
     → (heads_by (d ∷ before) i.life i.no.0 ≡ inbound_head i) × (bytes_by own.limits.first (d ∷ before) i.life i.no.0 ≡ i.bytes)
 held_stays own d before peers arrived held i h k m =
@@ -217,7 +217,7 @@ held_stays own d before peers arrived held i h k m =
     (head_stays d before i.life i.no.0 x.0 x.1 ∙ k.heads_are i m, bytes_stay own d before i.life i.no.0 x.0 h x.1 ∙ k.bytes_are i m)
 
 -- the held messages stay where nothing is met, and what is known of lives but for their numbers may change
-pub held_still_by : (own : Own) (d : Deed) (before : List Deed) (peers now : List Peer) (arrived held : List Inbound) → IsPlain own (d ∷ before) → MeetsNothing d
+pub held_still_by : (own : Own) (d : Deed) (before : List Deed) (peers now : List Peer) (arrived held : List Inbound) → IsEager own (d ∷ before) → MeetsNothing d
     → ((life : Life) → (peer_in now life).entered ≡ (peer_in peers life).entered) → HeldKept own before peers arrived held → HeldKept own (d ∷ before) now arrived held
 unfolding heard_names met_by_all
 held_still_by own d before peers now arrived held h n same k =
@@ -235,7 +235,7 @@ held_still_by own d before peers now arrived held h n same k =
     }
 
 -- the same where nothing that is known of lives changes
-pub held_still : (own : Own) (d : Deed) (before : List Deed) (peers : List Peer) (arrived held : List Inbound) → IsPlain own (d ∷ before) → MeetsNothing d
+pub held_still : (own : Own) (d : Deed) (before : List Deed) (peers : List Peer) (arrived held : List Inbound) → IsEager own (d ∷ before) → MeetsNothing d
     → HeldKept own before peers arrived held → HeldKept own (d ∷ before) peers arrived held
 held_still own d before peers arrived held h n k = held_still_by own d before peers peers arrived held h n (λ life. refl) k
 
@@ -247,7 +247,7 @@ greets_nobody own Pushed before n = elim n [ ]
 greets_nobody own _ before n = (λ rs. refl, refl)
 
 -- what is owed stays where nothing is taken or pushed
-pub owed_still : (own : Own) (d : Deed) (before : List Deed) (owed : List Life) → IsPlain own (d ∷ before) → GreetsNobody d → OwedKept own before owed → OwedKept own (d ∷ before) owed
+pub owed_still : (own : Own) (d : Deed) (before : List Deed) (owed : List Life) → IsEager own (d ∷ before) → GreetsNobody d → OwedKept own before owed → OwedKept own (d ∷ before) owed
 owed_still own d before owed h n k =
     let u = greets_nobody own d before n in
     k ∙ sym (replies_step own d before h ∙ ap (λ (rs : List Reply). replies_left d (own_progress own before).replies ++ rs) u.1
@@ -264,7 +264,7 @@ no_ends own (Did (Cancel recv)) before n = elim n [ ]
 no_ends own d before n = ap (map Filled) (no_pairs own d before n)
 
 -- the regions stay where nothing is met or registered
-pub regions_still : (own : Own) (d : Deed) (before : List Deed) (regions : List (List ℕ)) → IsPlain own (d ∷ before) → MeetsNothing d → region_by d ≡ []
+pub regions_still : (own : Own) (d : Deed) (before : List Deed) (regions : List (List ℕ)) → IsEager own (d ∷ before) → MeetsNothing d → region_by d ≡ []
     → RegionsKept own before regions → RegionsKept own (d ∷ before) regions
 unfolding after_ends
 regions_still own d before regions h n e k =
@@ -272,7 +272,7 @@ regions_still own d before regions h n e k =
     ∙ (let p = no_ends own d before n in rw (p, e) (append-nil (own_regions own before))))
 
 -- a deed that meets and sends nothing completes nothing
-pub none_completed : (own : Own) (d : Deed) (before : List Deed) → IsPlain own (d ∷ before) → MeetsNothing d → SendsNothing d
+pub none_completed : (own : Own) (d : Deed) (before : List Deed) → IsEager own (d ∷ before) → MeetsNothing d → SendsNothing d
     → own_completions own (d ∷ before) ≡ own_completions own before
 unfolding recv_completions
 none_completed own d before h n s =
@@ -281,7 +281,7 @@ none_completed own d before h n s =
     rw (p, q) (append-nil (own_completions own before)))
 
 -- the completions stay where nothing is met, pushed or polled
-pub completions_still : (own : Own) (d : Deed) (before : List Deed) (polled : ℕ) (completions : List Completion) → IsPlain own (d ∷ before) → MeetsNothing d → SendsNothing d
+pub completions_still : (own : Own) (d : Deed) (before : List Deed) (polled : ℕ) (completions : List Completion) → IsEager own (d ∷ before) → MeetsNothing d → SendsNothing d
     → is_poll d ≡ 0 → CompletionsKept own before polled completions → CompletionsKept own (d ∷ before) polled completions
 unfolding poll_count deed_count
 completions_still own d before polled completions h n s e k =

@@ -1,4 +1,4 @@
--- Of plain deeds: each message that was heard of came whole in one packet.
+-- Of eager deeds: each message that was heard of came whole in one packet.
 use Rattle.std.proofs.Common.{◌≡◌, ℕ, true, false, cond, List, [], ◌∷◌, length, Option, Some, None, refl, ◌⊎◌, inl, inr, ap, ◌∙◌, sym}
 use Rattle.std.specs.Prelude.{◌==◌, is_some}
 use Rattle.std.proofs.lemmas.Bool.{eqb-true}
@@ -17,7 +17,7 @@ use Rattle.rdm_model.specs.Owns.{Own, Heads}
 use Rattle.rdm_model.specs.Heard.{head_by, heard_head, is_heard}
 use Rattle.rdm_model.specs.Matches.{pairs}
 use Rattle.rdm_model.specs.Parts.{piece_by, carried_by, carried_pieces}
-use Rattle.rdm_ep.specs.Plain.{IsPlainDeed, IsPlain}
+use Rattle.rdm_ep.specs.Eager.{IsEagerDeed, IsEager}
 use Rattle.rdm_num.proofs.Lives.{same_life-true}
 
 -- bytes from the start of a message
@@ -46,8 +46,8 @@ unheard before from source k n s e h =
     let g : is_some (heard_head before source n) ≡ false = rw (← s, ← e) h in
     (elim (heard_head before source n) as (λ o. is_some o ≡ false → o ≡ None) [ None ↦ λ x. refl | Some x ↦ λ y. cc ]) g
 
--- a plain deed tells of a message or is silent of it
-pub tells_or_silent : (own : Own) (before : List Deed) (ps : List Pair) (source : Life) (n : ℕ) (d : Deed) → IsPlainDeed own before d
+-- an eager deed tells of a message or is silent of it
+pub tells_or_silent : (own : Own) (before : List Deed) (ps : List Pair) (source : Life) (n : ℕ) (d : Deed) → IsEagerDeed own before d
     → Tells own before ps source n d ⊎ IsSilent ps source n d
 unfolding head_by carried_by piece_by head_of shape_of size_of piece_of
 tells_or_silent own before ps source n (Took from (Spelled (Rtm number tag opt (Eager bytes)))) h =
@@ -81,7 +81,7 @@ pub record Came (own : Own) (heads : Heads) (log : List Deed) (source : Life) (n
   pub carried : carried_pieces own.limits.first heads log source n ≡ whole bytes ∷ []
 
 -- of what was not heard of nothing came
-pub unheard_nothing : (own : Own) (heads : Heads) (log : List Deed) (source : Life) (n : ℕ) → IsPlain own log → heard_head log source n ≡ None
+pub unheard_nothing : (own : Own) (heads : Heads) (log : List Deed) (source : Life) (n : ℕ) → IsEager own log → heard_head log source n ≡ None
     → carried_pieces own.limits.first heads log source n ≡ []
 unfolding heard_head carried_pieces or_else
 unheard_nothing own heads [] source n h is = refl
@@ -96,7 +96,7 @@ unheard_nothing own heads (d ∷ before) source n h is =
     ]
 
 -- what was heard of came whole
-pub heard_came : (own : Own) (heads : Heads) (log : List Deed) (source : Life) (n : ℕ) (head : Head) → IsPlain own log → heard_head log source n ≡ Some head
+pub heard_came : (own : Own) (heads : Heads) (log : List Deed) (source : Life) (n : ℕ) (head : Head) → IsEager own log → heard_head log source n ≡ Some head
     → Came own heads log source n head
 unfolding heard_head carried_pieces or_else
 heard_came own heads [] source n head h is = cc

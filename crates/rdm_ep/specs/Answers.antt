@@ -21,7 +21,7 @@ use Rattle.rdm_model.specs.Scenes.{Scene}
 use Rattle.rdm_model.specs.Classes.{class_of}
 use Rattle.rdm_model.specs.Takes.{handled_answer, is_again_early}
 use Rattle.rdm_model.specs.Local.{heard_by}
-use Rattle.rdm_ep.specs.Plain.{IsPlainItem}
+use Rattle.rdm_ep.specs.Eager.{IsEagerItem}
 use Rattle.rdm_ep.specs.declared.answer.SendAnswer.{SendAnswer}
 use Rattle.rdm_ep.specs.declared.answer.SendAnswer.TheVariants as SendA
 use Rattle.rdm_ep.specs.declared.answer.RecvAnswer.{RecvAnswer}
@@ -77,11 +77,11 @@ is_early HandleA.AgainEarly = true
 is_early _ = false
 
 -- what is built of what a datagram has in it
-abbrev pub IsPlainBody : Own → List Deed → Datagram → Body → Type 0
-IsPlainBody own log d (Note note) = Unit {0}
-IsPlainBody own log d (Between from to load) = IsPlainItem own log (life d.src from) (item_of load)
+abbrev pub IsEagerBody : Own → List Deed → Datagram → Body → Type 0
+IsEagerBody own log d (Note note) = Unit {0}
+IsEagerBody own log d (Between from to load) = IsEagerItem own log (life d.src from) (item_of load)
 
 -- the handling of a datagram in that scene answers that, or lets it stay where it is
-pub record HandlesAs (s : Scene) (d : Datagram) (answer : HandleAnswer) : Type 0 where
+pub record IsAnswerTo (s : Scene) (d : Datagram) (answer : HandleAnswer) : Type 0 where
   pub early : is_again_early class_of s d ≡ is_early answer
   pub handled : is_early answer ≡ false → handled_answer class_of s d ≡ handled_of answer

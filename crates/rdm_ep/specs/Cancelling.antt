@@ -14,12 +14,12 @@ unfoldable pub has_number : ℕ → Posted → Bool
 has_number n p = p.number.0 == n
 
 -- the receive of that number waits for its message
-unfoldable pub is_posted : EndpointView → ℕ → Bool
-is_posted v n = is_some (find (has_number n) v.posted)
+unfoldable pub waits_for_message : EndpointView → ℕ → Bool
+waits_for_message v n = is_some (find (has_number n) v.posted)
 
 -- what a cancel answers
 abbrev pub cancel_answer : EndpointView → RecvNo → CancelAnswer
-cancel_answer v recv = if is_posted v recv.0 then Did else NotPosted
+cancel_answer v recv = if waits_for_message v recv.0 then Did else NotPosted
 
 -- the receive waits no more, and completes as cancelled
 unfoldable pub after_cancel : EndpointView → RecvNo → EndpointView
@@ -27,4 +27,4 @@ after_cancel v recv = record v { posted = without_first (has_number recv.0) v.po
 
 -- a cancel of a receive that does not wait changes nothing
 abbrev pub cancelled : EndpointView → RecvNo → EndpointView
-cancelled v recv = if is_posted v recv.0 then after_cancel v recv else v
+cancelled v recv = if waits_for_message v recv.0 then after_cancel v recv else v

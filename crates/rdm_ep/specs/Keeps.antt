@@ -15,7 +15,7 @@ use Rattle.rdm_model.specs.Receives.{live_receives}
 use Rattle.rdm_model.specs.Regions.{regions}
 use Rattle.rdm_model.specs.Sends.{Sent, sends, sends_to, known_word}
 use Rattle.rdm_model.specs.Replies.{Reply, reply, is_from}
-use Rattle.rdm_model.specs.Turns.{progress, live_sends}
+use Rattle.rdm_model.specs.Dues.{progress, live_sends}
 use Rattle.rdm_model.specs.Completions.{completions, poll_count, heard_names}
 use Rattle.rdm_model.specs.Deeds.{Spelled}
 use Rattle.rdm_pkt.specs.declared.Packet.TheVariants.{Handshake}

@@ -11,7 +11,7 @@ pub mod Entering
 pub mod Handling
 pub mod Verdicts
 pub mod Going
--- What its lists are of the deeds of its life, where these are plain, and what its calls answer then, as a port tells it.
-pub mod Plain
+-- What its lists are of the deeds of its life, where these are eager, and what its calls answer then, as a port tells it.
+pub mod Eager
 pub mod Keeps
 pub mod Answers

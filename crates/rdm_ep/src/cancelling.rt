@@ -29,16 +29,16 @@ fn place_of(posted: &[Posted], recv: RecvNo) -> Option<usize>
 
 impl Endpoint {
     /// Whether a receive waits for its message.
-    #[tactic(auto, unfolding(crate::specs::Cancelling::is_posted))]
+    #[tactic(auto, unfolding(crate::specs::Cancelling::waits_for_message))]
     pub fn is_posted(&self, recv: RecvNo) -> bool
-        ensures { result ≡ Cancelling.is_posted self.now recv.0 }
+        ensures { result ≡ Cancelling.waits_for_message self.now recv.0 }
     {
         place_of(&self.posted, recv).is_some()
     }
 
     /// Takes a receive back that waits for its message. It completes as cancelled, and its range
     /// stays as it is.
-    #[tactic(auto, unfolding(crate::specs::Cancelling::is_posted))]
+    #[tactic(auto, unfolding(crate::specs::Cancelling::waits_for_message))]
     pub fn cancel(&mut self, recv: RecvNo) -> CancelAnswer
         ensures answer { result ≡ cancel_answer self.old recv }
         ensures after { self.new ≡ cancelled self.old recv }

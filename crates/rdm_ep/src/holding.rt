@@ -47,7 +47,7 @@ pub fn take_following(
 {
     let mut next = first;
     let most = held.len();
-    for _turn in 0..most {
+    for _due in 0..most {
         let Some(at) = place_of_held(held, from, next) else {
             return next;
         };

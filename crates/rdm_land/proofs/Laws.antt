@@ -15,7 +15,7 @@ use Rattle.rdm_land.specs.Laws.{LendLends, UnlendUndoesLend, LandIsUnlendAndPlac
 use Rattle.rdm_mr.proofs.Overlays.{by_lt, length-new}
 use Rattle.rdm_land.proofs.Order.{is_same, earlier_is_other}
 use Rattle.rdm_mr.proofs.Undone.{laid_over, laid_same, laid_nothing}
-use Rattle.rdm_land.proofs.Kept.{set_back}
+use Rattle.rdm_land.proofs.LandingViews.{set_back}
 
 -- a range that is put in and taken out again
 pub without-with_span : (s : Span) (spans : List Span) → s.start < s.end → without_span s (with_span s spans) ≡ spans

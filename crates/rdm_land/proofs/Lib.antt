@@ -9,7 +9,7 @@ mod Changed
 -- what is missing, at home and lent stays in agreement
 mod Agreed
 -- a landing as its calls have it
-mod Kept
+mod LandingViews
 -- what is missing or lent
 mod Waiting
 -- what lending a range and taking it back come to

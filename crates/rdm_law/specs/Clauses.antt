@@ -23,7 +23,7 @@ use Rattle.rdm_model.specs.Parts.{carried_by, carried_pieces}
 use Rattle.rdm_model.specs.Receives.{recv_ends}
 use Rattle.rdm_model.specs.Regions.{regions}
 use Rattle.rdm_model.specs.Sends.{known_word, sends}
-use Rattle.rdm_model.specs.Turns.{progress, turn}
+use Rattle.rdm_model.specs.Dues.{progress, due}
 use Rattle.rdm_model.specs.Completions.{completions, poll_count, tx_count, rx_count, cq_count}
 use Rattle.rdm_model.specs.Scenes.{Scene}
 use Rattle.rdm_model.specs.Settled.{left_at}
@@ -87,7 +87,7 @@ DropsChangeNothing =
 -- what a life owes, and what goes out of it next, is as it was
 pub record OwesAs (own : Own) (ms : Messages) (after before : List Deed) : Type 0 where
   pub replies_are : (progress own ms after).replies ≡ (progress own ms before).replies
-  pub next_is : turn own ms after ≡ turn own ms before
+  pub next_is : due own ms after ≡ due own ms before
 
 -- In a lawful history of a fair job a dropped datagram makes no life owe anything, and takes away nothing of what a life owes.
 abbrev pub DropsOweNothing : Type 0

@@ -3,7 +3,7 @@ use Rattle.std.proofs.Common.{◌≡◌, ℕ, suc, ◌+◌, ◌<◌, Bool, true,
 use Rattle.std.proofs.lemmas.Option.{slice_get-get_or}
 use Rattle.std.specs.Prelude.{find, slice_get, remove}
 use Rattle.std.specs.List.{position_from}
-use Rattle.rdm_num.specs.Lists.{without_first}
+use Rattle.rdm_lists.specs.Lists.{without_first}
 
 -- the element at the place is the first one that passes
 pub record IsFirst {A : Type 0} (p : A → Bool) (xs : List A) (at : ℕ) : Type 0 where

@@ -1,7 +1,7 @@
 //! The plain matcher: two lists, of receives and of messages that wait for each other.
 ghost use Rattle.std.specs.Prelude.{◌≡◌, false, not, find, filter, option_map, IfNone, IfOk, OnOk, OnErr};
 ghost use Rattle.std.specs.List.{position_from};
-ghost use Rattle.rdm_num.specs.Lists.{without_first};
+ghost use Rattle.rdm_lists.specs.Lists.{without_first};
 ghost use Rattle.rdm_num.specs.Lives.{same_life, is_life};
 ghost use Rattle.rdm_match.specs.Matcher as Plain;
 ghost use Rattle.rdm_match.specs.Waiting.{nothing_waits, waiting_after, taken_by, taker_of, is_posted, messages_of, receives_naming, CallsAreThePlainMatcher};

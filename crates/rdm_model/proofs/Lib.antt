@@ -7,7 +7,7 @@ pub mod SameMatches
 pub mod SameReceives
 pub mod SameRegions
 pub mod SameReplies
-pub mod SameTurns
+pub mod SameDues
 pub mod SameCompletions
 pub mod SameAnswers
 pub mod SameNamed
@@ -18,7 +18,7 @@ pub mod Grows
 pub mod Cuts
 pub mod Rows
 pub mod Opens
-pub mod Turns
+pub mod Dues
 pub mod Pushes
 pub mod Served
 pub mod Sending

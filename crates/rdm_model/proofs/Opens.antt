@@ -13,7 +13,7 @@ use Rattle.rdm_pkt.specs.declared.Kind.{Kind}
 use Rattle.rdm_pkt.specs.declared.Kind.TheVariants.{Eager, Medium, LongCts, LongRead, Runt}
 use Rattle.rdm_pkt.specs.Heads.{shape_of, size_of, head_of, piece_of}
 use Rattle.rdm_pkt.specs.Openings.{Message, medium_form, runt_form, long_cts_form, no_bytes, rtm, room_in, openings, shape_by, message_head}
-use Rattle.rdm_model.specs.Turns.{packet_piece, pieces_in}
+use Rattle.rdm_model.specs.Dues.{packet_piece, pieces_in}
 use Rattle.rdm_model.proofs.Cuts.{InRow, rest_part, front_part, pieces_in_row, pieces_bytes, pieces_some, row_of_front}
 use Rattle.rdm_lists.proofs.Members.{member-map}
 

@@ -8,9 +8,9 @@ use Rattle.rdm_model.specs.Deeds.{Deed, Pushed}
 use Rattle.rdm_model.specs.Owns.{Own, Messages}
 use Rattle.rdm_model.specs.Sends.{Sent, sent_by, with_sent, sends}
 use Rattle.rdm_model.specs.Grants.{grants}
-use Rattle.rdm_model.specs.Turns.{Turn, Replies, Sends, next_packet, after_turn, after_push, after_deed, progress, turn}
+use Rattle.rdm_model.specs.Dues.{Due, Replies, Sends, next_packet, after_due, after_push, after_deed, progress, due}
 use Rattle.rdm_model.proofs.Numbers.{sends_step, sends_one, send_below, new_number}
-use Rattle.rdm_model.proofs.Turns.{SendTurn, turn_cases, Underway, next_is, next_underway, none_underway}
+use Rattle.rdm_model.proofs.Dues.{SendDue, due_cases, Underway, next_is, next_underway, none_underway}
 use Rattle.rdm_lists.proofs.Members.{member-append_left, member-append_cases}
 
 -- the packets of the send of that number that were pushed
@@ -20,9 +20,9 @@ pushed_of own ms log n = (progress own ms log).packets n
 -- a deed that pushes a packet of a send
 pub record PushesOf (own : Own) (ms : Messages) (d : Deed) (before : List Deed) : Type 0 where
   pub by : d ≡ Pushed
-  pub served : Turn
-  pub now : turn own ms before ≡ Some served
-  pub of : SendTurn own before (pushed_of own ms before) (sends own ms before) served
+  pub served : Due
+  pub now : due own ms before ≡ Some served
+  pub of : SendDue own before (pushed_of own ms before) (sends own ms before) served
 
 -- a send that was made stays made
 pub member_later : (own : Own) (ms : Messages) (d : Deed) (before : List Deed) (s : Sent) → Member s (sends own ms before) → Member s (sends own ms (d ∷ before))
@@ -37,23 +37,23 @@ sends_rise own ms d before =
       | inr a ↦ (let e = ap length a.2 in let l = length-append (sends own ms before) (a.0 ∷ []) in omega arith)
     ]
 
--- one packet more, for the send that had the turn
-packets_by : (own : Own) (ms : Messages) (before : List Deed) (n : ℕ) (s : Sent) (packet : Packet) → turn own ms before ≡ Some (Sends s packet)
+-- one packet more, for the send that was due
+packets_by : (own : Own) (ms : Messages) (before : List Deed) (n : ℕ) (s : Sent) (packet : Packet) → due own ms before ≡ Some (Sends s packet)
     → (t : PushesOf own ms Pushed before) × (t.of.sent ≡ s) × (t.of.packet ≡ packet)
 packets_by own ms before n s packet e =
-    elim (turn_cases own ms before (Sends s packet) e) [
+    elim (due_cases own ms before (Sends s packet) e) [
       | inl a ↦ (let x = a.2 in cc)
       | inr a ↦ (record { by = refl; served = Sends s packet; now = e; of = a.1 }, (let x = a.1.is in cc), (let x = a.1.is in cc))
     ]
 
--- what a turn adds to the packets of a send
-turn_step : (own : Own) (ms : Messages) (before : List Deed) (n : ℕ) (o : Option Turn) → turn own ms before ≡ o
-    → ((after_turn o (progress own ms before)).packets n ≡ pushed_of own ms before n)
-    ⊎ ((t : PushesOf own ms Pushed before) × (t.of.sent.number ≡ n) × ((after_turn o (progress own ms before)).packets n ≡ pushed_of own ms before n ++ t.of.packet ∷ []))
-unfolding after_turn
-turn_step own ms before n None e = inl refl
-turn_step own ms before n (Some (Replies r)) e = inl refl
-turn_step own ms before n (Some (Sends s packet)) e =
+-- what a due item adds to the packets of a send
+due_step : (own : Own) (ms : Messages) (before : List Deed) (n : ℕ) (o : Option Due) → due own ms before ≡ o
+    → ((after_due o (progress own ms before)).packets n ≡ pushed_of own ms before n)
+    ⊎ ((t : PushesOf own ms Pushed before) × (t.of.sent.number ≡ n) × ((after_due o (progress own ms before)).packets n ≡ pushed_of own ms before n ++ t.of.packet ∷ []))
+unfolding after_due
+due_step own ms before n None e = inl refl
+due_step own ms before n (Some (Replies r)) e = inl refl
+due_step own ms before n (Some (Sends s packet)) e =
     let by = packets_by own ms before n s packet e in
     elim (cases_eq n s.number) [
       | inl a ↦ inr (
@@ -68,17 +68,17 @@ turn_step own ms before n (Some (Sends s packet)) e =
 pub pushed_step : (own : Own) (ms : Messages) (d : Deed) (before : List Deed) (n : ℕ)
     → (pushed_of own ms (d ∷ before) n ≡ pushed_of own ms before n)
     ⊎ ((t : PushesOf own ms d before) × (t.of.sent.number ≡ n) × (pushed_of own ms (d ∷ before) n ≡ pushed_of own ms before n ++ t.of.packet ∷ []))
-unfolding progress after_deed after_push turn
-pushed_step own ms Pushed before n = turn_step own ms before n (turn own ms before) refl
+unfolding progress after_deed after_push due
+pushed_step own ms Pushed before n = due_step own ms before n (due own ms before) refl
 pushed_step own ms _ before n = inl refl
 
 -- the packet of a push stands after those before it
 pub pushed_here : (own : Own) (ms : Messages) (before : List Deed) (t : PushesOf own ms Pushed before)
     → pushed_of own ms (Pushed ∷ before) t.of.sent.number ≡ pushed_of own ms before t.of.sent.number ++ t.of.packet ∷ []
-unfolding progress after_deed after_push turn after_turn
+unfolding progress after_deed after_push due after_due
 pushed_here own ms before t =
-    let now : turn own ms before ≡ Some (Sends t.of.sent t.of.packet) = t.now ∙ ap Some t.of.is in
-    ap (λ (o : Option Turn). (after_turn o (progress own ms before)).packets t.of.sent.number) now
+    let now : due own ms before ≡ Some (Sends t.of.sent t.of.packet) = t.now ∙ ap Some t.of.is in
+    ap (λ (o : Option Due). (after_due o (progress own ms before)).packets t.of.sent.number) now
     ∙ ap (λ (b : Bool). pushed_of own ms before t.of.sent.number ++ cond b (t.of.packet ∷ []) []) (eq-eqb t.of.sent.number t.of.sent.number refl)
 
 -- nothing was pushed of a send that was not made

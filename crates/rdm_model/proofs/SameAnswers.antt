@@ -15,13 +15,13 @@ use Rattle.rdm_model.specs.Deeds.{Item, Spelled, item_of}
 use Rattle.rdm_model.specs.Owns.{Messages}
 use Rattle.rdm_model.specs.Currents.{current}
 use Rattle.rdm_model.specs.Scenes.{Scene}
-use Rattle.rdm_model.specs.Answers.{regions_of, has_no_region, is_out_of_range, meets_receive, meets_send, has_no_number, next_number, cq_is_full, send_answer, names_nobody, recv_answer, is_posted, answer_of}
+use Rattle.rdm_model.specs.Answers.{regions_of, has_no_region, is_out_of_range, meets_receive, meets_send, has_no_number, next_number, cq_is_full, send_answer, names_nobody, recv_answer, is_unmatched, answer_of}
 use Rattle.rdm_model.specs.Going.{life_going, going}
 use Rattle.rdm_model.specs.Takes.{is_met, needs_place, body_needs_place}
 use Rattle.rdm_model.proofs.SameMatches.{matching_same}
 use Rattle.rdm_model.proofs.SameReceives.{live_receives_same}
 use Rattle.rdm_model.proofs.SameRegions.{Agree, regions_same, sends_same}
-use Rattle.rdm_model.proofs.SameTurns.{turn_same, live_sends_same}
+use Rattle.rdm_model.proofs.SameDues.{due_same, live_sends_same}
 use Rattle.rdm_model.proofs.SameCompletions.{tx_count_same, rx_count_same, cq_count_same}
 
 -- the scene by another account
@@ -108,8 +108,8 @@ recv_answer_same s ns req a =
     rw (region, range, receives', sends', rx, cq, nobody) refl
 
 -- a receive is posted by both or by neither
-is_posted_same : (s : Scene) (ns : Messages) (recv : ℕ) → AgreesIn s ns → is_posted s recv ≡ is_posted (by_account s ns) recv
-unfolding is_posted
+is_posted_same : (s : Scene) (ns : Messages) (recv : ℕ) → AgreesIn s ns → is_unmatched s recv ≡ is_unmatched (by_account s ns) recv
+unfolding is_unmatched
 is_posted_same s ns recv a = let m = matching_same s.own.limits.first s.ms.head ns.head s.log a.heads in rw m refl
 
 -- each instruction has the same answer
@@ -130,7 +130,7 @@ answer_same s ns CloseLife a = refl
 life_going_same : (s : Scene) (ns : Messages) (now : Option Connid) → AgreesIn s ns → life_going now s ≡ life_going now (by_account s ns)
 unfolding life_going
 life_going_same s ns None a = refl
-life_going_same s ns (Some connid) a = let t = turn_same s.own s.ms ns s.log a in rw t refl
+life_going_same s ns (Some connid) a = let t = due_same s.own s.ms ns s.log a in rw t refl
 
 -- the same goes out next
 pub going_same : (s : Scene) (ns : Messages) → AgreesIn s ns → going s ≡ going (by_account s ns)

@@ -20,7 +20,7 @@ use Rattle.rdm_model.specs.Classes.{is_received, passes_grants, allowed_bytes, i
 use Rattle.rdm_model.proofs.SameMatches.{carried_pieces_same}
 use Rattle.rdm_model.proofs.SameReceives.{recv_ends_same, and_where}
 use Rattle.rdm_model.proofs.SameReplies.{granted_bytes_same}
-use Rattle.rdm_model.proofs.SameTurns.{progress_same}
+use Rattle.rdm_model.proofs.SameDues.{progress_same}
 use Rattle.rdm_model.proofs.SameAnswers.{by_account, AgreesIn}
 use Rattle.rdm_model.proofs.SameNamed.{live_send_same, live_pair_same, live_pair_head, bad_key_same, no_op_same}
 use Rattle.rdm_lists.proofs.Options.{some_of}

@@ -8,12 +8,12 @@ use Rattle.rdm_model.specs.Owns.{Own, Messages, Heads}
 use Rattle.rdm_model.specs.Matches.{Receive, receives}
 use Rattle.rdm_model.specs.Receives.{RecvEnd, Filled, Withdrawn, Gone, ended_recv, recv_ends_by, recv_ends, receive_numbered}
 use Rattle.rdm_model.specs.Regions.{kept_bytes}
-use Rattle.rdm_model.specs.Turns.{Progress, progress, after_push}
+use Rattle.rdm_model.specs.Dues.{Progress, progress, after_push}
 use Rattle.rdm_model.specs.Completions.{took_outcome, outcome, recv_completion, recv_completions, ended_sends, completions_by, completions, tx_count, rx_count, early_count, cq_count}
 use Rattle.rdm_model.proofs.SameMatches.{HeadsAgree, pairs_same}
 use Rattle.rdm_model.proofs.SameReceives.{recv_ends_by_same, recv_ends_same, live_receives_same}
 use Rattle.rdm_model.proofs.SameRegions.{Agree, AgreeEnd, agree_before, ends_agree, sends_same}
-use Rattle.rdm_model.proofs.SameTurns.{after_push_same, after_deed_same, progress_same, live_sends_same}
+use Rattle.rdm_model.proofs.SameDues.{after_push_same, after_deed_same, progress_same, live_sends_same}
 use Rattle.rdm_lists.proofs.Same.{map_same}
 
 -- a receive has the same outcome

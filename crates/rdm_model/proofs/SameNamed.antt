@@ -18,7 +18,7 @@ use Rattle.rdm_model.specs.Named.{live_send, live_pair, is_good_ask, is_bad_key,
 use Rattle.rdm_model.proofs.Matches.{pair_heard}
 use Rattle.rdm_model.proofs.SameMatches.{pairs_same}
 use Rattle.rdm_model.proofs.SameReceives.{recv_ends_same}
-use Rattle.rdm_model.proofs.SameTurns.{live_sends_same}
+use Rattle.rdm_model.proofs.SameDues.{live_sends_same}
 use Rattle.rdm_model.proofs.SameAnswers.{by_account, AgreesIn}
 use Rattle.rdm_lists.proofs.Members.{find_member}
 

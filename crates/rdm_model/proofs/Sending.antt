@@ -24,11 +24,11 @@ use Rattle.rdm_model.specs.Deeds.{Deed, Took, Spelled}
 use Rattle.rdm_model.specs.Owns.{Own, Messages}
 use Rattle.rdm_model.specs.Sends.{Sent, sends}
 use Rattle.rdm_model.specs.Grants.{Grant, grants_by, grants, grant_bytes, data_room}
-use Rattle.rdm_model.specs.Turns.{Sends, pieces_in}
+use Rattle.rdm_model.specs.Dues.{Sends, pieces_in}
 use Rattle.rdm_model.proofs.Opens.{opening_is}
-use Rattle.rdm_model.proofs.Turns.{IsData, AllData, GrantedNext, next_is}
+use Rattle.rdm_model.proofs.Dues.{IsData, AllData, GrantedNext, next_is}
 use Rattle.rdm_model.proofs.Pushes.{pushed_of, underway}
-use Rattle.rdm_model.proofs.Served.{PushedAt, next_send_turn, ServedAt, served_at, served_stands, served_once, push_member}
+use Rattle.rdm_model.proofs.Served.{PushedAt, next_send_due, ServedAt, served_at, served_stands, served_once, push_member}
 use Rattle.rdm_lists.proofs.Members.{member-append_cases}
 use Rattle.rdm_lists.proofs.Places.{slice_get-member}
 use Rattle.rdm_num.proofs.Lives.{same_life-true}
@@ -129,7 +129,7 @@ pub push_is : (own : Own) (ms : Messages) (s : Sent) (p : Packet) (k : ℕ) (log
     → Member p (openings own.limits s.message s.kind) ⊎ DataPush own log s p
 push_is own ms s p k [] h = elim h [ ]
 push_is own ms s p k (d ∷ before) (inl a) =
-    let n = next_send_turn own ms before s p a.1 in
+    let n = next_send_due own ms before s p a.1 in
     elim (next_is own before s (pushed_of own ms before s.number) p (underway own ms before s n.member) n.next) [
       | inl b ↦ inl (subst (λ (xs : List Packet). Member p xs) (sym b.1) (member_seam (pushed_of own ms before s.number) p b.0))
       | inr b ↦ inr (data_later own d before s p (data_now own before s (pushed_of own ms before s.number) p b.3))

@@ -10,18 +10,18 @@ use Rattle.rdm_model.specs.Deeds.{Deed, Pushed}
 use Rattle.rdm_model.specs.Owns.{Own, Messages}
 use Rattle.rdm_model.specs.Sends.{Sent, sends}
 use Rattle.rdm_model.specs.Grants.{grants}
-use Rattle.rdm_model.specs.Turns.{Turn, Sends, packet_piece, pieces_in, is_over, next_packet, progress, turn}
+use Rattle.rdm_model.specs.Dues.{Due, Sends, packet_piece, pieces_in, is_over, next_packet, progress, due}
 use Rattle.rdm_model.proofs.Cuts.{Part, piece_bytes-append, single_bytes}
 use Rattle.rdm_model.proofs.Rows.{apart, apart_after}
 use Rattle.rdm_model.proofs.Opens.{pieces_in-append, pieces_in_one}
-use Rattle.rdm_model.proofs.Turns.{turn_cases, next_is, next_piece}
+use Rattle.rdm_model.proofs.Dues.{due_cases, next_is, next_piece}
 use Rattle.rdm_model.proofs.Pushes.{pushed_of, PushesOf, pushed_step, pushed_here, member_later, underway}
 use Rattle.rdm_lists.proofs.Places.{slice_get-append, slice_get_seam}
 
--- that turn was pushed, after so many deeds, by an account of the messages
-abbrev pub PushedAt : Own → Messages → Turn → ℕ → List Deed → Type 0
+-- that due item was pushed, after so many deeds, by an account of the messages
+abbrev pub PushedAt : Own → Messages → Due → ℕ → List Deed → Type 0
 PushedAt own ms t k [] = ⊥
-PushedAt own ms t k (d ∷ before) = ((d ≡ Pushed) × (turn own ms before ≡ Some t) × (k ≡ length before)) ⊎ PushedAt own ms t k before
+PushedAt own ms t k (d ∷ before) = ((d ≡ Pushed) × (due own ms before ≡ Some t) × (k ≡ length before)) ⊎ PushedAt own ms t k before
 
 -- a packet of a live send is next
 pub record NextSend (own : Own) (ms : Messages) (log : List Deed) (s : Sent) (p : Packet) : Type 0 where
@@ -30,10 +30,10 @@ pub record NextSend (own : Own) (ms : Messages) (log : List Deed) (s : Sent) (p 
   pub next : next_packet own log s (pushed_of own ms log s.number) ≡ Some p
   pub no_reply : slice_get (progress own ms log).replies 0 ≡ None
 
--- a turn that is a packet of a send
-pub next_send_turn : (own : Own) (ms : Messages) (log : List Deed) (s : Sent) (p : Packet) → turn own ms log ≡ Some (Sends s p) → NextSend own ms log s p
-next_send_turn own ms log s p h =
-    elim (turn_cases own ms log (Sends s p) h) [
+-- a due item that is a packet of a send
+pub next_send_due : (own : Own) (ms : Messages) (log : List Deed) (s : Sent) (p : Packet) → due own ms log ≡ Some (Sends s p) → NextSend own ms log s p
+next_send_due own ms log s p h =
+    elim (due_cases own ms log (Sends s p) h) [
       | inl a ↦ (let x = a.2 in cc)
       | inr a ↦ (
           let is = a.1.is in
@@ -48,10 +48,10 @@ next_send_turn own ms log s p h =
     ]
 
 -- after a push of a send, its packet stands last
-pub pushed_last : (own : Own) (ms : Messages) (before : List Deed) (s : Sent) (p : Packet) → turn own ms before ≡ Some (Sends s p)
+pub pushed_last : (own : Own) (ms : Messages) (before : List Deed) (s : Sent) (p : Packet) → due own ms before ≡ Some (Sends s p)
     → pushed_of own ms (Pushed ∷ before) s.number ≡ pushed_of own ms before s.number ++ p ∷ []
 pushed_last own ms before s p h =
-    elim (turn_cases own ms before (Sends s p) h) [
+    elim (due_cases own ms before (Sends s p) h) [
       | inl a ↦ (let x = a.2 in cc)
       | inr a ↦ (
           let is = a.1.is in
@@ -73,11 +73,11 @@ pushed_longer own ms d before n =
 -- a send whose packet was pushed was made
 pub push_member : (own : Own) (ms : Messages) (s : Sent) (p : Packet) (k : ℕ) (log : List Deed) → PushedAt own ms (Sends s p) k log → Member s (sends own ms log)
 push_member own ms s p k [] h = elim h [ ]
-push_member own ms s p k (d ∷ before) (inl a) = member_later own ms d before s (next_send_turn own ms before s p a.1).member
+push_member own ms s p k (d ∷ before) (inl a) = member_later own ms d before s (next_send_due own ms before s p a.1).member
 push_member own ms s p k (d ∷ before) (inr a) = member_later own ms d before s (push_member own ms s p k before a)
 
 -- the place of a push is below the count of deeds
-pub push_before : (own : Own) (ms : Messages) (t : Turn) (k : ℕ) (log : List Deed) → PushedAt own ms t k log → k < length log
+pub push_before : (own : Own) (ms : Messages) (t : Due) (k : ℕ) (log : List Deed) → PushedAt own ms t k log → k < length log
 push_before own ms t k [] h = elim h [ ]
 push_before own ms t k (d ∷ before) (inl a) = let e = a.2 in omega arith
 push_before own ms t k (d ∷ before) (inr a) = let l = push_before own ms t k before a in omega arith
@@ -86,7 +86,7 @@ push_before own ms t k (d ∷ before) (inr a) = let l = push_before own ms t k b
 abbrev pub ServedAt : Own → Messages → Sent → Packet → ℕ → ℕ → List Deed → Type 0
 ServedAt own ms s p i k [] = ⊥
 ServedAt own ms s p i k (d ∷ before) =
-    ((d ≡ Pushed) × (turn own ms before ≡ Some (Sends s p)) × (k ≡ length before) × (i ≡ length (pushed_of own ms before s.number))) ⊎ ServedAt own ms s p i k before
+    ((d ≡ Pushed) × (due own ms before ≡ Some (Sends s p)) × (k ≡ length before) × (i ≡ length (pushed_of own ms before s.number))) ⊎ ServedAt own ms s p i k before
 
 -- each push of a send has a place among its packets
 pub served_at : (own : Own) (ms : Messages) (s : Sent) (p : Packet) (k : ℕ) (log : List Deed) → PushedAt own ms (Sends s p) k log → (i : ℕ) × ServedAt own ms s p i k log
@@ -129,7 +129,7 @@ served_once own ms s t p q i k l (d ∷ before) e (inr a) (inr b) = served_once 
 pub push_part : (own : Own) (ms : Messages) (s : Sent) (p : Packet) (x : Piece) (k : ℕ) (log : List Deed) → PushedAt own ms (Sends s p) k log → packet_piece p ≡ Some x → Part x s.message.bytes
 push_part own ms s p x k [] h c = elim h [ ]
 push_part own ms s p x k (d ∷ before) (inl a) c =
-    let n = next_send_turn own ms before s p a.1 in
+    let n = next_send_due own ms before s p a.1 in
     let u = underway own ms before s n.member in
     (next_piece own (grants before s.to s.number) s (pushed_of own ms before s.number) p x u (next_is own before s (pushed_of own ms before s.number) p u n.next) c).1
 push_part own ms s p x k (d ∷ before) (inr a) c = push_part own ms s p x k before a c
@@ -151,7 +151,7 @@ pub push_done : (own : Own) (ms : Messages) (s : Sent) (p : Packet) (x : Piece) 
     → x.offset + length x.bytes ≤ done_bytes own ms log s.number
 push_done own ms s p x k [] h c = elim h [ ]
 push_done own ms s p x k (d ∷ before) (inl a) c =
-    let n = next_send_turn own ms before s p a.1 in
+    let n = next_send_due own ms before s p a.1 in
     let u = underway own ms before s n.member in
     let o = (next_piece own (grants before s.to s.number) s (pushed_of own ms before s.number) p x u (next_is own before s (pushed_of own ms before s.number) p u n.next) c).0 in
     let last : pushed_of own ms (d ∷ before) s.number ≡ pushed_of own ms before s.number ++ p ∷ [] = subst (λ (y : Deed). pushed_of own ms (y ∷ before) s.number ≡ pushed_of own ms before s.number ++ p ∷ []) (sym a.0) (pushed_last own ms before s p a.1) in
@@ -166,10 +166,10 @@ push_done own ms s p x k (d ∷ before) (inr a) c =
     omega arith
 
 -- the newest push of a send begins where the others end
-push_from : (own : Own) (ms : Messages) (before : List Deed) (s : Sent) (p : Packet) (x : Piece) → turn own ms before ≡ Some (Sends s p) → packet_piece p ≡ Some x
+push_from : (own : Own) (ms : Messages) (before : List Deed) (s : Sent) (p : Packet) (x : Piece) → due own ms before ≡ Some (Sends s p) → packet_piece p ≡ Some x
     → x.offset ≡ done_bytes own ms before s.number
 push_from own ms before s p x h c =
-    let n = next_send_turn own ms before s p h in
+    let n = next_send_due own ms before s p h in
     let u = underway own ms before s n.member in
     (next_piece own (grants before s.to s.number) s (pushed_of own ms before s.number) p x u (next_is own before s (pushed_of own ms before s.number) p u n.next) c).0
 

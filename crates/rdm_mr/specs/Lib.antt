@@ -13,6 +13,6 @@ pub mod Tiles
 -- those parts in order
 pub mod Ordered
 -- what is true of the fields of a home
-pub mod Kept
+pub mod SoundHome
 -- what taking a part out and putting it back come to
 pub mod Homing

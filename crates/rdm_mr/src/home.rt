@@ -27,7 +27,7 @@ impl Model for Home {
 
     ghost use Rattle.std.specs.Prelude.{◌+◌};
     ghost use Rattle.rdm_mr.specs.Ordered.{cells_of};
-    ghost use Rattle.rdm_mr.specs.Kept.{IsHome};
+    ghost use Rattle.rdm_mr.specs.SoundHome.{IsHome};
 
     ghost view = { λ h. record { block = h.anchor.block; whole = h.anchor.whole; start = h.anchor.start; cells = cells_of h.anchor.start (h.anchor.start + h.size) h.parts.items; out = h.out } };
 

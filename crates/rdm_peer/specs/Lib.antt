@@ -1,3 +1,3 @@
 -- What is known of a life and owed to it.
 pub mod Account
-pub mod Kept
+pub mod PeerNumbers

@@ -25,7 +25,7 @@ pub struct Peer {
 
 impl Model for Peer {
     ghost use Rattle.rdm_peer.specs.Account.{Account};
-    ghost use Rattle.rdm_peer.specs.Kept.{number_or_end};
+    ghost use Rattle.rdm_peer.specs.PeerNumbers.{number_or_end};
 
     ghost Value = { Account };
 

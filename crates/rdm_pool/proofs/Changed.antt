@@ -6,7 +6,7 @@ use Rattle.slab.specs.Slab.{Slab, get, Updates}
 use Rattle.rdm_pool.specs.Numbered.{value_at, without, with_value}
 use Rattle.rdm_pool.specs.Places.{IsFree, AreHeld, listed}
 use Rattle.rdm_pool.proofs.Entries.{without_first, without_after}
-use Rattle.rdm_pool.proofs.Kept.{some_of, listed-held, listed-elsewhere, held-elsewhere, vacant_free, listed-last, held-last}
+use Rattle.rdm_pool.proofs.SlabKeys.{some_of, listed-held, listed-elsewhere, held-elsewhere, vacant_free, listed-last, held-last}
 
 -- a free key stays free without a number
 free-without : (pairs : List (ℕ × ℕ)) (key number : ℕ) → IsFree pairs key → IsFree (without pairs number) key

@@ -1,7 +1,7 @@
 mod Entries
 mod Search
 mod Live
-mod Kept
+mod SlabKeys
 mod Changed
 mod Seen
 mod Law

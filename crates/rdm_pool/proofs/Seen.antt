@@ -10,7 +10,7 @@ use Rattle.rdm_pool.specs.Numbered.{value_at, without, is_full, found, after_put
 use Rattle.rdm_pool.specs.declared.Pool.TheInside.{Inside}
 use Rattle.rdm_pool.specs.Places.{live, listed, seen, IsKept}
 use Rattle.rdm_pool.proofs.Entries.{without-absent}
-use Rattle.rdm_pool.proofs.Kept.{some_of, length-listed, value_under, found_at}
+use Rattle.rdm_pool.proofs.SlabKeys.{some_of, length-listed, value_under, found_at}
 use Rattle.rdm_pool.proofs.Changed.{listed-take, held-written, listed-written}
 
 module _ {T : Type 0} where

@@ -12,7 +12,7 @@ use Rattle.rdm_model.specs.declared.job.Instr.TheVariants.{OpenLife, CloseLife}
 use Rattle.rdm_model.specs.Deeds.{Deed, Did, open_after, open_life, is_connid, of_life}
 use Rattle.rdm_model.specs.Notes.{opens}
 use Rattle.rdm_model.specs.Owns.{Own}
-use Rattle.rdm_ep.specs.Plain.{FitsOnePacket, IsPlain}
+use Rattle.rdm_ep.specs.Eager.{FitsOnePacket, IsEager}
 use Rattle.rdm_port.specs.Views.{PortView}
 use Rattle.rdm_port.specs.Kept.{own_at}
 use Rattle.rdm_port.specs.Machine.{header_size, has_room}
@@ -30,14 +30,14 @@ pub that_is_open : (connid : Connid) → is_connid (Some connid) connid ≡ true
 unfolding is_connid
 that_is_open connid = eq-eqb connid.0 connid.0 refl
 
--- built deeds are plain ones of each life
-pub plain_of : (own : Connid → Own) (connid : Connid) (log : List Deed) → AreBuilt own log → IsPlain (own connid) (of_life connid log)
+-- built deeds are eager ones of each life
+pub eager_of : (own : Connid → Own) (connid : Connid) (log : List Deed) → AreBuilt own log → IsEager (own connid) (of_life connid log)
 unfolding of_life
-plain_of own connid [] h = tt
-plain_of own connid (d ∷ before) h =
-    (elim (is_connid (open_life before) connid) as (λ b. is_connid (open_life before) connid ≡ b → IsPlain (own connid) (cond b (d ∷ of_life connid before) (of_life connid before))) [
-      | true ↦ λ e. (plain_of own connid before h.0, subst (λ (o : Option Connid). IsBuiltDeed own o before d) (open_is_that (open_life before) connid e) h.1)
-      | false ↦ λ e. plain_of own connid before h.0
+eager_of own connid [] h = tt
+eager_of own connid (d ∷ before) h =
+    (elim (is_connid (open_life before) connid) as (λ b. is_connid (open_life before) connid ≡ b → IsEager (own connid) (cond b (d ∷ of_life connid before) (of_life connid before))) [
+      | true ↦ λ e. (eager_of own connid before h.0, subst (λ (o : Option Connid). IsBuiltDeed own o before d) (open_is_that (open_life before) connid e) h.1)
+      | false ↦ λ e. eager_of own connid before h.0
     ]) refl
 
 -- a deed that does not open the life leaves it closed

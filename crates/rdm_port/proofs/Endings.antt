@@ -76,8 +76,8 @@ machine_on v k (Send req) =
     (λ e. either_on (has_room v req) (next_of_send (Ep.send_answer e req)) Memory (send_on (Ep.send_answer e req)) (λ h. cc))
 machine_on v k (Recv req) = endpoint_on k.endpoint (λ e. next_of_recv (Er.recv_answer e req)) (λ e. recv_on (Er.recv_answer e req))
 machine_on v k (Cancel recv) =
-    endpoint_on k.endpoint (λ e. cond (Ec.is_posted e recv.0) (Did Plain) (Refused NotPosted))
-    (λ e. either_on (Ec.is_posted e recv.0) (Did Plain) (Refused NotPosted) (λ h. cc) (λ h. cc))
+    endpoint_on k.endpoint (λ e. cond (Ec.waits_for_message e recv.0) (Did Plain) (Refused NotPosted))
+    (λ e. either_on (Ec.waits_for_message e recv.0) (Did Plain) (Refused NotPosted) (λ h. cc) (λ h. cc))
 machine_on v k (Note to what) = λ h. cc
 machine_on v k (Await from what) = either_on (is_told k.told from.0 what) (Did Plain) (NotYet Yet.Await) (λ h. cc) (λ h. cc)
 machine_on v k (Wait count) =

@@ -14,24 +14,24 @@ use Rattle.rdm_model.specs.Classes.{item_class, body_class, class_of}
 use Rattle.rdm_model.specs.Takes.{taken_answer, class_answer, handled_answer, body_needs_place, is_again_early}
 use Rattle.rdm_ep.specs.View.{EndpointView}
 use Rattle.rdm_ep.specs.Handling.{body_answer}
-use Rattle.rdm_ep.specs.Answers.{handled_of, is_early, IsPlainBody}
+use Rattle.rdm_ep.specs.Answers.{handled_of, is_early, IsEagerBody}
 use Rattle.rdm_ep.proofs.Handles.{handle_agrees as endpoint_agrees}
 use Rattle.rdm_port.specs.Views.{PortView, IsPortOf, scene_at}
 use Rattle.rdm_port.specs.Kept.{Kept, IsKept, deeds_of}
 use Rattle.rdm_port.specs.Machine.{life_answer, machine_handled, waits_in}
 use Rattle.rdm_port.specs.Built.{IsBuiltBody, IsBuiltDatagram}
 use Rattle.rdm_port.proofs.Counted.{deeds_are, OpenFacts, open_facts, none_open}
-use Rattle.rdm_port.proofs.NextAgrees.{open_scene_of, scene_of_endpoint, open_plain}
+use Rattle.rdm_port.proofs.NextAgrees.{open_scene_of, scene_of_endpoint, open_eager}
 
 -- the datagram waits in that scene where it waits by what is kept, and else the answer is that of the machine
 pub record HandleAgrees (s : Scene) (k : Kept) (d : Datagram) (body : Body) : Type 0 where
   pub early : is_again_early class_of s d ≡ waits_in k.endpoint d
   pub handled : waits_in k.endpoint d ≡ false → handled_answer class_of s d ≡ machine_handled k d body
 
--- what is built for a life is plain for its endpoint
-built_plain : (own : Own) (log : List Deed) (d : Datagram) (body : Body) → IsBuiltBody own log d body → IsPlainBody own log d body
-built_plain own log d (Note note) h = tt
-built_plain own log d (Between from to load) h = h
+-- what is built for a life is eager for its endpoint
+built_eager : (own : Own) (log : List Deed) (d : Datagram) (body : Body) → IsBuiltBody own log d body → IsEagerBody own log d body
+built_eager own log d (Note note) h = tt
+built_eager own log d (Between from to load) h = h
 
 -- the machine answers as the endpoint does
 machine_open : (k : Kept) (e : EndpointView) (d : Datagram) (body : Body) → d.body ≡ body → k.endpoint ≡ Some e → handled_of (body_answer e d d.body) ≡ machine_handled k d body
@@ -51,7 +51,7 @@ open_agrees : (v : PortView) (k : Kept) (connid : Connid) (e : EndpointView) (d 
 unfolding waits_in
 open_agrees v k connid e d h q f built =
     let log = of_life connid (deeds_of v) in
-    let a = endpoint_agrees v.ports (deeds_of v) log e d (open_plain v k connid e h f) (built_plain e.own log d d.body built) f.keeps in
+    let a = endpoint_agrees v.ports (deeds_of v) log e d (open_eager v k connid e h f) (built_eager e.own log d d.body built) f.keeps in
     let waits : waits_in k.endpoint d ≡ is_early (body_answer e d d.body) = ap (λ (o : Option EndpointView). waits_in o d) q in
     record { early = a.early ∙ sym waits; handled = λ w. a.handled (sym waits ∙ w) ∙ machine_open k e d d.body refl q }
 

@@ -18,7 +18,7 @@ use Rattle.rdm_ep.specs.Handling.{item_class_in, needs_place_in, taken_in, class
 use Rattle.rdm_ep.specs.Answers.{handled_of, is_early}
 use Rattle.rdm_port.specs.Handles.{is_handling}
 use Rattle.rdm_port.specs.Kept.{Kept}
-use Rattle.rdm_port.specs.Machine.{life_answer, after_life, drop_counted, machine_handled, after_handled, waits_in, HandlesAs}
+use Rattle.rdm_port.specs.Machine.{life_answer, after_life, drop_counted, machine_handled, after_handled, waits_in, MachineHandles}
 
 -- an answer that is an entry does not wait
 late_entry : (x : HandleAnswer) → is_handling (handled_of x) ≡ true → is_early x ≡ false
@@ -121,7 +121,7 @@ given_stays : (k n : Kept) (d : Datagram) (answer : Handled) → (answer ≡ mac
 given_stays k n d answer h t = let w = machine_waits k d d.body (ap is_handling (sym h.0) ∙ t) in (h.1 ∙ w.stays, inr (h.0 ∙ w.answer, w.early))
 
 -- what an answer that is no entry leaves
-pub no_entry_stays : (k n : Kept) (d : Datagram) (answer : Handled) → HandlesAs k n d answer → is_handling answer ≡ false → StaysBy k n d answer
+pub no_entry_stays : (k n : Kept) (d : Datagram) (answer : Handled) → MachineHandles k n d answer → is_handling answer ≡ false → StaysBy k n d answer
 no_entry_stays k n d (H.Took entered) h t = given_stays k n d (H.Took entered) h t
 no_entry_stays k n d (H.Dropped class') h t = given_stays k n d (H.Dropped class') h t
 no_entry_stays k n d H.AgainEarly h t = given_stays k n d H.AgainEarly h t
@@ -131,7 +131,7 @@ no_entry_stays k n d H.Worn h t = given_stays k n d H.Worn h t
 no_entry_stays k n d H.Memory h t = (h, inl refl)
 
 -- an answer that is an entry is that of the machine
-pub entry_given : (k n : Kept) (d : Datagram) (answer : Handled) → HandlesAs k n d answer → is_handling answer ≡ true → (answer ≡ machine_handled k d d.body) × (n ≡ after_handled k d d.body)
+pub entry_given : (k n : Kept) (d : Datagram) (answer : Handled) → MachineHandles k n d answer → is_handling answer ≡ true → (answer ≡ machine_handled k d d.body) × (n ≡ after_handled k d d.body)
 unfolding is_handling
 entry_given k n d (H.Took entered) h t = h
 entry_given k n d (H.Dropped class') h t = h

@@ -23,7 +23,7 @@ use Rattle.rdm_model.specs.Owns.{Own}
 use Rattle.rdm_ep.specs.View.{EndpointView}
 use Rattle.rdm_ep.specs.Handling.{body_answer, after_body}
 use Rattle.rdm_ep.specs.Answers.{handled_of}
-use Rattle.rdm_ep.specs.Plain.{IsPlainDeed}
+use Rattle.rdm_ep.specs.Eager.{IsEagerDeed}
 use Rattle.rdm_ep.proofs.Bodies.{keeps_handled}
 use Rattle.rdm_port.specs.Views.{PortView}
 use Rattle.rdm_port.specs.Kept.{Kept, IsKept, deeds_of, own_at, is_opened, is_told}
@@ -31,7 +31,7 @@ use Rattle.rdm_port.specs.Machine.{after_note, life_answer, after_life, drop_cou
 use Rattle.rdm_port.specs.Built.{IsBuiltDeed}
 use Rattle.rdm_port.specs.declared.kept.Told.{Told}
 use Rattle.rdm_port.proofs.Counted.{open_facts}
-use Rattle.rdm_port.proofs.NextAgrees.{open_plain}
+use Rattle.rdm_port.proofs.NextAgrees.{open_eager}
 use Rattle.rdm_port.proofs.NextDeeds.{KeepsDeeds, notes_more, IsStill, EndpointAfter, still_kept, changed, quiet_after}
 use Rattle.rdm_port.proofs.NextCases.{no_notes, built_nothing}
 use Rattle.rdm_port.proofs.NextOpens.{same_ways}
@@ -140,8 +140,8 @@ endpoint_after v k e d h q =
     let log = of_life connid (deeds_of v) in
     let deed = deed_by_handle d.src d.body (handled_of (body_answer e d d.body)) in
     let new = after_body (body_answer e d d.body) d d.body e in
-    let r = keeps_handled log e d (open_plain v k connid e h f) f.keeps in
-    changed v k deed connid e new f (subst (λ (o : Own). IsPlainDeed o log deed) f.own_is r.0) (body_leaves (body_answer e d d.body) d d.body e).own r.1
+    let r = keeps_handled log e d (open_eager v k connid e h f) f.keeps in
+    changed v k deed connid e new f (subst (λ (o : Own). IsEagerDeed o log deed) f.own_is r.0) (body_leaves (body_answer e d d.body) d d.body e).own r.1
 
 -- the endpoint, if there is one, after the answer to what comes to a life
 life_after : (v : PortView) (k : Kept) (d : Datagram) (from to : Connid) (load : Load) → d.body ≡ Between from to load → IsKept v k

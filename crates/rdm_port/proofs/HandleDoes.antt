@@ -16,7 +16,7 @@ use Rattle.rdm_port.specs.Views.{PortView, IsPortOf, scene_at, logged}
 use Rattle.rdm_port.specs.Built.{IsBuiltDatagram}
 use Rattle.rdm_port.specs.Handles.{answer_to, is_handling, place_of, after_answer, picked, Answers}
 use Rattle.rdm_port.specs.Kept.{Kept, IsKept, entry_of, with_stash}
-use Rattle.rdm_port.specs.Machine.{machine_handled, after_handled, waits_in, HandlesAs, handle_counted}
+use Rattle.rdm_port.specs.Machine.{machine_handled, after_handled, waits_in, MachineHandles, handle_counted}
 use Rattle.rdm_port.proofs.Counted.{worn_is, logged_is}
 use Rattle.rdm_port.proofs.HandleAgrees.{HandleAgrees, handle_agrees}
 use Rattle.rdm_port.proofs.HandleCases.{entry_not_early, no_entry_stays, entry_given}
@@ -104,7 +104,7 @@ handle_worn v k pick d h q w m =
     inr (sym (ap (answer_to job v) q ∙ late_to job v d true (a.early ∙ w) (worn_by_is job v k d p h ∙ worn_max 9223372036854775807 k.clock d.stamp.0 m))))
 
 -- the answer is no entry: what is kept is what was, and the port stays
-pub handle_stays : (v : PortView) (k n : Kept) (pick : ℕ) (d : Datagram) (answer : Handled) → IsKept v k → picked v pick ≡ Some d → HandlesAs k n d answer → is_handling answer ≡ false
+pub handle_stays : (v : PortView) (k n : Kept) (pick : ℕ) (d : Datagram) (answer : Handled) → IsKept v k → picked v pick ≡ Some d → MachineHandles k n d answer → is_handling answer ≡ false
     → (n ≡ k) × Answers v v pick answer
 handle_stays v k n pick d answer h q a t =
     let s = no_entry_stays k n d answer a t in (
@@ -142,7 +142,7 @@ entry_exact v k pick d answer h q a t m = λ job p b.
     inr (a ∙ sym (g.handled w) ∙ sym (ap (answer_to job v) q ∙ late_to job v d false (g.early ∙ w) (worn_by_is job v k d p h ∙ not_worn_max 9223372036854775807 k.clock d.stamp.0 m)))
 
 -- the datagram was taken or dropped: the port keeps what its log says, and its answer is right
-pub handle_goes : (v : PortView) (k n : Kept) (pick : ℕ) (d : Datagram) (answer : Handled) → IsKept v k → picked v pick ≡ Some d → HandlesAs k n d answer → is_handling answer ≡ true
+pub handle_goes : (v : PortView) (k n : Kept) (pick : ℕ) (d : Datagram) (answer : Handled) → IsKept v k → picked v pick ≡ Some d → MachineHandles k n d answer → is_handling answer ≡ true
     → max k.clock d.stamp.0 < 9223372036854775807 → IsKept (after_handle v k pick d answer) (handle_counted n d) × Answers v (after_handle v k pick d answer) pick answer
 handle_goes v k n pick d answer h q a t m =
     let g = entry_given k n d answer a t in (

@@ -13,7 +13,7 @@ use Rattle.rdm_model.specs.declared.answer.Handled.TheVariants.{Memory}
 use Rattle.rdm_port.specs.Views.{PortView, stashed}
 use Rattle.rdm_port.specs.Handles.{is_handling, place_of, picked, Answers, Fetched, DoesHandle}
 use Rattle.rdm_port.specs.Kept.{Kept, IsKept, with_stash}
-use Rattle.rdm_port.specs.Machine.{HandlesAs, handle_counted}
+use Rattle.rdm_port.specs.Machine.{MachineHandles, handle_counted}
 use Rattle.rdm_port.proofs.HandleCases.{entry_given}
 use Rattle.rdm_port.proofs.HandleKept.{handled_clock}
 use Rattle.rdm_port.proofs.HandleDoes.{handle_wants, handle_stays, handle_entry, after_handle, handle_goes}
@@ -61,7 +61,7 @@ few v k d h m = let a = h.few_to_other in let b = h.few_from_other in (omega ari
 
 -- the answer is no entry
 pub end_stays : (v : PortView) (k n : Kept) (log : List Entry) (stash : List Datagram) (pick : ℕ) (d : Datagram) (answer : Handled) → v.log ≡ log → v.stash ≡ stash → IsKept v k
-    → picked v pick ≡ Some d → max k.clock d.stamp.0 < 9223372036854775807 → (k.to_other ≤ 9223372036854775807 → k.from_other ≤ 9223372036854775807 → HandlesAs k n d answer)
+    → picked v pick ≡ Some d → max k.clock d.stamp.0 < 9223372036854775807 → (k.to_other ≤ 9223372036854775807 → k.from_other ≤ 9223372036854775807 → MachineHandles k n d answer)
     → is_handling answer ≡ false → KeepsTo v n log stash pick answer
 end_stays v k n log stash pick d answer l s h q m a t =
     let f = few v k d h m in
@@ -77,7 +77,7 @@ entry_is v k number stamp d found answer n t f =
 -- the answer is an entry
 pub end_goes : (v : PortView) (k n : Kept) (number : PortNo) (stamp place : ℕ) (log before : List Entry) (stash old : List Datagram) (pick : ℕ) (d taken : Datagram) (answer : Handled)
     → v.number ≡ number.0 → v.log ≡ before → v.stash ≡ old → IsKept v k → picked v pick ≡ Some d → max k.clock d.stamp.0 < 9223372036854775807
-    → (k.to_other ≤ 9223372036854775807 → k.from_other ≤ 9223372036854775807 → HandlesAs k n d answer) → is_handling answer ≡ true
+    → (k.to_other ≤ 9223372036854775807 → k.from_other ≤ 9223372036854775807 → MachineHandles k n d answer) → is_handling answer ≡ true
     → stamp ≡ max k.clock d.stamp.0 + 1 → place_of v pick ≡ place → slice_get old place ≡ Some taken → stash ≡ remove old place
     → log ≡ record { stamp = record { 0 = stamp }; port = number; act = Handle taken answer } ∷ before
     → KeepsTo v (record n { clock = stamp }) log stash pick answer

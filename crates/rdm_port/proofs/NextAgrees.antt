@@ -25,14 +25,14 @@ use Rattle.rdm_ep.specs.Sending as Ep
 use Rattle.rdm_ep.specs.Receiving as Er
 use Rattle.rdm_ep.specs.Cancelling as Ec
 use Rattle.rdm_ep.specs.Answers.{life_scene, next_of_send, next_of_recv}
-use Rattle.rdm_ep.specs.Plain.{IsPlain}
+use Rattle.rdm_ep.specs.Eager.{IsEager}
 use Rattle.rdm_ep.proofs.Instructed.{reg_agrees, wait_agrees, insert_agrees, cancel_agrees}
 use Rattle.rdm_ep.proofs.Answered.{send_agrees, recv_agrees}
 use Rattle.rdm_port.specs.Views.{PortView, IsPortOf, scene_at}
 use Rattle.rdm_port.specs.Kept.{Kept, IsKept, deeds_of, own_at, is_opened, is_told, is_new_life}
 use Rattle.rdm_port.specs.Machine.{with_endpoint, has_room, insert_answer_in, machine_answer}
 use Rattle.rdm_port.proofs.Counted.{deeds_are, scene_is, OpenFacts, open_facts}
-use Rattle.rdm_port.proofs.BuiltDeeds.{plain_of}
+use Rattle.rdm_port.proofs.BuiltDeeds.{eager_of}
 
 -- the machine's answer is that of the definitions, or it wants memory
 abbrev pub Agrees : (machine defined : Next) → Type 0
@@ -59,9 +59,9 @@ by_endpoint job v k instr answer p h agrees =
           subst (λ (s : Scene). Agrees (answer e) (answer_of s instr)) (sym (scene_of_endpoint job v k f.0 e p f.1)) (agrees f.0 e f.1)
     ]) refl
 
--- the deeds of the open life are plain
-pub open_plain : (v : PortView) (k : Kept) (connid : Connid) (e : EndpointView) → IsKept v k → OpenFacts v k connid e → IsPlain e.own (of_life connid (deeds_of v))
-open_plain v k connid e h f = subst (λ (o : Own). IsPlain o (of_life connid (deeds_of v))) (sym f.own_is) (plain_of (own_at v) connid (deeds_of v) h.built)
+-- the deeds of the open life are eager
+pub open_eager : (v : PortView) (k : Kept) (connid : Connid) (e : EndpointView) → IsKept v k → OpenFacts v k connid e → IsEager e.own (of_life connid (deeds_of v))
+open_eager v k connid e h f = subst (λ (o : Own). IsEager o (of_life connid (deeds_of v))) (sym f.own_is) (eager_of (own_at v) connid (deeds_of v) h.built)
 
 -- the port of the open life
 pub open_port : (v : PortView) (k : Kept) (connid : Connid) (e : EndpointView) → OpenFacts v k connid e → e.own.life.port.0 ≡ v.number
@@ -86,7 +86,7 @@ insert_same : (v : PortView) (k : Kept) (l : Life) (connid : Connid) (e : Endpoi
 unfolding insert_answer_in
 insert_same v k l connid e h f =
     let log = of_life connid (deeds_of v) in
-    let says = insert_agrees v.ports (deeds_of v) log e l (open_plain v k connid e h f) in
+    let says = insert_agrees v.ports (deeds_of v) log e l (open_eager v k connid e h f) in
     let known : knows_open e.own.life.port.0 (deeds_of v) l ≡ is_opened k.opened l = ap (λ (n : ℕ). knows_open n (deeds_of v) l) (open_port v k connid e f) ∙ sym (h.opened_are l) in
     subst (λ (a : Next). Agrees (insert_answer_in k l e) a) (sym (says ∙ ap (λ (b : Bool). cond b (Did Plain) (NotYet Yet.Opened)) known))
     (insert_cases (is_opened k.opened l) (Ep.supersedes l (current_in e l.port.0)))
@@ -131,8 +131,8 @@ answer_agrees job v k (Recv req) p h =
     by_endpoint job v k (Recv req) (λ e. next_of_recv (Er.recv_answer e req)) p h
     (λ connid e f. inr (recv_agrees v.ports (deeds_of v) (of_life connid (deeds_of v)) e req f.keeps))
 answer_agrees job v k (Cancel recv) p h =
-    by_endpoint job v k (Cancel recv) (λ e. cond (Ec.is_posted e recv.0) (Did Plain) (Refused NotPosted)) p h
-    (λ connid e f. inr (cancel_agrees v.ports (deeds_of v) (of_life connid (deeds_of v)) e recv (open_plain v k connid e h f) f.keeps))
+    by_endpoint job v k (Cancel recv) (λ e. cond (Ec.waits_for_message e recv.0) (Did Plain) (Refused NotPosted)) p h
+    (λ connid e f. inr (cancel_agrees v.ports (deeds_of v) (of_life connid (deeds_of v)) e recv (open_eager v k connid e h f) f.keeps))
 answer_agrees job v k (Note to what) p h = inr refl
 answer_agrees job v k (Await from what) p h = inr (await_agrees job v k from what p h)
 answer_agrees job v k (Wait count) p h =

@@ -26,8 +26,8 @@ use Rattle.rdm_ep.specs.View.{EndpointView, current_in}
 use Rattle.rdm_ep.specs.Sending as Ep
 use Rattle.rdm_ep.specs.Sending.{after_reg, after_insert, after_send_to, after_send}
 use Rattle.rdm_ep.specs.Receiving.{after_post, landed, after_recv}
-use Rattle.rdm_ep.specs.Cancelling.{is_posted, after_cancel}
-use Rattle.rdm_ep.specs.Plain.{IsPlainDeed}
+use Rattle.rdm_ep.specs.Cancelling.{waits_for_message, after_cancel}
+use Rattle.rdm_ep.specs.Eager.{IsEagerDeed}
 use Rattle.rdm_ep.specs.Answers.{next_of_send}
 use Rattle.rdm_ep.proofs.KeepsQuiet.{keeps_reg, keeps_insert}
 use Rattle.rdm_ep.proofs.KeepsSend.{keeps_send}
@@ -40,7 +40,7 @@ use Rattle.rdm_port.specs.Machine.{with_endpoint, has_room, insert_answer_in, ma
 use Rattle.rdm_port.specs.Built.{IsBuiltDeed}
 use Rattle.rdm_port.proofs.Counted.{OpenFacts}
 use Rattle.rdm_port.proofs.BuiltDeeds.{room_fits}
-use Rattle.rdm_port.proofs.NextAgrees.{open_plain}
+use Rattle.rdm_port.proofs.NextAgrees.{open_eager}
 use Rattle.rdm_port.proofs.NextDeeds.{KeepsDeeds, IsStill, still_kept, changed_by, quiet_after}
 
 -- an insert leaves the lives of the port as they were, and pushes and brings no note
@@ -222,12 +222,12 @@ did_cancel : (b : Bool) (what : DidWhat) → cond b (DidAnswer Plain) (Refused N
 did_cancel true what h = refl
 did_cancel false what h = cc
 
--- such a cancel is plain
-cancel_plain : (v : PortView) (k : Kept) (connid : Connid) (e : EndpointView) (recv : RecvNo) → IsKept v k → OpenFacts v k connid e → is_posted e recv.0 ≡ true
-    → IsPlainDeed (own_at v connid) (of_life connid (deeds_of v)) (Did (Cancel recv))
-cancel_plain v k connid e recv h f posted =
+-- such a cancel is eager
+cancel_eager : (v : PortView) (k : Kept) (connid : Connid) (e : EndpointView) (recv : RecvNo) → IsKept v k → OpenFacts v k connid e → waits_for_message e recv.0 ≡ true
+    → IsEagerDeed (own_at v connid) (of_life connid (deeds_of v)) (Did (Cancel recv))
+cancel_eager v k connid e recv h f posted =
     let log = of_life connid (deeds_of v) in
-    subst (λ (o : Own). IsPlainDeed o log (Did (Cancel recv))) f.own_is (sym (posted_agrees log e recv.0 (open_plain v k connid e h f) f.keeps) ∙ posted)
+    subst (λ (o : Own). IsEagerDeed o log (Did (Cancel recv))) f.own_is (sym (posted_agrees log e recv.0 (open_eager v k connid e h f) f.keeps) ∙ posted)
 
 -- after a cancel
 pub cancel_kept : (v : PortView) (k : Kept) (recv : RecvNo) (what : DidWhat) → IsKept v k → machine_answer v k (Cancel recv) ≡ DidAnswer what
@@ -237,9 +237,9 @@ cancel_kept v k recv what h a =
     let d = Did (Cancel recv) in
     let f = λ (e : EndpointView). after_cancel e recv in
     let x = has_endpoint k.endpoint _ what a in
-    let posted = did_cancel (is_posted x.0 recv.0) what x.2 in
+    let posted = did_cancel (waits_for_message x.0 recv.0) what x.2 in
     still_kept v k (record k { endpoint = option_map f k.endpoint }) d h (still_cancel recv) (no_notes v k d refl) refl refl
-    (changed_by v k d f x.0 h x.1 (own_cancel x.0 recv) (λ connid is. cancel_plain v k connid x.0 recv h is posted)
+    (changed_by v k d f x.0 h x.1 (own_cancel x.0 recv) (λ connid is. cancel_eager v k connid x.0 recv h is posted)
     (λ connid is all. keeps_cancel recv (of_life connid (deeds_of v)) x.0 all is.keeps))
 
 -- a note is built in each life, and where none is open

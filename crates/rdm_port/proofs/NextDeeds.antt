@@ -13,7 +13,7 @@ use Rattle.rdm_model.specs.Steps.{count, is_next, is_push}
 use Rattle.rdm_model.specs.Reports.{is_to_other, is_from_other}
 use Rattle.rdm_ep.specs.View.{EndpointView}
 use Rattle.rdm_ep.specs.Keeps.{Keeps}
-use Rattle.rdm_ep.specs.Plain.{IsPlainDeed, IsPlain}
+use Rattle.rdm_ep.specs.Eager.{IsEagerDeed, IsEager}
 use Rattle.rdm_ep.proofs.KeepsQuiet.{IsQuiet, keeps_quiet}
 use Rattle.rdm_port.specs.declared.kept.QueuedNote.{QueuedNote}
 use Rattle.rdm_port.specs.declared.kept.Told.{Told}
@@ -23,7 +23,7 @@ use Rattle.rdm_port.specs.Machine.{next_counted, next_entry}
 use Rattle.rdm_port.specs.Built.{AreBuilt, IsBuiltDeed}
 use Rattle.rdm_port.proofs.Counted.{OpenFacts, open_facts, none_open}
 use Rattle.rdm_port.proofs.BuiltDeeds.{that_is_open}
-use Rattle.rdm_port.proofs.NextAgrees.{open_plain}
+use Rattle.rdm_port.proofs.NextAgrees.{open_eager}
 
 -- what a port keeps of these deeds
 pub record KeepsDeeds (v : PortView) (log : List Deed) (k : Kept) : Type 0 where
@@ -134,8 +134,8 @@ pub of_open : (connid : Connid) (d : Deed) (log : List Deed) → open_life log �
 unfolding of_life
 of_open connid d log e = let t : is_connid (open_life log) connid ≡ true = ap (λ (o : Option Connid). is_connid o connid) e ∙ that_is_open connid in rw t refl
 
--- the endpoint of the open life after a plain deed
-pub changed : (v : PortView) (k : Kept) (d : Deed) (connid : Connid) (e new : EndpointView) → OpenFacts v k connid e → IsPlainDeed (own_at v connid) (of_life connid (deeds_of v)) d
+-- the endpoint of the open life after an eager deed
+pub changed : (v : PortView) (k : Kept) (d : Deed) (connid : Connid) (e new : EndpointView) → OpenFacts v k connid e → IsEagerDeed (own_at v connid) (of_life connid (deeds_of v)) d
     → new.own ≡ e.own → Keeps (d ∷ of_life connid (deeds_of v)) new → EndpointAfter v (deeds_of v) d (Some new)
 changed v k d connid e new f plain own keeps =
     let log = deeds_of v in
@@ -147,8 +147,8 @@ changed v k d connid e new f plain own keeps =
 
 -- the same, where the endpoint is kept and its change is a function of it
 pub changed_by : (v : PortView) (k : Kept) (d : Deed) (f : EndpointView → EndpointView) (e : EndpointView) → IsKept v k → k.endpoint ≡ Some e → (f e).own ≡ e.own
-    → ((connid : Connid) → OpenFacts v k connid e → IsPlainDeed (own_at v connid) (of_life connid (deeds_of v)) d)
-    → ((connid : Connid) → OpenFacts v k connid e → IsPlain e.own (d ∷ of_life connid (deeds_of v)) → Keeps (d ∷ of_life connid (deeds_of v)) (f e))
+    → ((connid : Connid) → OpenFacts v k connid e → IsEagerDeed (own_at v connid) (of_life connid (deeds_of v)) d)
+    → ((connid : Connid) → OpenFacts v k connid e → IsEager e.own (d ∷ of_life connid (deeds_of v)) → Keeps (d ∷ of_life connid (deeds_of v)) (f e))
     → EndpointAfter v (deeds_of v) d (option_map f k.endpoint)
 changed_by v k d f e h q own plain keeps =
     let facts = open_facts v k e h q in
@@ -156,12 +156,12 @@ changed_by v k d f e h q own plain keeps =
     let is = facts.1 in
     let log = of_life connid (deeds_of v) in
     let here = plain connid is in
-    let all : IsPlain e.own (d ∷ log) = (open_plain v k connid e h is, subst (λ (o : Own). IsPlainDeed o log d) (sym is.own_is) here) in
+    let all : IsEager e.own (d ∷ log) = (open_eager v k connid e h is, subst (λ (o : Own). IsEagerDeed o log d) (sym is.own_is) here) in
     subst (λ (o : Option EndpointView). EndpointAfter v (deeds_of v) d (option_map f o)) (sym q) (changed v k d connid e (f e) is here own (keeps connid is all))
 
 -- the endpoint after a deed that does nothing to it
 pub quiet_after : (v : PortView) (k : Kept) (d : Deed) → IsKept v k → IsQuiet d → ((o : Option Connid) → IsBuiltDeed (own_at v) o (deeds_of v) d)
-    → ((connid : Connid) → IsPlainDeed (own_at v connid) (of_life connid (deeds_of v)) d) → EndpointAfter v (deeds_of v) d k.endpoint
+    → ((connid : Connid) → IsEagerDeed (own_at v connid) (of_life connid (deeds_of v)) d) → EndpointAfter v (deeds_of v) d k.endpoint
 quiet_after v k d h q built plain =
     (elim k.endpoint as (λ o. k.endpoint ≡ o → EndpointAfter v (deeds_of v) d o) [
       | None ↦ λ e.
@@ -174,5 +174,5 @@ quiet_after v k d h q built plain =
       | Some x ↦ λ e.
           let facts = open_facts v k x h e in
           let is = facts.1 in
-          changed v k d facts.0 x x is (plain facts.0) refl (keeps_quiet d (of_life facts.0 (deeds_of v)) x q (open_plain v k facts.0 x h is) is.keeps)
+          changed v k d facts.0 x x is (plain facts.0) refl (keeps_quiet d (of_life facts.0 (deeds_of v)) x q (open_eager v k facts.0 x h is) is.keeps)
     ]) refl

@@ -10,10 +10,10 @@ use Rattle.rdm_model.specs.declared.job.Job.{Job}
 use Rattle.rdm_model.specs.Deeds.{Deed, Spelled, deed_count, open_life, of_life}
 use Rattle.rdm_model.specs.Notes.{OwedNote, notes, is_note_push, next_note}
 use Rattle.rdm_model.specs.Owns.{Own, life_at, own_of, port_count}
-use Rattle.rdm_model.specs.Turns.{turn}
+use Rattle.rdm_model.specs.Dues.{due}
 use Rattle.rdm_model.specs.Scenes.{Scene, deeds_at, scene}
 use Rattle.rdm_model.specs.Local.{own_scene, heard_by}
-use Rattle.rdm_model.specs.Going.{Going, GoesNote, Goes, turn_going, life_going, note_going, going}
+use Rattle.rdm_model.specs.Going.{Going, GoesNote, Goes, due_going, life_going, note_going, going}
 use Rattle.rdm_model.specs.Worlds.{scene_in, load_of, datagram_of}
 use Rattle.rdm_ep.specs.View.{EndpointView}
 use Rattle.rdm_ep.specs.Answers.{life_scene}
@@ -26,7 +26,7 @@ use Rattle.rdm_port.specs.Kept.{Kept, IsKept, deeds_of, queued_of}
 use Rattle.rdm_port.specs.Machine.{departure_of, life_departing, departing_by, departing, datagram_by}
 use Rattle.rdm_port.specs.Pushes.{lone_world, out_of}
 use Rattle.rdm_port.proofs.Counted.{clock_is, deeds_are, scene_is, open_facts, none_open}
-use Rattle.rdm_port.proofs.NextAgrees.{open_plain}
+use Rattle.rdm_port.proofs.NextAgrees.{open_eager}
 
 -- the datagram to that port with that body, by what the port keeps
 abbrev pub datagram_at : PortView → Kept → PortNo → Body → Datagram
@@ -75,7 +75,7 @@ none_goes s e = rw e refl
 
 -- what goes out in the scene of a life
 scene_goes : (ports : ℕ) (own : Own) (port_log log : List Deed) (s : Scene) → s ≡ life_scene ports own port_log log
-    → life_going s.now s ≡ turn_going (turn own (heard_by own.limits.first log) log)
+    → life_going s.now s ≡ due_going (due own (heard_by own.limits.first log) log)
 unfolding life_going
 scene_goes ports own port_log log s e = ap (λ (x : Scene). life_going x.now x) e
 
@@ -95,7 +95,7 @@ open_departs job v k e p h q =
     let log = of_life connid (deeds_of v) in
     let s : scene_at job v ≡ life_scene v.ports e.own (deeds_of v) log =
     scene_is job v connid p f.1.open_is ∙ ap (λ (o : Own). life_scene v.ports o (deeds_of v) log) (sym f.1.own_is) in
-    let g = scene_goes v.ports e.own (deeds_of v) log (scene_at job v) s ∙ out_agrees log e (open_plain v k connid e h f.1) f.1.keeps in
+    let g = scene_goes v.ports e.own (deeds_of v) log (scene_at job v) s ∙ out_agrees log e (open_eager v k connid e h f.1) f.1.keeps in
     ap (option_map (datagram_of job (lone_world v) v.number)) g
     ∙ leaving_departs job v k e (Ep.out_of e) p h (ap (λ (x : Scene). x.own.life.connid) s)
 

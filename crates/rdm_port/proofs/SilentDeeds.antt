@@ -8,12 +8,12 @@ use Rattle.rdm_model.specs.Deeds.{Deed, PushedNote, Pushed, Polled, open_after, 
 use Rattle.rdm_model.specs.Notes.{notes_by, notes, tells_open, opens, knows_open, says, was_told}
 use Rattle.rdm_model.specs.Owns.{Own}
 use Rattle.rdm_ep.specs.View.{EndpointView}
-use Rattle.rdm_ep.specs.Plain.{IsPlain}
+use Rattle.rdm_ep.specs.Eager.{IsEager}
 use Rattle.rdm_ep.specs.Keeps.{Keeps}
 use Rattle.rdm_port.specs.Views.{PortView}
 use Rattle.rdm_port.specs.Kept.{IsOpen, KeepsLife, deeds_of, own_at, with_log}
 use Rattle.rdm_port.specs.Built.{AreBuilt, IsBuiltDeed}
-use Rattle.rdm_port.proofs.BuiltDeeds.{plain_of}
+use Rattle.rdm_port.proofs.BuiltDeeds.{eager_of}
 use Rattle.rdm_port.proofs.NextDeeds.{of_open}
 
 -- a push or a poll
@@ -68,7 +68,7 @@ deed_silent own o log d s = elim s [ ]
 -- the endpoint after a deed, by the endpoint before it
 abbrev pub StepsBy : Deed → Option EndpointView → Option EndpointView → Type 0
 StepsBy d None None = Unit {0}
-StepsBy d (Some e) (Some f) = (f.own ≡ e.own) × ((log : List Deed) → IsPlain e.own log → Keeps log e → Keeps (d ∷ log) f)
+StepsBy d (Some e) (Some f) = (f.own ≡ e.own) × ((log : List Deed) → IsEager e.own log → Keeps log e → Keeps (d ∷ log) f)
 StepsBy d _ _ = ⊥
 
 -- the open life keeps such a step
@@ -80,7 +80,7 @@ life_steps v log d None None None b q i k s = (tt, tt)
 life_steps v log d (Some connid) (Some e) (Some f) b q i k s = (
   s.0 ∙ i,
   subst (λ (ds : List Deed). Keeps ds f) (sym (of_open connid d (deeds_of v) q))
-      (s.1 (of_life connid (deeds_of v)) (subst (λ (own : Own). IsPlain own (of_life connid (deeds_of v))) (sym i) (plain_of (own_at v) connid (deeds_of v) b)) k),
+      (s.1 (of_life connid (deeds_of v)) (subst (λ (own : Own). IsEager own (of_life connid (deeds_of v))) (sym i) (eager_of (own_at v) connid (deeds_of v) b)) k),
 )
 life_steps v log d None None (Some f) b q i k s = elim s [ ]
 life_steps v log d None (Some e) y b q i k s = elim i [ ]

@@ -26,7 +26,7 @@ use Rattle.rdm_ep.specs.Sending as Ep
 use Rattle.rdm_ep.specs.Sending.{after_reg, after_insert, after_send}
 use Rattle.rdm_ep.specs.Receiving as EpRecv
 use Rattle.rdm_ep.specs.Receiving.{after_recv}
-use Rattle.rdm_ep.specs.Cancelling.{is_posted, after_cancel}
+use Rattle.rdm_ep.specs.Cancelling.{waits_for_message, after_cancel}
 use Rattle.rdm_ep.specs.Handling.{body_answer, after_body}
 use Rattle.rdm_ep.specs.Going.{Leaving, after_sent, after_poll}
 use Rattle.rdm_ep.specs.Going as Going
@@ -77,7 +77,7 @@ machine_answer v k (Insert l) = with_endpoint k.endpoint (insert_answer_in k l)
 machine_answer v k (Reg content) = with_endpoint k.endpoint (λ e. Did (Region (record { 0 = length e.regions })))
 machine_answer v k (Send req) = with_endpoint k.endpoint (λ e. if has_room v req then next_of_send (Ep.send_answer e req) else Memory)
 machine_answer v k (Recv req) = with_endpoint k.endpoint (λ e. next_of_recv (EpRecv.recv_answer e req))
-machine_answer v k (Cancel recv) = with_endpoint k.endpoint (λ e. if is_posted e recv.0 then Did Plain else Refused NotPosted)
+machine_answer v k (Cancel recv) = with_endpoint k.endpoint (λ e. if waits_for_message e recv.0 then Did Plain else Refused NotPosted)
 machine_answer v k (Note to what) = Did Plain
 machine_answer v k (Await from what) = if is_told k.told from.0 what then Did Plain else NotYet Yet.Await
 machine_answer v k (Wait count) =
@@ -214,9 +214,9 @@ TakesIn old new d H.Memory = new ≡ old
 TakesIn old new d answer = (answer ≡ life_answer old.endpoint d) × (new ≡ record old { endpoint = after_life old.endpoint d })
 
 -- the state is as the answer to a datagram says
-abbrev pub HandlesAs : Kept → Kept → Datagram → Handled → Type 0
-HandlesAs old new d H.Memory = new ≡ old
-HandlesAs old new d answer = (answer ≡ machine_handled old d d.body) × (new ≡ after_handled old d d.body)
+abbrev pub MachineHandles : Kept → Kept → Datagram → Handled → Type 0
+MachineHandles old new d H.Memory = new ≡ old
+MachineHandles old new d answer = (answer ≡ machine_handled old d d.body) × (new ≡ after_handled old d d.body)
 
 -- the datagram would wait for an early place
 unfoldable pub waits_in : Option EndpointView → Datagram → Bool

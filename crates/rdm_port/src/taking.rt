@@ -2,7 +2,7 @@
 ghost use Rattle.std.specs.Prelude.{◌≡◌, ◌≤◌, IfOk};
 ghost use Rattle.rdm_ep.specs.Answers as EpAnswers;
 ghost use Rattle.rdm_port.specs.Kept.{places_of};
-ghost use Rattle.rdm_port.specs.Machine.{HandlesAs, NoteTakenAs, TakesIn, drop_counted, waits_in};
+ghost use Rattle.rdm_port.specs.Machine.{MachineHandles, NoteTakenAs, TakesIn, drop_counted, waits_in};
 
 use crate::kept::{State, Told};
 use rdm_ep::HandleAnswer;
@@ -15,7 +15,7 @@ impl State {
     /// Handles a datagram, whose answer is an entry or leaves all as it was.
     #[tactic(auto, unfolding(crate::specs::Machine::machine_handled, crate::specs::Machine::after_handled, crate::specs::Machine::life_answer, crate::specs::Machine::after_life, crate::specs::Machine::drop_counted))]
     pub fn handle(&mut self, alloc: Global, d: &Datagram) -> Handled
-        ensures handles { self.old.to_other ≤ 9223372036854775807 → self.old.from_other ≤ 9223372036854775807 → HandlesAs self.old self.new d.now result }
+        ensures handles { self.old.to_other ≤ 9223372036854775807 → self.old.from_other ≤ 9223372036854775807 → MachineHandles self.old self.new d.now result }
         ensures places { places_of self.new.endpoint ≡ places_of self.old.endpoint }
     {
         match &d.body {

@@ -22,7 +22,7 @@ use Rattle.rdm_regions.specs.Tallies.{area_of, busy_if, Lies, Marks, Tiled, Keep
 use Rattle.rdm_regions.proofs.Entries.{Entries, map_of, values_are, sum_with, sum_without, All_without}
 use Rattle.rdm_regions.proofs.Busy.{free_home}
 use Rattle.rdm_regions.proofs.Refusals.{registry_of, no_region, passes, is_region_of}
-use Rattle.rdm_regions.proofs.Kept.{IsWith, marks_with_other, marks_without_other, tiled_with_other, tiled_without_other, marks_with, marks_without, tiled_with, tiled_without}
+use Rattle.rdm_regions.proofs.RegionChanges.{IsWith, marks_with_other, marks_without_other, tiled_with_other, tiled_without_other, marks_with, marks_without, tiled_with, tiled_without}
 
 -- the element at a place, whatever stands for one past the end
 pub at_index : (regions : List Region) (i : ℕ) (r : Region) → i < length regions → r ≡ get_or regions i r → (d : Region) → get_or regions i d ≡ r

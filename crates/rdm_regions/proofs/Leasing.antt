@@ -20,7 +20,7 @@ use Rattle.rdm_regions.specs.Steps.{MayLift, IsLifted, IsLiftedPart, IsPlaced, I
 use Rattle.rdm_regions.specs.Tallies.{area_of, Lies, Tiled, Keeps}
 use Rattle.rdm_regions.proofs.Refusals.{registry_of}
 use Rattle.rdm_regions.proofs.Entries.{Entries, map_of, get_is_lookup, map_with, map_without, sum_without, undone}
-use Rattle.rdm_regions.proofs.Kept.{IsWith, leased_out}
+use Rattle.rdm_regions.proofs.RegionChanges.{IsWith, leased_out}
 use Rattle.rdm_regions.proofs.Changes.{at_index, may_hold, may_lease, at_home, keeps_leased, keeps_returned, areas_laid, areas_same, keeps_reserved}
 use Rattle.rdm_regions.proofs.Holding.{registry, Updated, found_lies}
 

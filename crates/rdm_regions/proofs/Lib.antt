@@ -13,7 +13,7 @@ pub mod Entries
 -- why a range is refused
 pub mod Refusals
 -- what the regions keep, once one of them changes
-pub mod Kept
+pub mod RegionChanges
 -- the fields of `Regions`, once a range is held or leased, or is so no more
 pub mod Changes
 -- the regions while a send comes to hold a range, and while it drops it

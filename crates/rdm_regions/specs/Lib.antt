@@ -11,4 +11,4 @@ pub mod Weights
 -- what the regions keep of the held and leased ranges
 pub mod Tallies
 -- what is true of the fields of `Regions`
-pub mod Kept
+pub mod SoundRegions

@@ -32,7 +32,7 @@ impl Model for Regions {
 
     ghost coded = { registry_code };
 
-    ghost use Rattle.rdm_regions.specs.Kept.{seen, IsKept};
+    ghost use Rattle.rdm_regions.specs.SoundRegions.{seen, IsKept};
 
     ghost view = { seen };
 

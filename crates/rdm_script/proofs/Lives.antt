@@ -1,4 +1,4 @@
--- The programs that are read fit, and their lives are in turn.
+-- The programs that are read fit, and their lives follow each other.
 use Rattle.std.proofs.Common.{◌≡◌, ◌≤◌, ℕ, suc, Bool, true, not, ◌||◌, List, [], ◌∷◌, length, codes, Ok, refl, ap, arith}
 use Rattle.std.specs.Prelude.{nat_le}
 use Rattle.std.specs.List.{list_all}

@@ -13,7 +13,7 @@ use Rattle.rdm_json.specs.declared.refusal.Reason.{Reason}
 use Rattle.rdm_json.specs.declared.refusal.Reason.TheVariants.{NoRank}
 use Rattle.rdm_json.specs.Results.{◌>>=◌, placed}
 use Rattle.rdm_json.specs.Values.{array_of, text_of, number_of}
-use Rattle.rdm_script.specs.Choices.{as_rank, plain_choice, picking_choice, choice_in, choice_of, choices_of}
+use Rattle.rdm_script.specs.Choices.{as_rank, eager_choice, picking_choice, choice_in, choice_of, choices_of}
 use Rattle.rdm_json.proofs.Chains.{gave, unplaced, tested_value, given}
 
 -- a choice made of a rank is of a rank
@@ -29,9 +29,9 @@ chosen : (b : Bool) (ports : ℕ) (r s : Result Choice Reason) (c : Choice) → 
 chosen true ports r s c p q h = p h
 chosen false ports r s c p q h = q h
 
-plain_choice-fits : (ports : ℕ) (word : List ℕ) (rank : ℕ) (c : Choice) → plain_choice ports word rank ≡ Ok c → nat_lt (choice_rank c) ports ≡ true
+eager_choice-fits : (ports : ℕ) (word : List ℕ) (rank : ℕ) (c : Choice) → eager_choice ports word rank ≡ Ok c → nat_lt (choice_rank c) ports ≡ true
 unfolding choice_rank
-plain_choice-fits ports word rank c =
+eager_choice-fits ports word rank c =
     chosen (bytes_eq word (codes "next")) ports _ _ c (made_of ports rank choice.Next (λ r. refl) c)
     (chosen (bytes_eq word (codes "push")) ports _ _ c (made_of ports rank choice.Push (λ r. refl) c)
     (chosen (bytes_eq word (codes "poll")) ports _ _ c (made_of ports rank choice.Poll (λ r. refl) c) (λ h. cc)))
@@ -46,7 +46,7 @@ choice_in-fits ports (word ∷ []) c h = cc
 choice_in-fits ports (word ∷ rank ∷ []) c h =
     let (w, _, h) = gave (text_of word) _ c h in
     let (r, _, h) = gave (number_of rank) _ c h in
-    plain_choice-fits ports w r c h
+    eager_choice-fits ports w r c h
 choice_in-fits ports (word ∷ rank ∷ pick ∷ []) c h =
     let (w, _, h) = gave (text_of word) _ c h in
     let (r, _, h) = gave (number_of rank) _ c h in

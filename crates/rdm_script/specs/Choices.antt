@@ -17,8 +17,8 @@ as_rank ports rank = do
   Ok rank
 
 -- a choice of a rank alone
-abbrev pub plain_choice : (ports : ℕ) → (word : List ℕ) → (rank : ℕ) → Result Choice Reason
-plain_choice ports word rank =
+abbrev pub eager_choice : (ports : ℕ) → (word : List ℕ) → (rank : ℕ) → Result Choice Reason
+eager_choice ports word rank =
     if bytes_eq word (codes "next") then (as_rank ports rank >>= λ r. Ok (choice.Next r))
     else if bytes_eq word (codes "push") then (as_rank ports rank >>= λ r. Ok (choice.Push r))
     else if bytes_eq word (codes "poll") then (as_rank ports rank >>= λ r. Ok (choice.Poll r))
@@ -33,7 +33,7 @@ abbrev pub choice_in : (ports : ℕ) → List Data → Result Choice Reason
 choice_in ports (word ∷ rank ∷ []) = do
   w ← text_of word
   r ← number_of rank
-  plain_choice ports w r
+  eager_choice ports w r
 choice_in ports (word ∷ rank ∷ pick ∷ []) = do
   w ← text_of word
   r ← number_of rank

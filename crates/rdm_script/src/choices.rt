@@ -2,7 +2,7 @@
 ghost use Rattle.std.specs.Prelude.{◌≡◌, map, length};
 ghost use Rattle.serde_json.specs.View.{view};
 ghost use Rattle.rdm_json.specs.Results.{GivesAs};
-ghost use Rattle.rdm_script.specs.Choices.{as_rank, plain_choice, picking_choice, choice_in, choice_of, choices_of};
+ghost use Rattle.rdm_script.specs.Choices.{as_rank, eager_choice, picking_choice, choice_in, choice_of, choices_of};
 
 use crate::{Place, Reason, ScriptRefused};
 use rdm_json::{array_of, number_of, placed, text_of};
@@ -22,8 +22,8 @@ fn as_rank(ports: u32, rank: u64) -> Result<u32, Reason>
 }
 
 /// A choice of a rank alone.
-fn plain_choice(ports: u32, word: &str, rank: u64) -> Result<Choice, Reason>
-    ensures { result ≡ plain_choice ports word.now rank }
+fn eager_choice(ports: u32, word: &str, rank: u64) -> Result<Choice, Reason>
+    ensures { result ≡ eager_choice ports word.now rank }
 {
     match word {
         "next" => Ok(Choice::Next(as_rank(ports, rank)?)),
@@ -48,7 +48,7 @@ fn choice_in(ports: u32, values: &[Value]) -> Result<Choice, Reason>
     ensures { result ≡ choice_in ports (map view values.now) }
 {
     match values {
-        [word, rank] => plain_choice(ports, text_of(word)?, number_of(rank)?),
+        [word, rank] => eager_choice(ports, text_of(word)?, number_of(rank)?),
         [word, rank, pick] => {
             picking_choice(ports, text_of(word)?, number_of(rank)?, number_of(pick)?)
         }

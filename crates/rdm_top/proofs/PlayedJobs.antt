@@ -16,11 +16,11 @@ use Rattle.rdm_model.specs.declared.job.Instr.TheVariants.{OpenLife, Insert, Reg
 use Rattle.rdm_model.specs.Jobs.{is_fair, law_ops, lives_fit, rank_fits, features_fit, instr_fits, limits_fit, is_within, choices_fit, opens_well, opened_by, is_open_after}
 use Rattle.rdm_model.specs.Owns.{rank_of, no_rank}
 use Rattle.rdm_model.specs.Worlds.{new_world}
-use Rattle.rdm_law.proofs.Plain.PlainDeeds.{IsPlainOp}
-use Rattle.rdm_law.proofs.Plain.PlainPorts.{PlainJob}
-use Rattle.rdm_law.proofs.Plain.PlainJobs.{fits_one_packet}
+use Rattle.rdm_law.proofs.Eager.EagerDeeds.{IsEagerOp}
+use Rattle.rdm_law.proofs.Eager.EagerPorts.{EagerJob}
+use Rattle.rdm_law.proofs.Eager.EagerJobs.{fits_one_packet}
 use Rattle.rdm_world.specs.Shows.{StaysBuilt}
-use Rattle.rdm_world.proofs.PlainStays.{plain_stays_built}
+use Rattle.rdm_world.proofs.EagerStays.{eager_stays_built}
 use Rattle.rdm_script.specs.Played.{is_eager, goes_eager, is_played_instr, is_played_rank, is_played}
 use Rattle.rdm_script.specs.Script.{job_in}
 use Rattle.rdm_script.proofs.ReadPlayed.{read_are_fair, read_are_played}
@@ -47,18 +47,18 @@ first_opened : List Instr → Connid
 first_opened [] = record { 0 = 0 }
 first_opened (i ∷ is) = unwrap_or (opens i) (first_opened is)
 
--- an open is plain for the life that it opens
-opening_plain : (limits : EpLimits) (connid : Connid) (i : Instr) → opens i ≡ Some connid → IsPlainOp limits connid i
+-- an open is eager for the life that it opens
+opening_eager : (limits : EpLimits) (connid : Connid) (i : Instr) → opens i ≡ Some connid → IsEagerOp limits connid i
 unfolding opens
-opening_plain limits connid (OpenLife c) h = cc
-opening_plain limits connid _ h = cc
+opening_eager limits connid (OpenLife c) h = cc
+opening_eager limits connid _ h = cc
 
--- what is played and opens no life is plain for any
-played_plain : (limits : EpLimits) (connid : Connid) (i : Instr) → opens i ≡ None → is_played_instr limits i ≡ true → IsPlainOp limits connid i
+-- what is played and opens no life is eager for any
+played_eager : (limits : EpLimits) (connid : Connid) (i : Instr) → opens i ≡ None → is_played_instr limits i ≡ true → IsEagerOp limits connid i
 unfolding opens
-played_plain limits connid (OpenLife c) h played = cc
-played_plain limits connid (Send req) h played = fits_one_packet limits req (eager_has_room req.len (is_some req.tag) (is_some req.cq_data) limits played)
-played_plain limits connid _ h played = tt
+played_eager limits connid (OpenLife c) h played = cc
+played_eager limits connid (Send req) h played = fits_one_packet limits req (eager_has_room req.len (is_some req.tag) (is_some req.cq_data) limits played)
+played_eager limits connid _ h played = tt
 
 -- after an open a life is open
 opening_opens : (connid : Connid) (i : Instr) (was : Bool) → opens i ≡ Some connid → is_open_after was i ≡ true
@@ -86,42 +86,42 @@ opens_none opened _ h = refl
 
 -- the rest of a program in which a life is open
 while_open : (limits : EpLimits) (connid : Connid) (opened : List ℕ) (ops : List Instr) → lives_fit true opened ops ≡ true → list_all (is_played_instr limits) ops ≡ true
-    → (instr : Instr) → Member instr ops → IsPlainOp limits connid instr
+    → (instr : Instr) → Member instr ops → IsEagerOp limits connid instr
 unfolding lives_fit
 while_open limits connid opened [] fit played instr m = elim m [ ]
 while_open limits connid opened (i ∷ is) fit played instr m =
     let f = and_parts (opens_well true opened i) (lives_fit (is_open_after true i) (opened_by i ++ opened) is) fit in
     let p = and_parts (is_played_instr limits i) (list_all (is_played_instr limits) is) played in
     elim m [
-      | inl a ↦ subst (IsPlainOp limits connid) a (played_plain limits connid i (opens_none opened i f.0) p.0)
+      | inl a ↦ subst (IsEagerOp limits connid) a (played_eager limits connid i (opens_none opened i f.0) p.0)
       | inr n ↦
           while_open limits connid (opened_by i ++ opened) is
           (subst (λ (b : Bool). lives_fit b (opened_by i ++ opened) is ≡ true) (played_keeps limits i p.0) f.1) p.1 instr n
     ]
 
--- a program whose lives are in turn has one life at most, where it's played
+-- a program whose lives follow each other has one life at most, where it's played
 one_life : (limits : EpLimits) (opened : List ℕ) (ops : List Instr) → lives_fit false opened ops ≡ true → list_all (is_played_instr limits) ops ≡ true
-    → (instr : Instr) → Member instr ops → IsPlainOp limits (first_opened ops) instr
+    → (instr : Instr) → Member instr ops → IsEagerOp limits (first_opened ops) instr
 unfolding lives_fit first_opened
 one_life limits opened [] fit played instr m = elim m [ ]
 one_life limits opened (i ∷ is) fit played instr m =
     let f = and_parts (opens_well false opened i) (lives_fit (is_open_after false i) (opened_by i ++ opened) is) fit in
     let p = and_parts (is_played_instr limits i) (list_all (is_played_instr limits) is) played in
-    elim (opens i) as (λ o. opens i ≡ o → IsPlainOp limits (unwrap_or o (first_opened is)) instr) [
+    elim (opens i) as (λ o. opens i ≡ o → IsEagerOp limits (unwrap_or o (first_opened is)) instr) [
       | None ↦ λ e. elim m [
-        | inl a ↦ subst (IsPlainOp limits (first_opened is)) a (played_plain limits (first_opened is) i e p.0)
+        | inl a ↦ subst (IsEagerOp limits (first_opened is)) a (played_eager limits (first_opened is) i e p.0)
         | inr n ↦
             one_life limits (opened_by i ++ opened) is (subst (λ (b : Bool). lives_fit b (opened_by i ++ opened) is ≡ true) (none_opens i e) f.1) p.1 instr n
       ]
       | Some connid ↦ λ e. elim m [
-        | inl a ↦ subst (IsPlainOp limits connid) a (opening_plain limits connid i e)
+        | inl a ↦ subst (IsEagerOp limits connid) a (opening_eager limits connid i e)
         | inr n ↦
             while_open limits connid (opened_by i ++ opened) is
             (subst (λ (b : Bool). lives_fit b (opened_by i ++ opened) is ≡ true) (opening_opens connid i false e) f.1) p.1 instr n
       ]
     ] refl
 
--- the lives of a rank's program are in turn, and it's played
+-- the lives of a rank's program follow each other, and it's played
 record IsPlayable (limits : EpLimits) (r : Rank) : Type 0 where
   lives : lives_fit false [] r.ops ≡ true
   played : is_played_rank limits r ≡ true
@@ -148,10 +148,10 @@ each_playable limits ports (r ∷ rs) fit played (suc port) =
 life_at : Job → ℕ → Connid
 life_at job port = first_opened (rank_of job port).ops
 
--- a fair job that is played is plain
-played_job_plain : (job : Job) → is_fair law_ops job ≡ true → is_played job ≡ true → PlainJob job (life_at job)
+-- a fair job that is played is eager
+played_job_eager : (job : Job) → is_fair law_ops job ≡ true → is_played job ≡ true → EagerJob job (life_at job)
 unfolding is_fair rank_of life_at
-played_job_plain job fair played port instr m =
+played_job_eager job fair played port instr m =
     let a = and_parts
     (limits_fit job.limits && is_within 1 65536 job.inbox && nat_lt job.clock (2 ^ 63) && is_within 1 16 (length job.ranks) && list_all (rank_fits (length job.ranks) law_ops) job.ranks)
     (choices_fit (length job.ranks) job.choices) fair in
@@ -169,4 +169,4 @@ is_fair-job_in bytes job is_job = read_are_fair bytes job is_job
 pub stays_built-job_in : (bytes : List ℕ) (job : Job) → job_in bytes ≡ Ok job → StaysBuilt job new_world
 stays_built-job_in bytes job is_job =
     let fair = read_are_fair bytes job is_job in
-    plain_stays_built job (life_at job) fair (played_job_plain job fair (read_are_played bytes job is_job))
+    eager_stays_built job (life_at job) fair (played_job_eager job fair (read_are_played bytes job is_job))

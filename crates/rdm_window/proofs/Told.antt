@@ -8,7 +8,7 @@ use Rattle.std.proofs.lemmas.Bool.{cases_lt, lt-ltb, le-ltb, le-leb, lt-leb, ltb
 use Rattle.rdm_window.specs.declared.window.Heard.TheVariants.{New, Waiting, Entered}
 use Rattle.rdm_window.specs.Window.{Hearing, none_heard, state_of, after_hear, IsLeastMissing, NextIsTold}
 use Rattle.rdm_window.specs.Marks.{Marks, IsAdvanced, none_marked, with_mark}
-use Rattle.rdm_window.specs.Kept.{is_heard, heard_of, IsWindow}
+use Rattle.rdm_window.specs.HeardFlags.{is_heard, heard_of, IsWindow}
 use Rattle.rdm_window.proofs.Sets.{contains-where, contains-below, where_none, where_insert, and_false}
 
 -- what a window heard

@@ -2,6 +2,6 @@
 pub mod Numbers
 pub mod Window
 pub mod Marks
-pub mod Kept
+pub mod HeardFlags
 pub mod Early
 pub mod Codes

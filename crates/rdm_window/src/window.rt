@@ -29,7 +29,7 @@ pub struct Window {
 
 impl Model for Window {
     ghost use Rattle.rdm_window.specs.Window.{Hearing, hearing_code};
-    ghost use Rattle.rdm_window.specs.Kept.{heard_of, IsWindow};
+    ghost use Rattle.rdm_window.specs.HeardFlags.{heard_of, IsWindow};
 
     ghost Value = { Hearing };
 

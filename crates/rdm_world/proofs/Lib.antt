@@ -8,7 +8,7 @@ pub mod PushSteps
 pub mod HandleSteps
 -- Worlds that are reached, and the rounds:
 pub mod Reached
-pub mod Turning
+pub mod Visiting
 pub mod Trying
 pub mod Settling
 -- Budgets:
@@ -20,6 +20,6 @@ pub mod GatheredOrder
 pub mod GatheredLogs
 pub mod Gathered
 pub mod OwnLogs
-pub mod PlainStays
+pub mod EagerStays
 pub mod Playing
 pub mod Entering

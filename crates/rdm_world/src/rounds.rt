@@ -1,7 +1,7 @@
 //! What goes on after the choices: rounds of all ports.
 ghost use Rattle.std.specs.Prelude.{◌≡◌, ◌<◌, ◌≤◌, length, IfOk, OnOk, IsTrue};
 ghost use Rattle.rdm_model.specs.Jobs.{is_fair, law_ops};
-ghost use Rattle.rdm_model.specs.Played.{handle_any, turn_of, round_of, rounds, round_bound};
+ghost use Rattle.rdm_model.specs.Played.{handle_any, visit_of, round_of, rounds, round_bound};
 ghost use Rattle.rdm_world.specs.Steps.{Makes, Reaches};
 
 use crate::budget::round_budget;
@@ -31,9 +31,9 @@ impl World {
     }
 
     /// A port's part of a round. Says whether anything changed.
-    pub fn turn(&mut self, alloc: Global, rank: u32) -> Result<bool, NoMemory>
+    pub fn visit(&mut self, alloc: Global, rank: u32) -> Result<bool, NoMemory>
         requires { rank < length self.old.ports }
-        ensures does { IfOk result (Makes (λ job w. turn_of job w rank) self.old self.new) }
+        ensures does { IfOk result (Makes (λ job w. visit_of job w rank) self.old self.new) }
         ensures count { length self.new.ports ≡ length self.old.ports }
     {
         let did = self.next(alloc, rank)?;
@@ -51,7 +51,7 @@ impl World {
         let count = self.ports.len() as u32;
         let mut changed = false;
         for rank in 0..count {
-            let one = self.turn(alloc, rank)?;
+            let one = self.visit(alloc, rank)?;
             changed = changed | one;
         }
         Ok(changed)

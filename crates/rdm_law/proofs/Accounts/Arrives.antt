@@ -12,12 +12,12 @@ use Rattle.rdm_model.specs.Scenes.{Scene}
 use Rattle.rdm_model.specs.Lawful.{life_deeds}
 use Rattle.rdm_model.specs.Wire.{IsUnhandled}
 use Rattle.rdm_law.proofs.Lives.Lives.{life_scene}
-use Rattle.rdm_law.proofs.Accounts.Wired.{Played, TakenTurn}
+use Rattle.rdm_law.proofs.Accounts.Wired.{Played, TakenDue}
 
--- a turn of a life to another one whose datagram was not handled, and which the other one takes for what its current life of that port sent
+-- a due item of a life to another one whose datagram was not handled, and which the other one takes for what its current life of that port sent
 pub record Arrives (job : Job) (history : List Entry) (life' from : Life) (item : Item) (d : Datagram) : Type 0 where
   pub played : Played job history
-  pub taken : TakenTurn job history life' from item d
+  pub taken : TakenDue job history life' from item d
   pub fresh : IsUnhandled d history
   pub current : is_other (current (life_deeds job history life') from.port.0) from ≡ false
 

@@ -23,7 +23,7 @@ use Rattle.rdm_model.specs.Lawful.{life_deeds, sent_to, IsPartOf, IsApart}
 use Rattle.rdm_model.specs.Wire.{Comes}
 use Rattle.rdm_model.proofs.SameMatches.{pairs_same, carried_pieces_same}
 use Rattle.rdm_law.proofs.Lives.Lives.{life_of, LifeStep}
-use Rattle.rdm_law.proofs.Accounts.Wired.{Played, TakenTurn, act_took, taken_to, pushed_taken}
+use Rattle.rdm_law.proofs.Accounts.Wired.{Played, TakenDue, act_took, taken_to, pushed_taken}
 use Rattle.rdm_law.proofs.Accounts.Carried.{carried_parts}
 use Rattle.rdm_law.proofs.Classes.Landed.{carried_new}
 use Rattle.rdm_law.proofs.Accounts.Known.{account}
@@ -38,11 +38,11 @@ CarriesAt job life' ns log d =
     → IsPartOf x (ns.bytes source n) × IsApart x (carried_pieces (own_of job life').limits.first ns.head log source n)
 
 -- what was handled by the life that is open
-taken_turn : (job : Job) (before : List Entry) (e : Entry) (c : Connid) (source : Life) (item : Item) → Played job before → Comes before e e.act
+taken_due : (job : Job) (before : List Entry) (e : Entry) (c : Connid) (source : Life) (item : Item) → Played job before → Comes before e e.act
     → open_life (deeds_at job e.port.0 (log_of e.port.0 before)) ≡ Some c
     → Does job class_of (own_scene job e.port.0 (deeds_at job e.port.0 (log_of e.port.0 before))) (log_of e.port.0 before) e e.act
-    → deed_of (rank_of job e.port.0).ops e.act ≡ Took source item → (d : Datagram) × TakenTurn job before (life_of e.port.0 c) source item d
-taken_turn job before e c source item played comes now does is =
+    → deed_of (rank_of job e.port.0).ops e.act ≡ Took source item → (d : Datagram) × TakenDue job before (life_of e.port.0 c) source item d
+taken_due job before e c source item played comes now does is =
     let r = act_took (rank_of job e.port.0).ops e.act source item is in
     let t = taken_to job e.port.0 c r.2 source item e (log_of e.port.0 before) r.0 r.1 now does r.3 r.4 in
     let C : Act → Type 0 = λ act. Comes before e act in
@@ -66,7 +66,7 @@ carries_open job before e c played are comes now does step source n x is =
     let a = agree_sent job before life' played are in
     let mine = subst (λ (ps : List Pair). carried_by ps source n d ≡ Some x) (sym (pairs_same first ms.head ns.head log a.heads)) is in
     let p = carried_parts (pairs first ms.head log) source n d x mine in
-    let t = taken_turn job before e c source p.0 played comes now does p.1 in
+    let t = taken_due job before e c source p.0 played comes now does p.1 in
     let piece = item_piece job before life' source n x p.0 t.0 played t.1 (brought_piece (pairs_of job before life') source n p.0 x p.2) in
     let bytes = (known_placed job before life' source n are piece.known).1 in
     let apart = carried_new own d log source n x step mine in (

@@ -23,16 +23,16 @@ use Rattle.rdm_model.specs.Owns.{Own, Messages, own_of}
 use Rattle.rdm_model.specs.Sends.{Sent}
 use Rattle.rdm_model.specs.Grants.{Grant, grants}
 use Rattle.rdm_model.specs.Replies.{Reply, asks_for}
-use Rattle.rdm_model.specs.Turns.{Sends, Replies}
+use Rattle.rdm_model.specs.Dues.{Sends, Replies}
 use Rattle.rdm_model.specs.Lawful.{life_deeds}
 use Rattle.rdm_model.proofs.Sending.{DataPush, grant_taken}
 use Rattle.rdm_law.proofs.Matching.Numbered.{matching_numbered}
 use Rattle.rdm_law.proofs.Replies.Asks.{asks_for_recv}
 use Rattle.rdm_law.proofs.Replies.Owed.{OwedIn, shape_in, recv_in}
 use Rattle.rdm_law.proofs.Replies.Causes.{OfGiven, owed_given}
-use Rattle.rdm_law.proofs.Lives.Lives.{TurnedAt}
-use Rattle.rdm_law.proofs.Accounts.Turned.{turn_data, turn_member}
-use Rattle.rdm_law.proofs.Accounts.Wired.{Played, TakenTurn}
+use Rattle.rdm_law.proofs.Lives.Lives.{WasDueAt}
+use Rattle.rdm_law.proofs.Accounts.WasDue.{due_data, due_member}
+use Rattle.rdm_law.proofs.Accounts.Wired.{Played, TakenDue}
 use Rattle.rdm_law.proofs.Accounts.Went.{went}
 use Rattle.rdm_law.proofs.Accounts.Known.{account, sends_of, Known}
 use Rattle.rdm_law.proofs.Accounts.Named.{pairs_of, pair_known, grant_pair, ask_pair, head_shape, long_send, AskOf, ask_of, send_number, one_send, went_given}
@@ -57,14 +57,14 @@ owed_data own ms (d ∷ before) r recv offset connid bytes (inl (inr (inr (inr (
 -- granted bytes: a send of their life to the other one, and the grant that names the receive
 pub record DataWent (job : Job) (history : List Entry) (life' from : Life) (recv : OpId) (offset : ℕ) (connid : Connid) (bytes : List ℕ) (k : ℕ) : Type 0 where
   pub sent : Sent
-  pub turned : TurnedAt (own_of job from) (Sends sent (CtsData recv offset connid bytes)) k (life_deeds job history from)
+  pub was_due : WasDueAt (own_of job from) (Sends sent (CtsData recv offset connid bytes)) k (life_deeds job history from)
   pub member : Member sent (sends_of job history from)
   pub to_is : sent.to ≡ life'
   pub push : DataPush (own_of job from) (life_deeds job history from) sent (CtsData recv offset connid bytes)
 
 -- granted bytes that went to a life are of a send
 pub data_went : (job : Job) (history : List Entry) (life' from : Life) (recv : OpId) (offset : ℕ) (connid : Connid) (bytes : List ℕ) (d : Datagram)
-    (t : TakenTurn job history life' from (Spelled (CtsData recv offset connid bytes)) d) → DataWent job history life' from recv offset connid bytes t.place
+    (t : TakenDue job history life' from (Spelled (CtsData recv offset connid bytes)) d) → DataWent job history life' from recv offset connid bytes t.place
 data_went job history life' from recv offset connid bytes d t =
     let own = own_of job from in
     let log = life_deeds job history from in
@@ -72,14 +72,14 @@ data_went job history life' from recv offset connid bytes d t =
       | inl s ↦
           let is = s.is in
           let e : s.packet ≡ CtsData recv offset connid bytes = cc in
-          let turned : TurnedAt own (Sends s.sent (CtsData recv offset connid bytes)) t.place log =
-          subst (λ (x : Packet). TurnedAt own (Sends s.sent x) t.place log) e s.turned in
+          let was_due : WasDueAt own (Sends s.sent (CtsData recv offset connid bytes)) t.place log =
+          subst (λ (x : Packet). WasDueAt own (Sends s.sent x) t.place log) e s.was_due in
           record {
             sent = s.sent;
-            turned = turned;
-            member = turn_member own s.sent (CtsData recv offset connid bytes) t.place log turned;
+            was_due = was_due;
+            member = due_member own s.sent (CtsData recv offset connid bytes) t.place log was_due;
             to_is = s.to_is;
-            push = turn_data own s.sent recv offset connid bytes t.place log turned;
+            push = due_data own s.sent recv offset connid bytes t.place log was_due;
           }
       | inr r ↦ absurd (owed_data own (account job history from) log r.reply recv offset connid bytes r.owed r.is)
     ]
@@ -159,19 +159,19 @@ data_known job history life' from recv offset connid bytes k played w =
 -- what is given: a send of its life to the other one, and the ask that it answers
 pub record GivenWent (job : Job) (history : List Entry) (life' from : Life) (g : ReadData) (k : ℕ) : Type 0 where
   pub reply : Reply
-  pub turned : TurnedAt (own_of job from) (Replies reply) k (life_deeds job history from)
+  pub was_due : WasDueAt (own_of job from) (Replies reply) k (life_deeds job history from)
   pub to_is : reply.to ≡ life'
   pub item_is : reply.item ≡ Gives g
   pub of : OfGiven (own_of job from) (account job history from) (life_deeds job history from) reply g
 
 -- what was given to a life answers its ask
-pub given_went : (job : Job) (history : List Entry) (life' from : Life) (g : ReadData) (d : Datagram) (t : TakenTurn job history life' from (Gives g) d)
+pub given_went : (job : Job) (history : List Entry) (life' from : Life) (g : ReadData) (d : Datagram) (t : TakenDue job history life' from (Gives g) d)
     → GivenWent job history life' from g t.place
 given_went job history life' from g d t =
     let r = went_given job history life' from g d t in
     record {
       reply = r.reply;
-      turned = r.turned;
+      was_due = r.was_due;
       to_is = r.to_is;
       item_is = r.is;
       of = owed_given (own_of job from) (account job history from) (life_deeds job history from) r.reply g r.owed r.is;

@@ -21,14 +21,14 @@ use Rattle.rdm_model.specs.Owns.{Own, Messages, own_of}
 use Rattle.rdm_model.specs.Heard.{head_by, heard_head}
 use Rattle.rdm_model.specs.Replies.{Reply}
 use Rattle.rdm_model.specs.Sends.{Sent, sends, sends_to}
-use Rattle.rdm_model.specs.Turns.{Sends}
+use Rattle.rdm_model.specs.Dues.{Sends}
 use Rattle.rdm_model.specs.Local.{heard_by}
 use Rattle.rdm_model.specs.Lawful.{life_deeds}
 use Rattle.rdm_model.proofs.Numbers.{placed}
 use Rattle.rdm_law.proofs.Replies.Owed.{OwedIn}
-use Rattle.rdm_law.proofs.Accounts.Wired.{Played, TakenTurn, taken_pushed}
-use Rattle.rdm_law.proofs.Accounts.Turned.{turn_member, turn_rtm}
-use Rattle.rdm_law.proofs.Lives.Lives.{TurnedAt}
+use Rattle.rdm_law.proofs.Accounts.Wired.{Played, TakenDue, taken_pushed}
+use Rattle.rdm_law.proofs.Accounts.WasDue.{due_member, due_rtm}
+use Rattle.rdm_law.proofs.Lives.Lives.{WasDueAt}
 use Rattle.rdm_law.proofs.Accounts.Went.{SentIt, went}
 use Rattle.rdm_lists.proofs.Options.{or_else_cases, then_some_parts}
 use Rattle.rdm_num.proofs.Lives.{same_life-true}
@@ -122,7 +122,7 @@ pub record Opened (job : Job) (history : List Entry) (life' source : Life) (numb
   pub head_is : head_of tag opt form ≡ message_head job.limits known.sent.message known.sent.kind
   pub tag_is : tag ≡ known.sent.message.tag
   pub opt_is : opt ≡ known.sent.message.opt
-  pub turned : TurnedAt (own_of job source) (Sends known.sent (Rtm number tag opt form)) k (life_deeds job history source)
+  pub was_due : WasDueAt (own_of job source) (Sends known.sent (Rtm number tag opt form)) k (life_deeds job history source)
 
 -- a packet that opens a message, by the send that it is of
 opened_by : (job : Job) (history : List Entry) (life' source : Life) (number : MsgNo) (tag : Option ℕ) (opt : Opt) (form : Form) (k : ℕ)
@@ -134,24 +134,24 @@ opened_by job history life' source number tag opt form k s =
     let log = life_deeds job history source in
     let is = s.is in
     let e : s.packet ≡ Rtm number tag opt form = cc in
-    let turned : TurnedAt own (Sends s.sent (Rtm number tag opt form)) k log = subst (λ (x : Packet). TurnedAt own (Sends s.sent x) k log) e s.turned in
-    let r = turn_rtm own s.sent number tag opt form k log turned in
+    let was_due : WasDueAt own (Sends s.sent (Rtm number tag opt form)) k log = subst (λ (x : Packet). WasDueAt own (Sends s.sent x) k log) e s.was_due in
+    let r = due_rtm own s.sent number tag opt form k log was_due in
     record {
       known = record {
         sent = s.sent;
-        member = turn_member own s.sent s.packet k log s.turned;
+        member = due_member own s.sent s.packet k log s.was_due;
         to_is = s.to_is;
         number_is = ap (λ (x : MsgNo). x.0) (sym r.0);
       };
       head_is = r.3;
       tag_is = r.1;
       opt_is = r.2;
-      turned = turned;
+      was_due = was_due;
     }
 
 -- a packet that opens a message and went to a life is of a send
 pub opened : (job : Job) (history : List Entry) (life' source : Life) (number : MsgNo) (tag : Option ℕ) (opt : Opt) (form : Form) (d : Datagram)
-    (t : TakenTurn job history life' source (Spelled (Rtm number tag opt form)) d) → Opened job history life' source number tag opt form t.place
+    (t : TakenDue job history life' source (Spelled (Rtm number tag opt form)) d) → Opened job history life' source number tag opt form t.place
 opened job history life' source number tag opt form d t =
     elim (went job history life' source (Spelled (Rtm number tag opt form)) d t) [
       | inl s ↦ opened_by job history life' source number tag opt form t.place s

@@ -1,7 +1,7 @@
 -- What a life took was pushed by the life that it names, so what it knows agrees with what was sent.
 pub mod Pushed
 pub mod Wired
-pub mod Turned
+pub mod WasDue
 pub mod Went
 pub mod Known
 pub mod Named

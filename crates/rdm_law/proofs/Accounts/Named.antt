@@ -25,7 +25,7 @@ use Rattle.rdm_model.specs.Heard.{heard_head}
 use Rattle.rdm_model.specs.Matches.{pairs}
 use Rattle.rdm_model.specs.Sends.{Sent}
 use Rattle.rdm_model.specs.Replies.{asks_for}
-use Rattle.rdm_model.specs.Turns.{Sends, is_read}
+use Rattle.rdm_model.specs.Dues.{Sends, is_read}
 use Rattle.rdm_model.specs.Named.{read_from, is_in_iov}
 use Rattle.rdm_model.specs.Local.{heard_by}
 use Rattle.rdm_model.specs.Lawful.{life_deeds}
@@ -35,9 +35,9 @@ use Rattle.rdm_model.proofs.Numbers.{made, sent_is_of, sends_one}
 use Rattle.rdm_model.proofs.Opens.{opening_is}
 use Rattle.rdm_law.proofs.Replies.Asks.{iov_bytes, asks_from_parts}
 use Rattle.rdm_law.proofs.Replies.Causes.{OfAsk, OfCts, owed_ask, owed_cts}
-use Rattle.rdm_law.proofs.Lives.Lives.{TurnedAt}
-use Rattle.rdm_law.proofs.Accounts.Turned.{turn_is}
-use Rattle.rdm_law.proofs.Accounts.Wired.{Played, TakenTurn, taken_pushed}
+use Rattle.rdm_law.proofs.Lives.Lives.{WasDueAt}
+use Rattle.rdm_law.proofs.Accounts.WasDue.{due_is}
+use Rattle.rdm_law.proofs.Accounts.Wired.{Played, TakenDue, taken_pushed}
 use Rattle.rdm_law.proofs.Accounts.Went.{RepliedIt, went}
 use Rattle.rdm_law.proofs.Accounts.Known.{account, sends_of, Known, known_head}
 
@@ -73,16 +73,16 @@ IsOfSend (Eor send recv connid) = ⊥
 IsOfSend (Handshake words connid) = ⊥
 
 -- what is pushed of a send opens its message or is granted
-pub of_send : (own : Own) (s : Sent) (p : Packet) (k : ℕ) (log : List Deed) → TurnedAt own (Sends s p) k log → IsOfSend p
+pub of_send : (own : Own) (s : Sent) (p : Packet) (k : ℕ) (log : List Deed) → WasDueAt own (Sends s p) k log → IsOfSend p
 of_send own s p k log h =
     let P : Packet → Type 0 = λ x. IsOfSend x in
-    elim (turn_is own s p k log h) [
+    elim (due_is own s p k log h) [
       | inl a ↦ subst P (sym (opening_is own.limits s.message s.kind p a).is) tt
       | inr a ↦ subst P (sym a.is) tt
     ]
 
 -- what is no packet of a send was a reply
-pub went_reply : (job : Job) (history : List Entry) (life' from : Life) (p : Packet) (d : Datagram) (t : TakenTurn job history life' from (Spelled p) d) → (IsOfSend p → ⊥)
+pub went_reply : (job : Job) (history : List Entry) (life' from : Life) (p : Packet) (d : Datagram) (t : TakenDue job history life' from (Spelled p) d) → (IsOfSend p → ⊥)
     → RepliedIt (own_of job from) (life_deeds job history from) life' (Spelled p) t.place
 went_reply job history life' from p d t no' =
     elim (went job history life' from (Spelled p) d t) [
@@ -90,17 +90,17 @@ went_reply job history life' from p d t no' =
           let is = s.is in
           let e : s.packet ≡ p = cc in
           let P : Packet → Type 0 = λ x. IsOfSend x in
-          absurd (no' (subst P e (of_send (own_of job from) s.sent s.packet t.place (life_deeds job history from) s.turned)))
+          absurd (no' (subst P e (of_send (own_of job from) s.sent s.packet t.place (life_deeds job history from) s.was_due)))
       | inr r ↦ r
     ]
 
 -- no packet is an ask or an answer to one
-pub went_ask : (job : Job) (history : List Entry) (life' from : Life) (a : ReadAsk) (d : Datagram) (t : TakenTurn job history life' from (Asks a) d)
+pub went_ask : (job : Job) (history : List Entry) (life' from : Life) (a : ReadAsk) (d : Datagram) (t : TakenDue job history life' from (Asks a) d)
     → RepliedIt (own_of job from) (life_deeds job history from) life' (Asks a) t.place
 went_ask job history life' from a d t = elim (went job history life' from (Asks a) d t) [ inl s ↦ (let is = s.is in cc) | inr r ↦ r ]
 
 -- so is what is given
-pub went_given : (job : Job) (history : List Entry) (life' from : Life) (g : ReadData) (d : Datagram) (t : TakenTurn job history life' from (Gives g) d)
+pub went_given : (job : Job) (history : List Entry) (life' from : Life) (g : ReadData) (d : Datagram) (t : TakenDue job history life' from (Gives g) d)
     → RepliedIt (own_of job from) (life_deeds job history from) life' (Gives g) t.place
 went_given job history life' from g d t = elim (went job history life' from (Gives g) d t) [ inl s ↦ (let is = s.is in cc) | inr r ↦ r ]
 

@@ -22,13 +22,13 @@ use Rattle.rdm_model.specs.Deeds.{Item, Spelled, Gives}
 use Rattle.rdm_model.specs.Owns.{own_of}
 use Rattle.rdm_model.specs.Parts.{piece_by}
 use Rattle.rdm_model.specs.Sends.{Sent}
-use Rattle.rdm_model.specs.Turns.{Sends, packet_piece}
+use Rattle.rdm_model.specs.Dues.{Sends, packet_piece}
 use Rattle.rdm_model.specs.Lawful.{life_deeds}
 use Rattle.rdm_model.proofs.Matches.{is_pair_member}
 use Rattle.rdm_model.proofs.Cuts.{Part, front_part}
-use Rattle.rdm_law.proofs.Lives.Lives.{TurnedAt}
-use Rattle.rdm_law.proofs.Accounts.Turned.{turn_part}
-use Rattle.rdm_law.proofs.Accounts.Wired.{Played, TakenTurn}
+use Rattle.rdm_law.proofs.Lives.Lives.{WasDueAt}
+use Rattle.rdm_law.proofs.Accounts.WasDue.{due_part}
+use Rattle.rdm_law.proofs.Accounts.Wired.{Played, TakenDue}
 use Rattle.rdm_law.proofs.Accounts.Known.{Known, opened}
 use Rattle.rdm_law.proofs.Accounts.Named.{pairs_of}
 use Rattle.rdm_law.proofs.Accounts.Chains.{pair_one, data_went, data_known, GivenWent, given_went, given_known}
@@ -37,7 +37,7 @@ use Rattle.rdm_lists.proofs.Options.{then_some_parts}
 -- bytes of a message that went in a packet of its send
 abbrev pub SentPiece : (job : Job) (history : List Entry) (from : Life) → Sent → Piece → ℕ → Type 0
 SentPiece job history from s x k =
-    (packet : Packet) × TurnedAt (own_of job from) (Sends s packet) k (life_deeds job history from) × (packet_piece packet ≡ Some x)
+    (packet : Packet) × WasDueAt (own_of job from) (Sends s packet) k (life_deeds job history from) × (packet_piece packet ≡ Some x)
 
 -- bytes of a message that were given
 pub record GivenPiece (job : Job) (history : List Entry) (life' from : Life) (s : Sent) (x : Piece) (k : ℕ) : Type 0 where
@@ -58,9 +58,9 @@ known_at job history life' from m n e k = record { sent = k.sent; member = k.mem
 
 -- bytes in a packet of a send are a part of its message
 sent_piece : (job : Job) (history : List Entry) (life' from : Life) (n : ℕ) (known : Known job history life' from n) (p : Packet) (x : Piece) (k : ℕ)
-    → TurnedAt (own_of job from) (Sends known.sent p) k (life_deeds job history from) → packet_piece p ≡ Some x → PieceOf job history life' from n x k
+    → WasDueAt (own_of job from) (Sends known.sent p) k (life_deeds job history from) → packet_piece p ≡ Some x → PieceOf job history life' from n x k
 sent_piece job history life' from n known p x k t h =
-    record { known = known; part = turn_part (own_of job from) known.sent p x k (life_deeds job history from) t h; how = inl (p, t, h) }
+    record { known = known; part = due_part (own_of job from) known.sent p x k (life_deeds job history from) t h; how = inl (p, t, h) }
 
 -- a value that a test gives, or none
 cond_none : {A : Type 0} (t : Bool) (o : Option A) (x : A) → cond t o None ≡ Some x → (t ≡ true) × (o ≡ Some x)
@@ -87,21 +87,21 @@ found_number job history life' from recv n p m r h =
 
 -- the bytes of a message that an item has are a part of what was sent
 pub item_piece : (job : Job) (history : List Entry) (life' from : Life) (n : ℕ) (x : Piece) (item : Item) (d : Datagram) → Played job history
-    → (t : TakenTurn job history life' from item d) → piece_by (pairs_of job history life') from n item ≡ Some x → PieceOf job history life' from n x t.place
+    → (t : TakenDue job history life' from item d) → piece_by (pairs_of job history life') from n item ≡ Some x → PieceOf job history life' from n x t.place
 unfolding piece_by
 item_piece job history life' from n x (Spelled (Rtm number tag opt form)) d played t h =
     let o = opened job history life' from number tag opt form d t in
     let c = cond_none (nat_eq number.0 n) (piece_of form) x h in
     let known = known_at job history life' from number.0 n (eqb-true number.0 n c.0) o.known in
-    sent_piece job history life' from n known (Rtm number tag opt form) x t.place o.turned (rtm_piece number tag opt form ∙ c.1)
+    sent_piece job history life' from n known (Rtm number tag opt form) x t.place o.was_due (rtm_piece number tag opt form ∙ c.1)
 item_piece job history life' from n x (Spelled (CtsData recv offset connid bytes)) d played t h =
     let w = data_went job history life' from recv offset connid bytes d t in
     let g = data_known job history life' from recv offset connid bytes t.place played w in
     let c = then_some_parts (is_pair (pairs_of job history life') recv.0 from n) (record { offset = offset; bytes = bytes }) x h in
     let number = found_number job history life' from recv.0 n g.pair g.member g.recv_is c.0 in
     let known = known_at job history life' from g.pair.message.no.0 n number g.known in
-    let turned = subst (λ (s : Sent). TurnedAt (own_of job from) (Sends s (CtsData recv offset connid bytes)) t.place (life_deeds job history from)) (sym g.sent_is) w.turned in
-    sent_piece job history life' from n known (CtsData recv offset connid bytes) x t.place turned (data_piece recv offset connid bytes ∙ ap Some c.1)
+    let was_due = subst (λ (s : Sent). WasDueAt (own_of job from) (Sends s (CtsData recv offset connid bytes)) t.place (life_deeds job history from)) (sym g.sent_is) w.was_due in
+    sent_piece job history life' from n known (CtsData recv offset connid bytes) x t.place was_due (data_piece recv offset connid bytes ∙ ap Some c.1)
 item_piece job history life' from n x (Gives g) d played t h =
     let w = given_went job history life' from g d t in
     let a = given_known job history life' from g t.place played w in

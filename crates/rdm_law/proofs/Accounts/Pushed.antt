@@ -1,4 +1,4 @@
--- The datagrams that a port pushed, and the turns of its lives.
+-- The datagrams that a port pushed, and the due items of its lives.
 use Rattle.std.proofs.Common.{◌≡◌, ℕ, ◌<◌, ◌≤◌, List, [], ◌∷◌, length, Option, Some, None, refl, arith, ◌⊎◌, inl, inr, sym, ◌∙◌, ap, subst}
 use Rattle.rdm_num.specs.declared.numbers.PortNo.{PortNo}
 use Rattle.rdm_num.specs.declared.numbers.Connid.{Connid}
@@ -12,14 +12,14 @@ use Rattle.rdm_model.specs.declared.entry.Act.TheVariants.{Push}
 use Rattle.rdm_model.specs.Deeds.{Deed, Pushed, Item, deed_by_push, deed_of, deeds, open_life, of_life}
 use Rattle.rdm_model.specs.Owns.{Own, rank_of, port_count, own_of}
 use Rattle.rdm_model.specs.Notes.{next_note}
-use Rattle.rdm_model.specs.Turns.{Turn, turn}
+use Rattle.rdm_model.specs.Dues.{Due, due}
 use Rattle.rdm_model.specs.Scenes.{Scene, scene, deeds_at}
-use Rattle.rdm_model.specs.Going.{Goes, turn_going, Bears, IsNext, going, GoesNote, Going, life_going, IsGoing}
+use Rattle.rdm_model.specs.Going.{Goes, due_going, Bears, IsNext, going, GoesNote, Going, life_going, IsGoing}
 use Rattle.rdm_model.specs.Classes.{class_of}
 use Rattle.rdm_model.specs.Steps.{Does}
 use Rattle.rdm_model.specs.Local.{heard_by, own_scene, Local}
 use Rattle.rdm_model.specs.Wire.{PushedIn}
-use Rattle.rdm_law.proofs.Lives.Lives.{life_of, note_goes, life_scene, TurnedAt, at_of_life, is_connid-from, opened_scene, push_is}
+use Rattle.rdm_law.proofs.Lives.Lives.{life_of, note_goes, life_scene, WasDueAt, at_of_life, is_connid-from, opened_scene, push_is}
 
 -- the datagram was pushed after so many deeds of the life that it names
 abbrev pub PlacedAt : Job → ℕ → Connid → Datagram → ℕ → List Entry → Type 0
@@ -59,32 +59,32 @@ placed_once job port from c d k (e ∷ before) (inl g) (inr h) = let b = placed_
 placed_once job port from c d k (e ∷ before) (inr g) (inl h) = let b = placed_below job port from c k before g in absurd (omega arith)
 placed_once job port from c d k (e ∷ before) (inr g) (inr h) = placed_once job port from c d k before g h
 
--- a push between lives: its turn, and after how many deeds of its life it came
-pub record PushedTurn (job : Job) (port : ℕ) (from : Connid) (to : Life) (load : Load) (d : Datagram) (log : List Entry) : Type 0 where
-  pub turn' : Turn
+-- a push between lives: its due item, and after how many deeds of its life it came
+pub record PushedDue (job : Job) (port : ℕ) (from : Connid) (to : Life) (load : Load) (d : Datagram) (log : List Entry) : Type 0 where
+  pub due' : Due
   pub place : ℕ
   pub item : Item
-  pub turned : TurnedAt (own_of job (life_of port from)) turn' place (of_life from (deeds_at job port log))
+  pub was_due : WasDueAt (own_of job (life_of port from)) due' place (of_life from (deeds_at job port log))
   pub placed : PlacedAt job port from d place log
-  pub gives : turn_going (Some turn') ≡ Some (Goes to item)
+  pub gives : due_going (Some due') ≡ Some (Goes to item)
   pub bears : Bears item load
 
--- the newest deed pushes the turn that was next
-turned_newest : (own : Own) (t : Turn) (k : ℕ) (log : List Deed) (d : Deed) → d ≡ Pushed → turn own (heard_by own.limits.first log) log ≡ Some t → k ≡ length log
-    → TurnedAt own t k (d ∷ log)
-turned_newest own t k log d p h e = inl (p, h, e)
+-- the newest deed pushes the due item that was next
+was_due_newest : (own : Own) (t : Due) (k : ℕ) (log : List Deed) (d : Deed) → d ≡ Pushed → due own (heard_by own.limits.first log) log ≡ Some t → k ≡ length log
+    → WasDueAt own t k (d ∷ log)
+was_due_newest own t k log d p h e = inl (p, h, e)
 
 -- what was pushed stays so
 pushed_longer : (job : Job) (port : ℕ) (from : Connid) (to : Life) (load : Load) (d : Datagram) (e : Entry) (before : List Entry)
-    → PushedTurn job port from to load d before → PushedTurn job port from to load d (e ∷ before)
+    → PushedDue job port from to load d before → PushedDue job port from to load d (e ∷ before)
 unfolding deeds_at deeds
 pushed_longer job port from to load d e before p =
     record {
-      turn' = p.turn';
+      due' = p.due';
       place = p.place;
       item = p.item;
-      turned = at_of_life (λ log. TurnedAt (own_of job (life_of port from)) p.turn' p.place log) from (deed_of (rank_of job port).ops e.act) (deeds_at job port before)
-          (λ s. inr p.turned) (λ s. p.turned);
+      was_due = at_of_life (λ log. WasDueAt (own_of job (life_of port from)) p.due' p.place log) from (deed_of (rank_of job port).ops e.act) (deeds_at job port before)
+          (λ s. inr p.was_due) (λ s. p.was_due);
       placed = inr p.placed;
       gives = p.gives;
       bears = p.bears;
@@ -121,11 +121,11 @@ own_now job port log c h = h
 same_life_parts : (l : Life) (p : PortNo) (c : Connid) → p ≡ l.port → c ≡ l.connid → ◌≡◌ {A = Life} l (record { port = p; connid = c })
 same_life_parts l p c h k = rw (h, k) refl
 
--- a push of an open life is its turn, at the count of its deeds
+-- a push of an open life is its due item, at the count of its deeds
 pushed_by : (job : Job) (port : ℕ) (c from to : Connid) (load : Load) (d : Datagram) (e : Entry) (before : List Entry) → e.port.0 ≡ port → e.act ≡ Push d
     → d.body ≡ Between from to load → open_life (deeds_at job port before) ≡ Some c
     → IsNext (life_scene (port_count job) (own_of job (life_of port c)) (deeds_at job port before) (of_life c (deeds_at job port before))) d
-    → PushedTurn job port from (record { port = d.dst; connid = to }) load d (e ∷ before)
+    → PushedDue job port from (record { port = d.dst; connid = to }) load d (e ∷ before)
 unfolding deed_of deed_by_push own_of
 pushed_by job port c from to load d e before p a b now n =
     let own = own_of job (life_of port c) in
@@ -135,29 +135,29 @@ pushed_by job port c from to load d e before p a b now n =
     let f : from ≡ c = is.from_is in
     let dest : is.dest ≡ record { port = d.dst; connid = to } = (let u = is.dst_is in let v = is.to_is in same_life_parts is.dest d.dst to u v) in
     let deed : deed_of (rank_of job port).ops e.act ≡ Pushed = ap (λ x. deed_of (rank_of job port).ops x) a ∙ ap (λ x. deed_by_push x) b in
-    let turned : TurnedAt own is.out.turn' (length log) (of_life c (deeds_at job port (e ∷ before))) =
-    subst (λ l. TurnedAt own is.out.turn' (length log) l) (sym (of_life_newest job port c e before now)) (inl (deed, is.out.is, refl)) in
+    let was_due : WasDueAt own is.out.due' (length log) (of_life c (deeds_at job port (e ∷ before))) =
+    subst (λ l. WasDueAt own is.out.due' (length log) l) (sym (of_life_newest job port c e before now)) (inl (deed, is.out.is, refl)) in
     record {
-      turn' = is.out.turn';
+      due' = is.out.due';
       place = length log;
       item = is.item;
-      turned = subst (λ (y : Connid). TurnedAt (own_of job (life_of port y)) is.out.turn' (length log) (of_life y (deeds_at job port (e ∷ before)))) (sym f) turned;
+      was_due = subst (λ (y : Connid). WasDueAt (own_of job (life_of port y)) is.out.due' (length log) (of_life y (deeds_at job port (e ∷ before)))) (sym f) was_due;
       placed = inl (a, now ∙ ap Some (sym f), ap (λ (y : Connid). length (of_life y port_log)) (sym f));
-      gives = subst (λ (y : Life). turn_going (Some is.out.turn') ≡ Some (Goes y is.item)) dest is.out.gives;
+      gives = subst (λ (y : Life). due_going (Some is.out.due') ≡ Some (Goes y is.item)) dest is.out.gives;
       bears = is.bears;
     }
 
--- a datagram between lives that a port pushed was a turn of the life that it names
-pub pushed_turn : (job : Job) (port : ℕ) (from to : Connid) (load : Load) (d : Datagram) (log : List Entry) → Local job port log → PushedIn d log
-    → d.body ≡ Between from to load → (d.src.0 ≡ port) × PushedTurn job port from (record { port = d.dst; connid = to }) load d log
-pushed_turn job port from to load d [] l h b = elim h [ ]
-pushed_turn job port from to load d (e ∷ before) l (inl is) b =
+-- a datagram between lives that a port pushed was a due item of the life that it names
+pub pushed_due : (job : Job) (port : ℕ) (from to : Connid) (load : Load) (d : Datagram) (log : List Entry) → Local job port log → PushedIn d log
+    → d.body ≡ Between from to load → (d.src.0 ≡ port) × PushedDue job port from (record { port = d.dst; connid = to }) load d log
+pushed_due job port from to load d [] l h b = elim h [ ]
+pushed_due job port from to load d (e ∷ before) l (inl is) b =
     let port_log = deeds_at job port before in
     let does : Does job class_of (own_scene job port port_log) before e (Push d) = subst (λ x. Does job class_of (own_scene job port port_log) before e x) is l.2.2 in
     let open' = open_push (own_scene job port port_log) d from to load b does.3 in
     let now = own_now job port port_log open'.0 open'.1 in
     let next = subst (λ x. IsNext x d) (opened_scene job port open'.0 port_log now) does.3 in
     (ap (λ (x : PortNo). x.0) does.0 ∙ l.1, pushed_by job port open'.0 from to load d e before l.1 is b now next)
-pushed_turn job port from to load d (e ∷ before) l (inr h) b =
-    let r = pushed_turn job port from to load d before l.0 h b in
+pushed_due job port from to load d (e ∷ before) l (inr h) b =
+    let r = pushed_due job port from to load d before l.0 h b in
     (r.0, pushed_longer job port from (record { port = d.dst; connid = to }) load d e before r.1)

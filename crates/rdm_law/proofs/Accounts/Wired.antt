@@ -26,9 +26,9 @@ use Rattle.rdm_model.specs.declared.entry.Act.TheVariants.{Next, Push, Handle, P
 use Rattle.rdm_model.specs.Deeds.{Took, Item, Spelled, Asks, Gives, Garbled, item_of, packet_item, deed_by_next, deed_by_push, deed_by_handle, deed_of, deeds, log_of, open_life, is_connid, of_life}
 use Rattle.rdm_model.specs.Owns.{rank_of, port_count, own_of}
 use Rattle.rdm_model.specs.Jobs.{is_fair, law_ops}
-use Rattle.rdm_model.specs.Turns.{Turn}
+use Rattle.rdm_model.specs.Dues.{Due}
 use Rattle.rdm_model.specs.Scenes.{Scene, deeds_at}
-use Rattle.rdm_model.specs.Going.{Goes, turn_going, Bears}
+use Rattle.rdm_model.specs.Going.{Goes, due_going, Bears}
 use Rattle.rdm_model.specs.Classes.{item_class, body_class, class_of}
 use Rattle.rdm_model.specs.Takes.{handled_answer}
 use Rattle.rdm_model.specs.Steps.{Does}
@@ -36,8 +36,8 @@ use Rattle.rdm_model.specs.Local.{own_scene, Local}
 use Rattle.rdm_model.specs.Lawful.{life_deeds, port_deeds}
 use Rattle.rdm_model.specs.Wire.{PushedIn, IsOther, IsUnhandled, Comes, Wire}
 use Rattle.rdm_law.proofs.Lives.Logs.{at_log_of, local_before}
-use Rattle.rdm_law.proofs.Lives.Lives.{life_of, life_scene, LifeLocal, TurnedAt, life_local, at_of_life, opened_scene, item_to, taken_class}
-use Rattle.rdm_law.proofs.Accounts.Pushed.{PlacedAt, PushedTurn, pushed_turn}
+use Rattle.rdm_law.proofs.Lives.Lives.{life_of, life_scene, LifeLocal, WasDueAt, life_local, at_of_life, opened_scene, item_to, taken_class}
+use Rattle.rdm_law.proofs.Accounts.Pushed.{PlacedAt, PushedDue, pushed_due}
 use Rattle.rdm_num.proofs.Lives.{port_is, connid_is}
 
 -- logs that are right by themselves, of a fair job, on a wire that delivers once
@@ -208,13 +208,13 @@ bears_item (Gives g) (PacketLoad bytes) b = elim b [ ]
 bears_item (Gives g) (Ask x) b = elim b [ ]
 bears_item Garbled load b = elim b [ ]
 
--- what a life took was a turn of the life that it names
-pub record TakenTurn (job : Job) (history : List Entry) (life' from : Life) (item : Item) (d : Datagram) : Type 0 where
-  pub turn' : Turn
+-- what a life took was a due item of the life that it names
+pub record TakenDue (job : Job) (history : List Entry) (life' from : Life) (item : Item) (d : Datagram) : Type 0 where
+  pub due' : Due
   pub place : ℕ
-  pub turned : TurnedAt (own_of job from) turn' place (life_deeds job history from)
+  pub was_due : WasDueAt (own_of job from) due' place (life_deeds job history from)
   pub placed : PlacedAt job from.port.0 from.connid d place (log_of from.port.0 history)
-  pub gives : turn_going (Some turn') ≡ Some (Goes life' item)
+  pub gives : due_going (Some due') ≡ Some (Goes life' item)
 
 -- lives of one port and identifier are one
 same_life_parts : (p q : PortNo) (c d : Connid) → p ≡ q → c ≡ d → ◌≡◌ {A = Life} (record { port = p; connid = c }) (record { port = q; connid = d })
@@ -224,35 +224,35 @@ same_life_parts p q c d h k = rw (h, k) refl
 same_life_at : (d : Datagram) (to : Connid) (life' : Life) → d.dst.0 ≡ life'.port.0 → to ≡ life'.connid → ◌≡◌ {A = Life} (record { port = d.dst; connid = to }) life'
 same_life_at d to life' h k = same_life_parts d.dst life'.port to life'.connid (port_is d.dst life'.port h) k
 
--- what was pushed as a turn of a port is a turn of the life that the datagram names
-turn_taken : (job : Job) (history : List Entry) (life' from : Life) (item : Item) (d : Datagram) → TakenAs from life'.connid item d → d.dst.0 ≡ life'.port.0
+-- what was pushed as a due item of a port is a due item of the life that the datagram names
+due_taken : (job : Job) (history : List Entry) (life' from : Life) (item : Item) (d : Datagram) → TakenAs from life'.connid item d → d.dst.0 ≡ life'.port.0
     → (port : ℕ) → from.port.0 ≡ port → (load : Load) → item_of load ≡ item
-    → PushedTurn job port from.connid (record { port = d.dst; connid = life'.connid }) load d (log_of port history)
-    → TakenTurn job history life' from item d
+    → PushedDue job port from.connid (record { port = d.dst; connid = life'.connid }) load d (log_of port history)
+    → TakenDue job history life' from item d
 unfolding life_deeds port_deeds
-turn_taken job history life' from item d t dst port p load is x =
+due_taken job history life' from item d t dst port p load is x =
     let to = same_life_at d life'.connid life' dst refl in
     let same : x.item ≡ item = sym (bears_item x.item load x.bears) ∙ is in
     record {
-      turn' = x.turn';
+      due' = x.due';
       place = x.place;
-      turned = subst (λ (n : ℕ). TurnedAt (own_of job (life_of n from.connid)) x.turn' x.place (of_life from.connid (deeds_at job n (log_of n history)))) (sym p) x.turned;
+      was_due = subst (λ (n : ℕ). WasDueAt (own_of job (life_of n from.connid)) x.due' x.place (of_life from.connid (deeds_at job n (log_of n history)))) (sym p) x.was_due;
       placed = subst (λ (n : ℕ). PlacedAt job n from.connid d x.place (log_of n history)) (sym p) x.placed;
       gives = x.gives ∙ (ap (λ (l : Life). Some (Goes l x.item)) to ∙ ap (λ (i : Item). Some (Goes life' i)) same);
     }
 
--- a datagram from a life to another that was pushed was a turn
+-- a datagram from a life to another that was pushed was a due item
 pub pushed_taken : (job : Job) (history : List Entry) (life' from : Life) (item : Item) (d : Datagram) → Played job history → TakenAs from life'.connid item d
-    → d.dst.0 ≡ life'.port.0 → PushedIn d (log_of d.src.0 history) → TakenTurn job history life' from item d
+    → d.dst.0 ≡ life'.port.0 → PushedIn d (log_of d.src.0 history) → TakenDue job history life' from item d
 pushed_taken job history life' from item d played t dst p =
-    let x = pushed_turn job d.src.0 from.connid life'.connid t.load d (log_of d.src.0 history) (played.locals d.src.0) p t.body_is in
-    turn_taken job history life' from item d t dst d.src.0 (ap (λ (p : PortNo). p.0) (sym t.src_is)) t.load t.item_is x.1
+    let x = pushed_due job d.src.0 from.connid life'.connid t.load d (log_of d.src.0 history) (played.locals d.src.0) p t.body_is in
+    due_taken job history life' from item d t dst d.src.0 (ap (λ (p : PortNo). p.0) (sym t.src_is)) t.load t.item_is x.1
 
--- what a life took was taken once, and was a turn of the life that it names
+-- what a life took was taken once, and was a due item of the life that it names
 pub record Taken (job : Job) (history : List Entry) (life' from : Life) (item : Item) : Type 0 where
   pub datagram : Datagram
   pub handled : HandledBy life'.port.0 datagram history
-  pub taken : TakenTurn job history life' from item datagram
+  pub taken : TakenDue job history life' from item datagram
 
 -- what a life took was pushed by the life that it names
 pub taken_pushed : (job : Job) (history : List Entry) (life' from : Life) (item : Item) → Played job history

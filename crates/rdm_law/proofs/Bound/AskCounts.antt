@@ -23,7 +23,7 @@ use Rattle.rdm_law.proofs.Accounts.Known.{account, sends_of}
 use Rattle.rdm_law.proofs.Accounts.Chains.{ask_known}
 use Rattle.rdm_law.proofs.Classes.ClassAsks.{asks_took}
 use Rattle.rdm_law.proofs.Classes.ClassEnds.{asks_all_apart, ask_in}
-use Rattle.rdm_law.proofs.Replies.ReplyTurns.{asks_apart}
+use Rattle.rdm_law.proofs.Replies.ReplyDues.{asks_apart}
 use Rattle.rdm_law.proofs.Classes.Cover.{AllApart}
 use Rattle.rdm_law.proofs.Bound.Pigeons.{AreDistinct, distinct_fit}
 use Rattle.rdm_law.proofs.Bound.Totals.{is_ask}

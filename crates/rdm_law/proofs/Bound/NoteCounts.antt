@@ -95,17 +95,17 @@ push_left s d note (GoesNote n) b is h = going_left s n is
 push_left s d note (Goes to item) b is h = (let x = h.1.1 in cc)
 
 -- the same of the log
-plain_left : (job : Job) (port : ℕ) (log : List Deed) → deed_count is_note_push (own_scene job port log).port_log < length (notes (own_scene job port log).ports port (own_scene job port log).port_log)
+eager_left : (job : Job) (port : ℕ) (log : List Deed) → deed_count is_note_push (own_scene job port log).port_log < length (notes (own_scene job port log).ports port (own_scene job port log).port_log)
     → deed_count is_note_push log < length (notes (port_count job) port log)
 unfolding own_scene scene
-plain_left job port log h = h
+eager_left job port log h = h
 
 -- the same of the scene of a port
 scene_left : (job : Job) (port : ℕ) (log : List Deed) → deed_count is_note_push (own_scene job port log).port_log < length (notes (own_scene job port log).ports (own_scene job port log).own.life.port.0 (own_scene job port log).port_log)
     → deed_count is_note_push log < length (notes (port_count job) port log)
 scene_left job port log h =
     let p = own_port job port log in
-    plain_left job port log (subst (λ n. deed_count is_note_push (own_scene job port log).port_log < length (notes (own_scene job port log).ports n (own_scene job port log).port_log)) p h)
+    eager_left job port log (subst (λ n. deed_count is_note_push (own_scene job port log).port_log < length (notes (own_scene job port log).ports n (own_scene job port log).port_log)) p h)
 
 -- a push leaves no more notes pushed than owed
 note_push : (job : Job) (port : ℕ) (log : List Deed) (d : Datagram) (body : Body) → d.body ≡ body → IsNext (own_scene job port log) d

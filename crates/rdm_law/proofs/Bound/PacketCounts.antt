@@ -14,17 +14,17 @@ use Rattle.rdm_model.specs.Deeds.{Deed}
 use Rattle.rdm_model.specs.Owns.{Own}
 use Rattle.rdm_model.specs.Grants.{data_room}
 use Rattle.rdm_model.specs.Sends.{Sent, sends}
-use Rattle.rdm_model.specs.Turns.{packet_piece, pieces_in}
+use Rattle.rdm_model.specs.Dues.{packet_piece, pieces_in}
 use Rattle.rdm_model.specs.Local.{heard_by}
 use Rattle.rdm_model.proofs.Cuts.{piece_bytes-append, row_within}
 use Rattle.rdm_model.proofs.Opens.{pieces_in-append}
-use Rattle.rdm_model.proofs.Turns.{IsData, AllData}
+use Rattle.rdm_model.proofs.Dues.{IsData, AllData}
 use Rattle.rdm_model.proofs.Pushes.{pushed_of, underway}
 use Rattle.rdm_model.proofs.Served.{push_member}
 use Rattle.rdm_model.proofs.Sending.{data_push}
 use Rattle.rdm_law.proofs.Lives.Lives.{LifeLocal}
 use Rattle.rdm_law.proofs.Windows.Allowed.{allowed_within}
-use Rattle.rdm_law.proofs.Settled.TurnsPushed.{packet_push}
+use Rattle.rdm_law.proofs.Settled.DuesPushed.{packet_push}
 use Rattle.rdm_lists.proofs.Members.{member-append_right}
 
 -- there are no more cuts than fuel, and one

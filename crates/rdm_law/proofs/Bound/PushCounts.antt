@@ -10,14 +10,14 @@ use Rattle.rdm_model.specs.Currents.{forgotten_by}
 use Rattle.rdm_model.specs.Owns.{Own, Messages}
 use Rattle.rdm_model.specs.Replies.{Reply, replies_by, without_lives, without_forgotten}
 use Rattle.rdm_model.specs.Sends.{Sent, sent_by, with_sent, sends}
-use Rattle.rdm_model.specs.Turns.{Progress, Turn, Replies, Sends, after_turn, after_push, after_deed, progress, turn}
+use Rattle.rdm_model.specs.Dues.{Progress, Due, Replies, Sends, after_due, after_push, after_deed, progress, due}
 use Rattle.rdm_model.specs.Local.{heard_by}
 use Rattle.rdm_model.proofs.SameRegions.{Agree, agree_before}
-use Rattle.rdm_model.proofs.SameTurns.{turn_same}
+use Rattle.rdm_model.proofs.SameDues.{due_same}
 use Rattle.rdm_model.proofs.Grows.{agree_grows}
-use Rattle.rdm_model.proofs.Turns.{turn_cases}
+use Rattle.rdm_model.proofs.Dues.{due_cases}
 use Rattle.rdm_model.proofs.Pushes.{pushed_of}
-use Rattle.rdm_model.proofs.Served.{next_send_turn, pushed_last, pushed_longer}
+use Rattle.rdm_model.proofs.Served.{next_send_due, pushed_last, pushed_longer}
 use Rattle.rdm_law.proofs.Lives.Lives.{LifeStep, LifeLocal}
 use Rattle.rdm_law.proofs.Replies.Queue.{owed}
 use Rattle.rdm_law.proofs.Bound.Totals.{is_push'}
@@ -26,20 +26,20 @@ use Rattle.rdm_law.proofs.Settled.ReadLands.{agree_refl}
 use Rattle.rdm_lists.proofs.Sums.{total, total-append, total_le}
 use Rattle.rdm_lists.proofs.Filters.{filter_length}
 
--- each push of the life had a turn
-abbrev AllTurned : Own → Messages → List Deed → Type 0
-AllTurned own ms [] = Unit {0}
-AllTurned own ms (d ∷ before) = AllTurned own ms before × (d ≡ Pushed → (t : Turn) × (turn own ms before ≡ Some t))
+-- each push of the life was due
+abbrev AllWereDue : Own → Messages → List Deed → Type 0
+AllWereDue own ms [] = Unit {0}
+AllWereDue own ms (d ∷ before) = AllWereDue own ms before × (d ≡ Pushed → (t : Due) × (due own ms before ≡ Some t))
 
 -- so had each push of a life
-all_turned : (own : Own) (ms : Messages) (log : List Deed) → LifeLocal own log → Agree own.limits.first (heard_by own.limits.first log) ms log → AllTurned own ms log
-all_turned own ms [] local g = tt
-all_turned own ms (d ∷ before) local g =
+all_were_due : (own : Own) (ms : Messages) (log : List Deed) → LifeLocal own log → Agree own.limits.first (heard_by own.limits.first log) ms log → AllWereDue own ms log
+all_were_due own ms [] local g = tt
+all_were_due own ms (d ∷ before) local g =
     let earlier = agree_trans own.limits.first (heard_by own.limits.first before) (heard_by own.limits.first (d ∷ before)) ms before (agree_grows own.limits.first d before) (agree_before own.limits.first (heard_by own.limits.first (d ∷ before)) ms d before g) in (
-      all_turned own ms before local.0 earlier,
+      all_were_due own ms before local.0 earlier,
       λ e.
           let step : LifeStep own before Pushed = subst (λ (x : Deed). LifeStep own before x) e local.1 in
-          (step.0, sym (turn_same own (heard_by own.limits.first before) ms before earlier) ∙ step.1),
+          (step.0, sym (due_same own (heard_by own.limits.first before) ms before earlier) ∙ step.1),
     )
 
 -- how many packets were pushed of these sends
@@ -89,17 +89,17 @@ first_some [] x h = cc
 first_some (y ∷ ys) x h = omega arith
 
 -- what is left after a push
-after_at : (own : Own) (ms : Messages) (before : List Deed) (t : Turn) → turn own ms before ≡ Some t → after_push own ms before Pushed (progress own ms before) ≡ after_turn (Some t) (progress own ms before)
-unfolding after_push turn
-after_at own ms before t h = ap (λ (o : Option Turn). after_turn o (progress own ms before)) h
+after_at : (own : Own) (ms : Messages) (before : List Deed) (t : Due) → due own ms before ≡ Some t → after_push own ms before Pushed (progress own ms before) ≡ after_due (Some t) (progress own ms before)
+unfolding after_push due
+after_at own ms before t h = ap (λ (o : Option Due). after_due o (progress own ms before)) h
 
 -- a push takes a reply that waits, or adds a packet
-push_step : (own : Own) (ms : Messages) (before : List Deed) (t : Turn) → turn own ms before ≡ Some t
+push_step : (own : Own) (ms : Messages) (before : List Deed) (t : Due) → due own ms before ≡ Some t
     → length (after_push own ms before Pushed (progress own ms before)).replies + 1 + packet_total own ms before (sends own ms before)
     ≤ length (progress own ms before).replies + packet_total own ms (Pushed ∷ before) (sends own ms before)
-unfolding after_turn
+unfolding after_due
 push_step own ms before (Replies r) h =
-    elim (turn_cases own ms before (Replies r) h) [
+    elim (due_cases own ms before (Replies r) h) [
       | inl a ↦ (
           let some = first_some (progress own ms before).replies a.0 a.1 in
           let e = ap (λ (p : Progress). length p.replies) (after_at own ms before (Replies r) h) in
@@ -109,7 +109,7 @@ push_step own ms before (Replies r) h =
       | inr a ↦ (let x = a.1.is in absurd (cc))
     ]
 push_step own ms before (Sends s p) h =
-    let n = next_send_turn own ms before s p h in
+    let n = next_send_due own ms before s p h in
     let e = ap (λ (x : Progress). length x.replies) (after_at own ms before (Sends s p) h) in
     let last = ap length (pushed_last own ms before s p h) in
     let l = length-append (pushed_of own ms before s.number) (p ∷ []) in
@@ -146,16 +146,16 @@ unfolding deed_count
 pushes_none d before h = omega arith
 
 -- a deed keeps the count
-counted_step : (own : Own) (ms : Messages) (d : Deed) (before : List Deed) → (d ≡ Pushed → (t : Turn) × (turn own ms before ≡ Some t))
+counted_step : (own : Own) (ms : Messages) (d : Deed) (before : List Deed) → (d ≡ Pushed → (t : Due) × (due own ms before ≡ Some t))
     → deed_count is_push' before + length (progress own ms before).replies ≤ length (owed own ms before) + packet_total own ms before (sends own ms before)
     → length (progress own ms (d ∷ before)).replies ≤ length (after_push own ms before d (progress own ms before)).replies + length (replies_by own ms.head (sends own ms before) d before)
     → length (owed own ms (d ∷ before)) ≡ length (owed own ms before) + length (replies_by own ms.head (sends own ms before) d before)
     → packet_total own ms (d ∷ before) (sends own ms before) ≤ packet_total own ms (d ∷ before) (sends own ms (d ∷ before))
     → deed_count is_push' (d ∷ before) + length (progress own ms (d ∷ before)).replies ≤ length (owed own ms (d ∷ before)) + packet_total own ms (d ∷ before) (sends own ms (d ∷ before))
-counted_step own ms d before turned was waits owes more =
+counted_step own ms d before was_due was waits owes more =
     elim (still_waits own ms d before) [
       | inl e ↦ (
-          let t = turned e in
+          let t = was_due e in
           let P : Deed → Type 0 = λ x. length (after_push own ms before x (progress own ms before)).replies + 1 + packet_total own ms before (sends own ms before)
           ≤ length (progress own ms before).replies + packet_total own ms (x ∷ before) (sends own ms before) in
           let step : P d = subst P (sym e) (push_step own ms before t.0 t.1) in
@@ -169,7 +169,7 @@ counted_step own ms d before turned was waits owes more =
     ]
 
 -- pushes, and the replies that wait, are of what was owed and of packets
-counted : (own : Own) (ms : Messages) (log : List Deed) → AllTurned own ms log
+counted : (own : Own) (ms : Messages) (log : List Deed) → AllWereDue own ms log
     → deed_count is_push' log + length (progress own ms log).replies ≤ length (owed own ms log) + packet_total own ms log (sends own ms log)
 unfolding deed_count progress owed
 counted own ms [] a = omega arith
@@ -186,5 +186,5 @@ pub pushes_counted : (own : Own) (log : List Deed) → LifeLocal own log
     + total (λ (s : Sent). length (pushed_of own (heard_by own.limits.first log) log s.number)) (sends own (heard_by own.limits.first log) log)
 pushes_counted own log local =
     let ms = heard_by own.limits.first log in
-    let c = counted own ms log (all_turned own ms log local (agree_refl own.limits.first ms log)) in
+    let c = counted own ms log (all_were_due own ms log local (agree_refl own.limits.first ms log)) in
     omega arith

@@ -23,13 +23,13 @@ use Rattle.rdm_model.specs.Owns.{own_of}
 use Rattle.rdm_model.specs.Parts.{carried_pieces}
 use Rattle.rdm_model.specs.Receives.{is_filled}
 use Rattle.rdm_model.specs.Sends.{Sent}
-use Rattle.rdm_model.specs.Turns.{is_read, packet_piece, pieces_in}
+use Rattle.rdm_model.specs.Dues.{is_read, packet_piece, pieces_in}
 use Rattle.rdm_model.specs.Named.{read_from}
 use Rattle.rdm_model.specs.Lawful.{life_deeds}
 use Rattle.rdm_model.proofs.Rows.{row_apart}
 use Rattle.rdm_model.proofs.Opens.{openings_in_row, openings_bytes, opened_bytes}
 use Rattle.rdm_model.proofs.Grows.{landed_byte}
-use Rattle.rdm_law.proofs.Accounts.Turned.{turn_is}
+use Rattle.rdm_law.proofs.Accounts.WasDue.{due_is}
 use Rattle.rdm_law.proofs.Accounts.Wired.{Played}
 use Rattle.rdm_law.proofs.Accounts.Known.{account, Known, known_one}
 use Rattle.rdm_law.proofs.Accounts.Named.{head_length}
@@ -77,7 +77,7 @@ read_not_long kind h e = let f : is_read LongCts ≡ true = subst (λ (k : Kind)
 pub sent_before_read : (job : Job) (history : List Entry) (from : Life) (s : Sent) (x : Piece) (k : ℕ) → is_read s.kind ≡ true → SentPiece job history from s x k
     → x.offset + length x.bytes ≤ read_from s.kind
 sent_before_read job history from s x k read p =
-    elim (turn_is (own_of job from) s p.0 k (life_deeds job history from) p.1) [
+    elim (due_is (own_of job from) s p.0 k (life_deeds job history from) p.1) [
       | inl a ↦
           let w = opening_within (own_of job from).limits s.message s.kind p.0 x a p.2 in
           let r = opened_read (own_of job from).limits s.message s.kind read in
@@ -125,8 +125,8 @@ given_asked job history i j s x place k g from to =
 -- bytes of that message, with that place, that were given
 pub record GivenAt (job : Job) (history : List Entry) (i j : Life) (s : Sent) (place : ℕ) : Type 0 where
   pub piece : Piece
-  pub turn' : ℕ
-  pub given : GivenPiece job history i j s piece turn'
+  pub due' : ℕ
+  pub given : GivenPiece job history i j s piece due'
   pub from : piece.offset ≤ place
   pub to : place < piece.offset + length piece.bytes
 
@@ -142,7 +142,7 @@ carried_given job history i j n s x place played k is read m from low high =
           let p = subst (λ (y : Sent). SentPiece job history j y x c.0) same a in
           let e = sent_before_read job history j s x c.0 read p in
           absurd (omega arith)
-      | inr a ↦ record { piece = x; turn' = c.0; given = subst (λ (y : Sent). GivenPiece job history i j y x c.0) same a; from = low; to = high }
+      | inr a ↦ record { piece = x; due' = c.0; given = subst (λ (y : Sent). GivenPiece job history i j y x c.0) same a; from = low; to = high }
     ]
 
 -- where a receive is filled by a message, each byte that is to be read of it was given
@@ -168,4 +168,4 @@ pub filled_asked : (job : Job) (history : List Entry) (i j : Life) (p : Pair) (s
     → read_from s.kind ≤ place → place < length s.message.bytes → AskedAt job history i j s place
 filled_asked job history i j p s place played l k is head read filled from to =
     let g = filled_given job history i j p s place played l k is head read filled from to in
-    given_asked job history i j s g.piece place g.turn' g.given g.from g.to
+    given_asked job history i j s g.piece place g.due' g.given g.from g.to

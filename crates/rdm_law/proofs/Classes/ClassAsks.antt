@@ -27,8 +27,8 @@ use Rattle.rdm_law.proofs.Replies.Asks.{AsksShare}
 use Rattle.rdm_law.proofs.Replies.Owed.{shape_in, recv_in}
 use Rattle.rdm_law.proofs.Replies.Causes.{owed_ask}
 use Rattle.rdm_law.proofs.Replies.Clashes.{Clash}
-use Rattle.rdm_law.proofs.Replies.ReplyTurns.{reply_once}
-use Rattle.rdm_law.proofs.Accounts.Wired.{Played, TakenTurn, taken_pushed, own_life}
+use Rattle.rdm_law.proofs.Replies.ReplyDues.{reply_once}
+use Rattle.rdm_law.proofs.Accounts.Wired.{Played, TakenDue, taken_pushed, own_life}
 use Rattle.rdm_law.proofs.Accounts.Known.{account, sends_of, Known}
 use Rattle.rdm_law.proofs.Accounts.Named.{pairs_of, pair_known, went_ask, ask_of, head_shape, send_number}
 use Rattle.rdm_law.proofs.Accounts.Chains.{AskKnown, ask_known_at, ask_known}
@@ -69,7 +69,7 @@ ask_send_at job history j i source a p e m l k head of =
     }
 
 -- the ask that a life pushed names a send of the other one
-pub ask_send : (job : Job) (history : List Entry) (j i : Life) (a : ReadAsk) (d : Datagram) → Played job history → TakenTurn job history j i (Asks a) d → AskSend job history j i a
+pub ask_send : (job : Job) (history : List Entry) (j i : Life) (a : ReadAsk) (d : Datagram) → Played job history → TakenDue job history j i (Asks a) d → AskSend job history j i a
 ask_send job history j i a d played t =
     let r = went_ask job history j i a d t in
     let o = owed_ask (own_of job i) (account job history i) (life_deeds job history i) r.reply a r.owed r.is in
@@ -94,7 +94,7 @@ ask_new job history j i s a b d h k m names took share =
     let l = ask_known job history i j s b h.played m names took in
     let clash : Clash x.reply y.reply =
     inr (inl (record { ask = a; is = x.is; ask' = b; is' = y.is; recv_is = asks_recv job history j i s a b k l; share = share })) in
-    let e = reply_once (own_of job i) x.reply y.reply h.taken.place t.taken.place (life_deeds job history i) (own_life job history h.played i) x.turned y.turned clash in
+    let e = reply_once (own_of job i) x.reply y.reply h.taken.place t.taken.place (life_deeds job history i) (own_life job history h.played i) x.was_due y.was_due clash in
     taken_before job history j i (Asks a) (Asks b) d h t (sym e)
 
 -- an ask of a send was taken

@@ -28,7 +28,7 @@ use Rattle.rdm_model.specs.Receives.{is_filled}
 use Rattle.rdm_model.specs.Grants.{data_room}
 use Rattle.rdm_model.specs.Sends.{Sent}
 use Rattle.rdm_model.specs.Named.{live_pair, is_long_shape, is_read_shape, has_shape, is_no_op}
-use Rattle.rdm_model.specs.Turns.{is_read}
+use Rattle.rdm_model.specs.Dues.{is_read}
 use Rattle.rdm_model.specs.Currents.{is_forgotten}
 use Rattle.rdm_model.specs.Lawful.{life_deeds}
 use Rattle.rdm_model.proofs.Matches.{pair_passes}

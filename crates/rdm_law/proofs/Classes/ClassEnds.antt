@@ -28,7 +28,7 @@ use Rattle.rdm_model.specs.Reads.{asks_of, asked_by, asked_bytes}
 use Rattle.rdm_model.specs.Replies.{Reply}
 use Rattle.rdm_model.specs.Scenes.{Scene}
 use Rattle.rdm_model.specs.Sends.{Sent}
-use Rattle.rdm_model.specs.Turns.{progress, is_read, ends_send}
+use Rattle.rdm_model.specs.Dues.{progress, is_read, ends_send}
 use Rattle.rdm_model.specs.Named.{live_send, read_from, is_read_send, is_no_op}
 use Rattle.rdm_model.specs.Classes.{is_number, is_early_end, is_mismatch}
 use Rattle.rdm_model.specs.Lawful.{life_deeds}
@@ -39,7 +39,7 @@ use Rattle.rdm_law.proofs.Replies.Owed.{OwedIn, owed_in}
 use Rattle.rdm_law.proofs.Replies.Causes.{owed_given}
 use Rattle.rdm_law.proofs.Replies.Clashes.{Clash}
 use Rattle.rdm_law.proofs.Replies.OwedOnce.{AsksApart}
-use Rattle.rdm_law.proofs.Replies.ReplyTurns.{reply_once, waits_once, asks_apart, took_asks}
+use Rattle.rdm_law.proofs.Replies.ReplyDues.{reply_once, waits_once, asks_apart, took_asks}
 use Rattle.rdm_law.proofs.Ends.LiveSends.{live_send_is}
 use Rattle.rdm_law.proofs.Accounts.Wired.{Played, own_life}
 use Rattle.rdm_law.proofs.Accounts.Known.{account, sends_of}
@@ -199,7 +199,7 @@ none_waits job history i j send recv played e r m to gives =
       is' = went.item_is;
       share = (of.ask.at, omega arith, omega arith, omega arith, omega arith);
     }))) in
-    waits_once own r went.reply at.turn' log (own_life job history played j) m went.turned clash
+    waits_once own r went.reply at.due' log (own_life job history played j) m went.was_due clash
 
 -- an end that arrives is the first of its send
 end_new : (job : Job) (history : List Entry) (j i : Life) (send recv : OpId) (connid : Connid) (d : Datagram) → Arrives job history j i (Spelled (Eor send recv connid)) d
@@ -224,7 +224,7 @@ end_new job history j i send recv connid d h e =
       is' = y.is;
       recv_is = sym w.of.recv_is ∙ ap (λ (q : Pair). q.recv.id.0) p ∙ e.recv_is;
     }))) in
-    let k = reply_once (own_of job i) x.reply y.reply w.taken.taken.place h.taken.place (life_deeds job history i) (own_life job history h.played i) x.turned y.turned clash in
+    let k = reply_once (own_of job i) x.reply y.reply w.taken.taken.place h.taken.place (life_deeds job history i) (own_life job history h.played i) x.was_due y.was_due clash in
     taken_before job history j i (Spelled (Eor send recv connid)) (Spelled (Eor (op_id e.known.sent.number) w.recv w.connid)) d h w.taken k)
 
 -- the send that an arriving end names is live

@@ -23,7 +23,7 @@ use Rattle.rdm_model.specs.Owns.{own_of}
 use Rattle.rdm_model.specs.Currents.{is_forgotten}
 use Rattle.rdm_model.specs.Grants.{Grant, grants}
 use Rattle.rdm_model.specs.Sends.{Sent}
-use Rattle.rdm_model.specs.Turns.{pieces_in}
+use Rattle.rdm_model.specs.Dues.{pieces_in}
 use Rattle.rdm_model.specs.Scenes.{Scene}
 use Rattle.rdm_model.specs.Named.{live_send, live_pair, is_long, is_long_send, is_no_op}
 use Rattle.rdm_model.specs.Classes.{passes_grants, allowed_bytes, is_wrong_grant, is_mismatch}

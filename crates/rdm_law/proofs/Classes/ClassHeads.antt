@@ -28,7 +28,7 @@ use Rattle.rdm_law.proofs.Accounts.Wired.{own_life, taken_pushed}
 use Rattle.rdm_law.proofs.Accounts.Known.{known_one, known_head, opened}
 use Rattle.rdm_law.proofs.Accounts.Named.{went_reply}
 use Rattle.rdm_law.proofs.Replies.Clashes.{Clash}
-use Rattle.rdm_law.proofs.Replies.ReplyTurns.{reply_once}
+use Rattle.rdm_law.proofs.Replies.ReplyDues.{reply_once}
 use Rattle.rdm_law.proofs.Accounts.Arrives.{Arrives, arriving_scene}
 use Rattle.rdm_law.proofs.Classes.Fresh.{taken_before}
 use Rattle.rdm_law.proofs.Classes.ClassSources.{known_shake}
@@ -102,4 +102,4 @@ shake_agrees job history to from words connid d a ports port_log =
     let clash : Clash r.reply s.reply = inl (record { to_is = r.to_is ∙ sym s.to_is; words = k.0; connid = k.1; is = r.is; words' = words; connid' = connid; is' = s.is }) in
     taken_before job history to from (Spelled (Handshake words connid)) (Spelled (Handshake k.0 k.1)) d a was
     (reply_once (own_of job from) r.reply s.reply was.taken.place a.taken.place (life_deeds job history from)
-    (own_life job history a.played from) r.turned s.turned clash))
+    (own_life job history a.played from) r.was_due s.was_due clash))

@@ -18,7 +18,7 @@ use Rattle.rdm_model.specs.Currents.{is_forgotten}
 use Rattle.rdm_model.specs.Reads.{asks_of}
 use Rattle.rdm_model.specs.Scenes.{Scene}
 use Rattle.rdm_model.specs.Sends.{Sent}
-use Rattle.rdm_model.specs.Turns.{progress, is_read, ends_send, is_over}
+use Rattle.rdm_model.specs.Dues.{progress, is_read, ends_send, is_over}
 use Rattle.rdm_model.specs.Named.{live_send, read_from, is_in_iov, is_good_ask, is_bad_key}
 use Rattle.rdm_model.specs.Lawful.{life_deeds}
 use Rattle.rdm_law.proofs.Replies.Asks.{iov_bytes}

@@ -32,14 +32,14 @@ use Rattle.rdm_model.specs.Named.{live_pair}
 use Rattle.rdm_model.specs.Classes.{is_taken, is_taken_pair, repeats, is_overlap}
 use Rattle.rdm_model.specs.Local.{heard_by}
 use Rattle.rdm_model.specs.Lawful.{life_deeds}
-use Rattle.rdm_model.specs.Turns.{Sends}
+use Rattle.rdm_model.specs.Dues.{Sends}
 use Rattle.rdm_model.proofs.Matches.{pair_passes}
 use Rattle.rdm_model.proofs.Grows.{heads_by_heard}
 use Rattle.rdm_model.proofs.Numbers.{placed}
 use Rattle.rdm_model.proofs.Sending.{IsSingle}
-use Rattle.rdm_law.proofs.Lives.Lives.{TurnedAt}
+use Rattle.rdm_law.proofs.Lives.Lives.{WasDueAt}
 use Rattle.rdm_law.proofs.Accounts.Wired.{Played, taken_pushed}
-use Rattle.rdm_law.proofs.Accounts.Turned.{turn_opening}
+use Rattle.rdm_law.proofs.Accounts.WasDue.{due_opening}
 use Rattle.rdm_law.proofs.Accounts.Known.{account, Known, known_one, known_head, heard_taken, opened}
 use Rattle.rdm_law.proofs.Accounts.Named.{pairs_of, pair_known, head_length}
 use Rattle.rdm_law.proofs.Accounts.Pieces.{PieceOf, item_piece}
@@ -139,11 +139,11 @@ opens_first job history to from number tag opt form d a w h e =
     let p = opened job history to from t.number t.tag t.opt t.form was.datagram was.taken in
     let known : Known job history to from number.0 = record { sent = p.known.sent; member = p.known.member; to_is = p.known.to_is; number_is = p.known.number_is ∙ t.number_is } in
     let same : known.sent ≡ o.known.sent = known_one job history to from number.0 known o.known in
-    let turned : TurnedAt (own_of job from) (Sends o.known.sent (Rtm t.number t.tag t.opt t.form)) was.taken.place (life_deeds job history from) =
-    subst (λ (s : Sent). TurnedAt (own_of job from) (Sends s (Rtm t.number t.tag t.opt t.form)) was.taken.place (life_deeds job history from)) same p.turned in
+    let was_due : WasDueAt (own_of job from) (Sends o.known.sent (Rtm t.number t.tag t.opt t.form)) was.taken.place (life_deeds job history from) =
+    subst (λ (s : Sent). WasDueAt (own_of job from) (Sends s (Rtm t.number t.tag t.opt t.form)) was.taken.place (life_deeds job history from)) same p.was_due in
     let single = whole_single form job.limits o.known.sent.message o.known.sent.kind w (head_shape_of tag opt form job.limits o.known.sent.message o.known.sent.kind o.head_is) in
     taken_before job history to from (Spelled (Rtm number tag opt form)) (Spelled (Rtm t.number t.tag t.opt t.form)) d a was
-    (turn_opening (own_of job from) o.known.sent t.number number t.tag tag t.opt opt t.form form was.taken.place a.taken.place (life_deeds job history from) single turned o.turned)
+    (due_opening (own_of job from) o.known.sent t.number number t.tag tag t.opt opt t.form form was.taken.place a.taken.place (life_deeds job history from) single was_due o.was_due)
 
 -- a packet that opens a message brings its bytes
 rtm_brings : (ps : List Pair) (from : Life) (number : MsgNo) (tag : Option ℕ) (opt : Opt) (form : Form) → piece_by ps from number.0 (Spelled (Rtm number tag opt form)) ≡ piece_of form

@@ -26,14 +26,14 @@ use Rattle.rdm_model.specs.Grants.{grants}
 use Rattle.rdm_model.specs.Replies.{Reply}
 use Rattle.rdm_model.specs.Lawful.{life_deeds}
 use Rattle.rdm_model.specs.Local.{heard_by}
-use Rattle.rdm_model.specs.Turns.{Sends}
+use Rattle.rdm_model.specs.Dues.{Sends}
 use Rattle.rdm_model.proofs.Numbers.{made, sent_is_of}
 use Rattle.rdm_model.proofs.Opens.{opening_is}
-use Rattle.rdm_law.proofs.Lives.Lives.{TurnedAt}
-use Rattle.rdm_law.proofs.Accounts.Wired.{Played, TakenTurn, taken_pushed}
+use Rattle.rdm_law.proofs.Lives.Lives.{WasDueAt}
+use Rattle.rdm_law.proofs.Accounts.Wired.{Played, TakenDue, taken_pushed}
 use Rattle.rdm_law.proofs.Accounts.Went.{went}
 use Rattle.rdm_law.proofs.Replies.Owed.{NewReply, OwedIn}
-use Rattle.rdm_law.proofs.Accounts.Turned.{turn_member, turn_is}
+use Rattle.rdm_law.proofs.Accounts.WasDue.{due_member, due_is}
 use Rattle.rdm_lists.proofs.Members.{member-append_right}
 use Rattle.rdm_lists.proofs.Options.{or_else_cases}
 use Rattle.rdm_num.proofs.Lives.{same_life-true}
@@ -47,13 +47,13 @@ opt_names l true cq_data tag opt e =
 opt_names l false cq_data tag opt e = ap (λ (o : Opt). is_raw_of l o.raw && is_connid_of l o.connid) e ∙ and_from _ _ refl (eq-eqb l.connid.0 l.connid.0 refl)
 
 -- a packet of a send names its life
-sent_names : (own : Own) (s : Sent) (p : Packet) (k : ℕ) (log : List Deed) → TurnedAt own (Sends s p) k log → names_source own.life p ≡ true
+sent_names : (own : Own) (s : Sent) (p : Packet) (k : ℕ) (log : List Deed) → WasDueAt own (Sends s p) k log → names_source own.life p ≡ true
 unfolding names_source
 sent_names own s p k log h =
-    elim (turn_is own s p k log h) [
+    elim (due_is own s p k log h) [
       | inl a ↦ (
           let o = opening_is own.limits s.message s.kind p a in
-          let m = turn_member own s p k log h in
+          let m = due_member own s p k log h in
           let e = made own (heard_by own.limits.first log) log s m in
           let of = sent_is_of own (heard_by own.limits.first log) log s e in
           rw o.is (opt_names own.life (wants_raw (known_word e.before s.to)) s.req.cq_data s.message.tag s.message.opt of.2))
@@ -81,11 +81,11 @@ unfolding is_malformed
 malformed_sent l p item e h = rw (← e) (not_from_true (names_source l p) h)
 
 -- what was pushed is not malformed
-pub well_formed : (job : Job) (history : List Entry) (to from : Life) (item : Item) (d : Datagram) → TakenTurn job history to from item d → is_malformed from item ≡ false
+pub well_formed : (job : Job) (history : List Entry) (to from : Life) (item : Item) (d : Datagram) → TakenDue job history to from item d → is_malformed from item ≡ false
 unfolding own_of
 well_formed job history to from item d t =
     elim (went job history to from item d t) [
-      | inl s ↦ malformed_sent from s.packet item s.is (sent_names (own_of job from) s.sent s.packet t.place (life_deeds job history from) s.turned)
+      | inl s ↦ malformed_sent from s.packet item s.is (sent_names (own_of job from) s.sent s.packet t.place (life_deeds job history from) s.was_due)
       | inr r ↦ ap (λ (x : Item). is_malformed from x) (sym r.is) ∙ owed_names (own_of job from) (heard_by (own_of job from).limits.first (life_deeds job history from)) r.reply (life_deeds job history from) r.owed
     ]
 
@@ -132,13 +132,13 @@ first_member : {A : Type 0} (x : A) (xs ys : List A) → ys ≡ x ∷ xs → Mem
 first_member {A} x xs ys e = subst (λ (zs : List A). Member x zs) (sym e) (inl refl)
 
 -- a packet of a send has a raw address, or something was taken from the life that it goes to
-sent_known : (own : Own) (s : Sent) (p : Packet) (k : ℕ) (log : List Deed) → TurnedAt own (Sends s p) k log
+sent_known : (own : Own) (s : Sent) (p : Packet) (k : ℕ) (log : List Deed) → WasDueAt own (Sends s p) k log
     → (has_raw (Spelled p) ≡ true) ⊎ ((item : Item) × Member (Took s.to item) log)
 sent_known own s p k log h =
-    elim (turn_is own s p k log h) [
+    elim (due_is own s p k log h) [
       | inl a ↦ (
           let o = opening_is own.limits s.message s.kind p a in
-          let m = turn_member own s p k log h in
+          let m = due_member own s p k log h in
           let e = made own (heard_by own.limits.first log) log s m in
           let of = sent_is_of own (heard_by own.limits.first log) log s e in
           elim (raw_known own e.before s s.message.opt (known_word e.before s.to) refl of.2) [
@@ -151,11 +151,11 @@ sent_known own s p k log h =
     ]
 
 -- what was pushed has a raw address, or its life took something from the one that it goes to
-pub raw_or_heard : (job : Job) (history : List Entry) (to from : Life) (item : Item) (d : Datagram) → TakenTurn job history to from item d
+pub raw_or_heard : (job : Job) (history : List Entry) (to from : Life) (item : Item) (d : Datagram) → TakenDue job history to from item d
     → (has_raw item ≡ true) ⊎ ((x : Item) × Member (Took to x) (life_deeds job history from))
 raw_or_heard job history to from item d t =
     elim (went job history to from item d t) [
-      | inl s ↦ elim (sent_known (own_of job from) s.sent s.packet t.place (life_deeds job history from) s.turned) [
+      | inl s ↦ elim (sent_known (own_of job from) s.sent s.packet t.place (life_deeds job history from) s.was_due) [
         | inl a ↦ inl (ap has_raw (sym s.is) ∙ a)
         | inr a ↦ inr (a.0, subst (λ (l : Life). Member (Took l a.0) (life_deeds job history from)) s.to_is a.1)
       ]
@@ -165,14 +165,14 @@ raw_or_heard job history to from item d t =
     ]
 
 -- a life that pushed something to another knows its port
-pub pushed_knows : (job : Job) (history : List Entry) (to from : Life) (item : Item) (d : Datagram) → TakenTurn job history to from item d
+pub pushed_knows : (job : Job) (history : List Entry) (to from : Life) (item : Item) (d : Datagram) → TakenDue job history to from item d
     → is_some (current (life_deeds job history from) to.port.0) ≡ true
 pushed_knows job history to from item d t =
     let own = own_of job from in
     let log = life_deeds job history from in
     elim (went job history to from item d t) [
       | inl s ↦ subst (λ (l : Life). is_some (current log l.port.0) ≡ true) s.to_is
-          (sent_current own (heard_by own.limits.first log) log s.sent (turn_member own s.sent s.packet t.place log s.turned))
+          (sent_current own (heard_by own.limits.first log) log s.sent (due_member own s.sent s.packet t.place log s.was_due))
       | inr r ↦ (
           let s = owed_seen own (heard_by own.limits.first log) r.reply log r.owed in
           subst (λ (l : Life). is_some (current log l.port.0) ≡ true) r.to_is (took_current log r.reply.to s.0 s.1))
@@ -184,7 +184,7 @@ not_none None h = cc
 not_none (Some l) h = refl
 
 -- what was pushed is known, or has a raw address
-pub is_known : (job : Job) (history : List Entry) (to from : Life) (item : Item) (d : Datagram) → Played job history → TakenTurn job history to from item d
+pub is_known : (job : Job) (history : List Entry) (to from : Life) (item : Item) (d : Datagram) → Played job history → TakenDue job history to from item d
     → (is_none (current (life_deeds job history to) from.port.0) && not (has_raw item)) ≡ false
 is_known job history to from item d played t =
     elim (raw_or_heard job history to from item d t) [

@@ -23,11 +23,11 @@ use Rattle.rdm_model.specs.Deeds.{Deed, Took, Spelled}
 use Rattle.rdm_model.specs.Owns.{Own, own_of}
 use Rattle.rdm_model.specs.Replies.{end_for}
 use Rattle.rdm_model.specs.Receives.{is_filled}
-use Rattle.rdm_model.specs.Turns.{is_read, ends_send}
+use Rattle.rdm_model.specs.Dues.{is_read, ends_send}
 use Rattle.rdm_model.specs.Lawful.{life_deeds}
 use Rattle.rdm_law.proofs.Replies.Owed.{shape_in, recv_in}
 use Rattle.rdm_law.proofs.Replies.Causes.{owed_end}
-use Rattle.rdm_law.proofs.Accounts.Wired.{Played, TakenTurn, Taken, taken_pushed}
+use Rattle.rdm_law.proofs.Accounts.Wired.{Played, TakenDue, Taken, taken_pushed}
 use Rattle.rdm_law.proofs.Accounts.Known.{account, sends_of, Known}
 use Rattle.rdm_law.proofs.Accounts.Named.{pairs_of, pair_known, went_reply, head_shape, send_number}
 use Rattle.rdm_lists.proofs.Members.{list_any_member}
@@ -83,7 +83,7 @@ end_send_at job history i j source send recv connid p e m l k head filled shape 
 
 -- an end that a life pushed is of a filled pair
 pub end_went : (job : Job) (history : List Entry) (j i : Life) (send recv : OpId) (connid : Connid) (d : Datagram) → Played job history
-    → TakenTurn job history j i (Spelled (Eor send recv connid)) d → EndSend job history i j send.0 recv.0
+    → TakenDue job history j i (Spelled (Eor send recv connid)) d → EndSend job history i j send.0 recv.0
 end_went job history j i send recv connid d played t =
     let r = went_reply job history j i (Eor send recv connid) d t (λ x. x) in
     let o = owed_end (own_of job i) (account job history i) (life_deeds job history i) r.reply send recv connid r.owed r.is in

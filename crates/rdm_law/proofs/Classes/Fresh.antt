@@ -20,7 +20,7 @@ use Rattle.rdm_model.specs.Owns.{Own, Messages, own_of}
 use Rattle.rdm_model.specs.Parts.{carried_pieces}
 use Rattle.rdm_model.specs.Sends.{Sent, sends}
 use Rattle.rdm_model.specs.Named.{read_from}
-use Rattle.rdm_model.specs.Turns.{Sends, packet_piece, pieces_in, is_read}
+use Rattle.rdm_model.specs.Dues.{Sends, packet_piece, pieces_in, is_read}
 use Rattle.rdm_model.specs.Local.{heard_by}
 use Rattle.rdm_model.specs.Lawful.{life_deeds}
 use Rattle.rdm_model.proofs.Cuts.{row_within, piece_bytes-append}
@@ -28,10 +28,10 @@ use Rattle.rdm_model.proofs.Rows.{overlaps_from}
 use Rattle.rdm_model.proofs.Opens.{pieces_in-append, opened_bytes, openings_bytes}
 use Rattle.rdm_model.proofs.Pushes.{pushed_of, underway}
 use Rattle.rdm_model.proofs.Served.{push_done, done_bytes}
-use Rattle.rdm_law.proofs.Lives.Lives.{TurnedAt}
+use Rattle.rdm_law.proofs.Lives.Lives.{WasDueAt}
 use Rattle.rdm_law.proofs.Accounts.Pushed.{PlacedAt, placed_once}
 use Rattle.rdm_law.proofs.Accounts.Wired.{Played, own_life, taken_other, Taken, taken_pushed}
-use Rattle.rdm_law.proofs.Accounts.Turned.{turned_pushed, turn_once, turn_member}
+use Rattle.rdm_law.proofs.Accounts.WasDue.{was_due_pushed, due_once, due_member}
 use Rattle.rdm_law.proofs.Accounts.Known.{account, known_one}
 use Rattle.rdm_law.proofs.Accounts.Named.{pairs_of}
 use Rattle.rdm_law.proofs.Accounts.Chains.{given_known}
@@ -42,12 +42,12 @@ use Rattle.rdm_law.proofs.Accounts.Whole.{byte_of_piece}
 use Rattle.rdm_law.proofs.Accounts.Arrives.{Arrives}
 use Rattle.rdm_law.proofs.Replies.Asks.{iov_bytes}
 use Rattle.rdm_law.proofs.Replies.Clashes.{Clash}
-use Rattle.rdm_law.proofs.Replies.ReplyTurns.{reply_once}
+use Rattle.rdm_law.proofs.Replies.ReplyDues.{reply_once}
 use Rattle.rdm_law.proofs.Ends.SentSizes.{sent_sized}
 use Rattle.rdm_law.proofs.Fits.AnswersFit.{ranges_fit}
 use Rattle.rdm_lists.proofs.Below.{each_below_from}
 
--- what was taken before was another turn
+-- what was taken before was another due item
 pub taken_before : (job : Job) (history : List Entry) (to from : Life) (item other : Item) (d : Datagram) → (a : Arrives job history to from item d)
     → (t : Taken job history to from other) → t.taken.place ≡ a.taken.place → ⊥
 taken_before job history to from item other d a t e =
@@ -80,12 +80,12 @@ read_done own ms log s m h =
     ]
 
 -- a part that went in a packet of a read send is ahead of what is read
-read_ahead : (own : Own) (s : Sent) (p : Packet) (x : Piece) (k : ℕ) (log : List Deed) → TurnedAt own (Sends s p) k log → packet_piece p ≡ Some x → is_read s.kind ≡ true
+read_ahead : (own : Own) (s : Sent) (p : Packet) (x : Piece) (k : ℕ) (log : List Deed) → WasDueAt own (Sends s p) k log → packet_piece p ≡ Some x → is_read s.kind ≡ true
     → x.offset + length x.bytes ≤ read_from s.kind
 read_ahead own s p x k log h c r =
     let ms = heard_by own.limits.first log in
-    let d = push_done own ms s p x k log (turned_pushed own (Sends s p) k log h) c in
-    let e = read_done own ms log s (turn_member own s p k log h) r in
+    let d = push_done own ms s p x k log (was_due_pushed own (Sends s p) k log h) c in
+    let e = read_done own ms log s (due_member own s p k log h) r in
     omega arith
 
 -- given bytes lie in what is read
@@ -121,7 +121,7 @@ sent_given job history to from s t x y k l place played e a b i j =
     let w = j.1 in
     omega arith
 
--- two parts of a message that went to its life and have a place in common are one turn
+-- two parts of a message that went to its life and have a place in common are one due item
 pub piece_once : (job : Job) (history : List Entry) (to from : Life) (n : ℕ) (x y : Piece) (k l place : ℕ) → Played job history
     → PieceOf job history to from n x k → PieceOf job history to from n y l → Has x place → Has y place → k ≡ l
 piece_once job history to from n x y k l place played a b i j =
@@ -134,7 +134,7 @@ piece_once job history to from n x y k l place played a b i j =
     let j1 = j.1 in
     elim a.how [
       | inl u ↦ elim b.how [
-        | inl v ↦ turn_once own a.known.sent b.known.sent u.0 v.0 x y k l log (ap (λ (s : Sent). s.number) same) u.1 v.1 u.2 v.2
+        | inl v ↦ due_once own a.known.sent b.known.sent u.0 v.0 x y k l log (ap (λ (s : Sent). s.number) same) u.1 v.1 u.2 v.2
             (overlaps_from x.offset (length x.bytes) y.offset (length y.bytes) (omega arith) (omega arith) (omega arith) (omega arith))
         | inr v ↦ absurd (sent_given job history to from a.known.sent b.known.sent x y k l place played same u v i j)
       ]
@@ -156,7 +156,7 @@ piece_once job history to from n x y k l place played a b i j =
                 subst (λ (p : Piece). place < p.offset + length p.bytes) v.piece_is j.1,
               );
             }))) in
-            reply_once own u.went.reply v.went.reply k l log (own_life job history played from) u.went.turned v.went.turned clash)
+            reply_once own u.went.reply v.went.reply k l log (own_life job history played from) u.went.was_due v.went.was_due clash)
       ]
     ]
 
@@ -169,7 +169,7 @@ piece_within job history to from n x k played a =
     let s = a.known.sent in
     elim a.how [
       | inl u ↦ (
-          let d = push_done own (account job history from) s u.0 x k log (turned_pushed own (Sends s u.0) k log u.1) u.2 in
+          let d = push_done own (account job history from) s u.0 x k log (was_due_pushed own (Sends s u.0) k log u.1) u.2 in
           let r = row_within s.message.bytes 0 (pieces_in (pushed_of own (account job history from) log s.number)) (underway own (account job history from) log s a.known.member).row (omega arith) in
           omega arith)
       | inr u ↦ (
@@ -205,13 +205,13 @@ missing_from ps size offset len h free =
     let r = byte_of_piece ps (offset + k) b e in
     free r.0 (offset + k) r.1 (in_range r.0 (offset + k) b r.2) (omega arith) (omega arith))))
 
--- what carried a piece, as a turn that was taken
+-- what carried a piece, as a due item that was taken
 pub record CameBefore (job : Job) (history : List Entry) (to from : Life) (n : ℕ) (x : Piece) : Type 0 where
   pub item : Item
   pub taken : Taken job history to from item
   pub piece : PieceOf job history to from n x taken.taken.place
 
--- each piece that came was a turn
+-- each piece that came was a due item
 pub came_before : (job : Job) (history : List Entry) (to from : Life) (n : ℕ) (x : Piece) → Played job history
     → Member x (carried_pieces (own_of job to).limits.first (account job history to).head (life_deeds job history to) from n) → CameBefore job history to from n x
 came_before job history to from n x played m =

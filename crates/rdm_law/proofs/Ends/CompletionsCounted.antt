@@ -17,7 +17,7 @@ use Rattle.rdm_model.specs.Currents.{is_forgotten, forgotten_by}
 use Rattle.rdm_model.specs.Matches.{Receive, receives}
 use Rattle.rdm_model.specs.Receives.{RecvEnd, ended_recv, recv_ends, recv_ends_by, with_recv_ends, receive_numbered}
 use Rattle.rdm_model.specs.Sends.{Sent, sends}
-use Rattle.rdm_model.specs.Turns.{progress, pieces_in, is_read, is_pushed, is_over, ends_send, live_of, live_sends}
+use Rattle.rdm_model.specs.Dues.{progress, pieces_in, is_read, is_pushed, is_over, ends_send, live_of, live_sends}
 use Rattle.rdm_model.specs.Completions.{outcome, recv_completion, recv_completions, ended_sends, send_completion, completions_by, completions}
 use Rattle.rdm_model.proofs.SameReceives.{covers_more}
 use Rattle.rdm_model.proofs.Numbers.{sends_step}

@@ -22,7 +22,7 @@ use Rattle.rdm_model.specs.Matches.{Receive, receives, events_by, matching, pair
 use Rattle.rdm_model.specs.Receives.{has_ended, is_filled, concerns, recv_ends}
 use Rattle.rdm_model.specs.Scenes.{Scene}
 use Rattle.rdm_model.specs.Named.{live_pair}
-use Rattle.rdm_model.specs.Answers.{answer_of, is_posted}
+use Rattle.rdm_model.specs.Answers.{answer_of, is_unmatched}
 use Rattle.rdm_model.specs.Local.{heard_by}
 use Rattle.rdm_model.proofs.SameMatches.{matching_same}
 use Rattle.rdm_model.proofs.Grows.{agree_grows}
@@ -50,17 +50,17 @@ withdraws m bound n r numbered f =
     )
 
 -- a cancel that did is of a posted receive
-pub did_posted : (s : Scene) (recv : RecvNo) (what : DidWhat) → answer_of s (Cancel recv) ≡ DidAnswer what → is_posted s recv.0 ≡ true
+pub did_posted : (s : Scene) (recv : RecvNo) (what : DidWhat) → answer_of s (Cancel recv) ≡ DidAnswer what → is_unmatched s recv.0 ≡ true
 unfolding answer_of first_case
 did_posted s recv what h =
-    (elim (is_posted s recv.0) as (λ b. cond (not b) (Refused NotPosted) (DidAnswer Plain) ≡ DidAnswer what → b ≡ true) [
+    (elim (is_unmatched s recv.0) as (λ b. cond (not b) (Refused NotPosted) (DidAnswer Plain) ≡ DidAnswer what → b ≡ true) [
       | true ↦ λ k. refl
       | false ↦ λ k. cc
     ]) h
 
 -- a posted receive is found
-pub posted_recv : (s : Scene) (n : ℕ) → is_posted s n ≡ true → (r : PostedRecv) × (find (is_recv n) (matching s.own.limits.first s.ms.head s.log).posted ≡ Some r)
-unfolding is_posted
+pub posted_recv : (s : Scene) (n : ℕ) → is_unmatched s n ≡ true → (r : PostedRecv) × (find (is_recv n) (matching s.own.limits.first s.ms.head s.log).posted ≡ Some r)
+unfolding is_unmatched
 posted_recv s n h = some_of (find (is_recv n) (matching s.own.limits.first s.ms.head s.log).posted) h
 
 -- what a cancel leaves

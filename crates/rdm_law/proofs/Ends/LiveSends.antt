@@ -9,7 +9,7 @@ use Rattle.rdm_model.specs.Deeds.{Deed}
 use Rattle.rdm_model.specs.Owns.{Own, Messages}
 use Rattle.rdm_model.specs.Scenes.{Scene}
 use Rattle.rdm_model.specs.Sends.{Sent, sends}
-use Rattle.rdm_model.specs.Turns.{progress, is_over, live_of, live_sends}
+use Rattle.rdm_model.specs.Dues.{progress, is_over, live_of, live_sends}
 use Rattle.rdm_model.specs.Named.{live_send}
 use Rattle.rdm_model.proofs.Numbers.{sends_one}
 use Rattle.rdm_lists.proofs.Members.{member-filter, filter-member, find_member, member_find}

@@ -15,7 +15,7 @@ use Rattle.rdm_model.specs.Matches.{Receive, receives}
 use Rattle.rdm_model.specs.Receives.{RecvEnd, Filled, Withdrawn, Gone, ended_recv, recv_ends, with_recv_ends, recv_ends_by, receive_numbered}
 use Rattle.rdm_model.specs.Regions.{kept_bytes}
 use Rattle.rdm_model.specs.Sends.{Sent}
-use Rattle.rdm_model.specs.Turns.{progress}
+use Rattle.rdm_model.specs.Dues.{progress}
 use Rattle.rdm_model.specs.Completions.{took_outcome, outcome, recv_completion, recv_completions, send_completion, ended_sends, completions_by, completions}
 use Rattle.rdm_lists.proofs.Members.{member-append_left, member-append_right, member-append_cases, member-map}
 

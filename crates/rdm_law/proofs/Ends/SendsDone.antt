@@ -18,7 +18,7 @@ use Rattle.rdm_model.specs.Currents.{is_forgotten, forgotten_by}
 use Rattle.rdm_model.specs.Matches.{receives}
 use Rattle.rdm_model.specs.Receives.{recv_ends, recv_ends_by}
 use Rattle.rdm_model.specs.Sends.{Sent, sends}
-use Rattle.rdm_model.specs.Turns.{progress, is_read, is_pushed, is_over, ends_send, live_of, live_sends}
+use Rattle.rdm_model.specs.Dues.{progress, is_read, is_pushed, is_over, ends_send, live_of, live_sends}
 use Rattle.rdm_model.specs.Completions.{recv_completions, ended_sends, send_completion, completions_by, completions}
 use Rattle.rdm_model.specs.Scenes.{Scene}
 use Rattle.rdm_model.specs.Named.{live_send, is_read_send, is_no_op}

@@ -10,4 +10,4 @@ pub mod PacketsFit
 pub mod RepliesFit
 pub mod Headers
 pub mod OpeningsFit
-pub mod TurnsFit
+pub mod DuesFit

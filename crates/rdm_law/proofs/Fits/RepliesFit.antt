@@ -27,7 +27,7 @@ use Rattle.rdm_model.specs.Parts.{carried_pieces}
 use Rattle.rdm_model.specs.Sends.{sends}
 use Rattle.rdm_model.specs.Grants.{first_part, window_of, window, granted_bytes}
 use Rattle.rdm_model.specs.Replies.{Reply, end_for}
-use Rattle.rdm_model.specs.Turns.{progress}
+use Rattle.rdm_model.specs.Dues.{progress}
 use Rattle.rdm_model.specs.Local.{heads_by}
 use Rattle.rdm_law.proofs.Matching.Numbered.{matching_numbered}
 use Rattle.rdm_law.proofs.Replies.Owed.{NewReply, OwedIn, owed_in, shape_in, recv_in}

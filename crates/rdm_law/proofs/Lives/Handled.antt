@@ -21,7 +21,7 @@ use Rattle.rdm_model.specs.Wire.{IsUnhandled, Comes}
 use Rattle.rdm_law.proofs.Lives.Logs.{log_of-same, log_of-other}
 use Rattle.rdm_law.proofs.Lives.Lives.{life_of, at_of_life}
 use Rattle.rdm_law.proofs.Accounts.Pushed.{of_life_newest}
-use Rattle.rdm_law.proofs.Accounts.Wired.{Played, played_before, HandledBy, TakenTurn, act_took, taken_to, pushed_taken}
+use Rattle.rdm_law.proofs.Accounts.Wired.{Played, played_before, HandledBy, TakenDue, act_took, taken_to, pushed_taken}
 
 -- what holds of the deeds of a life as the history is longer by an entry: it is the life's, or not
 pub at_life : (P : List Deed → Type 0) (job : Job) (l : Life) (e : Entry) (before : List Entry)
@@ -48,7 +48,7 @@ life_newest job l e before s o =
 -- the datagram that a life takes by the newest entry: it was pushed before by the life that it names, and not handled before
 pub record NewTake (job : Job) (before : List Entry) (e : Entry) (l source : Life) (item : Item) : Type 0 where
   pub datagram : Datagram
-  pub turn' : TakenTurn job before l source item datagram
+  pub due' : TakenDue job before l source item datagram
   pub fresh : IsUnhandled datagram before
   pub handled : HandledBy l.port.0 datagram (e ∷ before)
 
@@ -65,7 +65,7 @@ new_take_at job before e port c source item played s o is =
     let came : Comes before e (Handle r.0 (TookAnswer r.1)) = subst C r.3 played.wire.1 in
     record {
       datagram = r.0;
-      turn' = pushed_taken job before (life_of port c) source item r.0 (played_before job e before played) t (ap (λ (p : PortNo). p.0) came.0 ∙ s) came.1;
+      due' = pushed_taken job before (life_of port c) source item r.0 (played_before job e before played) t (ap (λ (p : PortNo). p.0) came.0 ∙ s) came.1;
       fresh = came.2;
       handled = inl (r.1, r.3, s);
     }

@@ -26,12 +26,12 @@ use Rattle.rdm_model.specs.declared.entry.Act.TheVariants.{Next, Push, Handle, P
 use Rattle.rdm_model.specs.Deeds.{Deed, Did, PushedNote, Pushed, TookNote, Took, Polled, Nothing, Item, item_of, deed_by_next, deed_by_push, deed_by_handle, deed_of, deeds, open_life, is_connid, of_life, of_open_life}
 use Rattle.rdm_model.specs.Owns.{Own, rank_of, port_count, life_at, own_of}
 use Rattle.rdm_model.specs.Notes.{OwedNote, next_note}
-use Rattle.rdm_model.specs.Turns.{Turn, turn}
+use Rattle.rdm_model.specs.Dues.{Due, due}
 use Rattle.rdm_num.specs.declared.completion.Completion.{Completion}
 use Rattle.rdm_model.specs.Completions.{completions, poll_count}
 use Rattle.rdm_model.specs.Scenes.{Scene, scene, deeds_at}
 use Rattle.rdm_model.specs.Answers.{answer_of}
-use Rattle.rdm_model.specs.Going.{Going, GoesNote, Goes, turn_going, life_going, note_going, going, Bears, IsGoing, IsNext}
+use Rattle.rdm_model.specs.Going.{Going, GoesNote, Goes, due_going, life_going, note_going, going, Bears, IsGoing, IsNext}
 use Rattle.rdm_model.specs.Classes.{item_class, body_class, class_of}
 use Rattle.rdm_model.specs.Takes.{class_answer, handled_answer}
 use Rattle.rdm_model.specs.Steps.{Does}
@@ -46,7 +46,7 @@ life_scene ports own port_log log =
 -- what a deed is to the life that did it, after those deeds of the life
 abbrev pub LifeStep : Own → List Deed → Deed → Type 0
 LifeStep own log (Did instr) = (ports : ℕ) × (port_log : List Deed) × (what : DidWhat) × (answer_of (life_scene ports own port_log log) instr ≡ DidAnswer what)
-LifeStep own log Pushed = (t : Turn) × (turn own (heard_by own.limits.first log) log ≡ Some t)
+LifeStep own log Pushed = (t : Due) × (due own (heard_by own.limits.first log) log ≡ Some t)
 LifeStep own log (Took from item) =
     (ports : ℕ) × (port_log : List Deed) × (item_class (life_scene ports own port_log log) from own.life.connid item ≡ None)
 LifeStep own log PushedNote = Unit {0}
@@ -59,11 +59,11 @@ abbrev pub LifeLocal : Own → List Deed → Type 0
 LifeLocal own [] = Unit {0}
 LifeLocal own (d ∷ log) = LifeLocal own log × LifeStep own log d
 
--- that turn was pushed, after so many deeds
-abbrev pub TurnedAt : Own → Turn → ℕ → List Deed → Type 0
-TurnedAt own t k [] = ⊥
-TurnedAt own t k (d ∷ before) =
-    ((d ≡ Pushed) × (turn own (heard_by own.limits.first before) before ≡ Some t) × (k ≡ length before)) ⊎ TurnedAt own t k before
+-- that due item was pushed, after so many deeds
+abbrev pub WasDueAt : Own → Due → ℕ → List Deed → Type 0
+WasDueAt own t k [] = ⊥
+WasDueAt own t k (d ∷ before) =
+    ((d ≡ Pushed) × (due own (heard_by own.limits.first before) before ≡ Some t) × (k ≡ length before)) ⊎ WasDueAt own t k before
 
 -- the life of a port with that identifier
 abbrev pub life_of : ℕ → Connid → Life
@@ -97,17 +97,17 @@ pub opened_scene : (job : Job) (port : ℕ) (connid : Connid) (log : List Deed) 
 unfolding own_scene scene life_at of_open_life own_of
 opened_scene job port connid log h = rw h refl
 
--- what a turn gives is all that is asked of a push between lives
+-- what a due item gives is all that is asked of a push between lives
 pub record GoesOut (own : Own) (log : List Deed) (to : Life) (item : Item) : Type 0 where
-  pub turn' : Turn
-  pub is : turn own (heard_by own.limits.first log) log ≡ Some turn'
-  pub gives : turn_going (Some turn') ≡ Some (Goes to item)
+  pub due' : Due
+  pub is : due own (heard_by own.limits.first log) log ≡ Some due'
+  pub gives : due_going (Some due') ≡ Some (Goes to item)
 
--- what goes out between lives is of a turn
-turn_goes : (o : Option Turn) (to : Life) (item : Item) → turn_going o ≡ Some (Goes to item) → (t : Turn) × (o ≡ Some t) × (turn_going (Some t) ≡ Some (Goes to item))
-unfolding turn_going
-turn_goes None to item h = cc
-turn_goes (Some t) to item h = (t, refl, h)
+-- what goes out between lives is of a due item
+due_goes : (o : Option Due) (to : Life) (item : Item) → due_going o ≡ Some (Goes to item) → (t : Due) × (o ≡ Some t) × (due_going (Some t) ≡ Some (Goes to item))
+unfolding due_going
+due_goes None to item h = cc
+due_goes (Some t) to item h = (t, refl, h)
 
 -- what goes out between lives goes where no note does
 pub note_goes : (o : Option OwedNote) (others : Option Going) (to : Life) (item : Item) → note_going o others ≡ Some (Goes to item) → others ≡ Some (Goes to item)
@@ -115,16 +115,16 @@ unfolding note_going
 note_goes None others to item h = h
 note_goes (Some note) others to item h = cc
 
--- what goes out of an open life is of its next turn
+-- what goes out of an open life is of its next due item
 goes_out : (ports : ℕ) (own : Own) (port_log log : List Deed) (to : Life) (item : Item)
     → going (life_scene ports own port_log log) ≡ Some (Goes to item) → GoesOut own log to item
 unfolding going life_going
 goes_out ports own port_log log to item h =
-    let g = note_goes (next_note ports own.life.port.0 port_log) (turn_going (turn own (heard_by own.limits.first log) log)) to item h in
-    let r = turn_goes (turn own (heard_by own.limits.first log) log) to item g in
-    record { turn' = r.0; is = r.1; gives = r.2 }
+    let g = note_goes (next_note ports own.life.port.0 port_log) (due_going (due own (heard_by own.limits.first log) log)) to item h in
+    let r = due_goes (due own (heard_by own.limits.first log) log) to item g in
+    record { due' = r.0; is = r.1; gives = r.2 }
 
--- a push between lives is of the life's next turn
+-- a push between lives is of the life's next due item
 pub record IsPush (own : Own) (log : List Deed) (d : Datagram) (from to : Connid) (load : Load) : Type 0 where
   pub dest : Life
   pub item : Item
@@ -152,7 +152,7 @@ push_is_going ports own port_log log d from to load (Goes dest item) b is h =
       bears = (let B : Load → Type 0 = λ x. Bears item x in subst B (sym e) h.1.2);
     }
 
--- a push between lives that is next is of the next turn of the open life
+-- a push between lives that is next is of the next due item of the open life
 pub push_is : (ports : ℕ) (own : Own) (port_log log : List Deed) (d : Datagram) (from to : Connid) (load : Load)
     → d.body ≡ Between from to load → IsNext (life_scene ports own port_log log) d → IsPush own log d from to load
 push_is ports own port_log log d from to load b n = push_is_going ports own port_log log d from to load n.0 b n.1 n.2
@@ -173,7 +173,7 @@ unfolding deed_by_push
 push_step ports own port_log log d (Note note) b n = tt
 push_step ports own port_log log d (Between from to load) b n =
     let p = push_is ports own port_log log d from to load b n in
-    (p.out.turn', p.out.is)
+    (p.out.due', p.out.is)
 
 -- where no case holds, the first one does not
 pub first_none : {A : Type 0} (b : Bool) (x : A) (cs : List (Bool × Option A)) → first_case ((b, Some x) ∷ cs) None ≡ None

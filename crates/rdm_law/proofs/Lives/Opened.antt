@@ -14,9 +14,9 @@ use Rattle.rdm_model.specs.declared.entry.Entry.{Entry}
 use Rattle.rdm_model.specs.declared.entry.Act.TheVariants.{Push}
 use Rattle.rdm_model.specs.Deeds.{Deed, Did, deeds, open_after, open_life}
 use Rattle.rdm_model.specs.Notes.{OwedNote, note_to, notes_by, notes, next_note}
-use Rattle.rdm_model.specs.Turns.{Turn, Replies, Sends}
+use Rattle.rdm_model.specs.Dues.{Due, Replies, Sends}
 use Rattle.rdm_model.specs.Scenes.{Scene, scene, deeds_at}
-use Rattle.rdm_model.specs.Going.{Going, GoesNote, Goes, turn_going, life_going, note_going, going, IsGoing}
+use Rattle.rdm_model.specs.Going.{Going, GoesNote, Goes, due_going, life_going, note_going, going, IsGoing}
 use Rattle.rdm_model.specs.Classes.{class_of}
 use Rattle.rdm_model.specs.Steps.{Does}
 use Rattle.rdm_model.specs.Local.{own_scene, Local}
@@ -65,17 +65,17 @@ owed_opened ports port (d ∷ before) n c m e =
     ]
 
 -- only notes of the port go as notes
-no_turn_note : (o : Option Turn) (n : OwedNote) → turn_going o ≡ Some (GoesNote n) → ⊥
-unfolding turn_going
-no_turn_note None n h = cc
-no_turn_note (Some (Replies r)) n h = cc
-no_turn_note (Some (Sends s p)) n h = cc
+no_due_note : (o : Option Due) (n : OwedNote) → due_going o ≡ Some (GoesNote n) → ⊥
+unfolding due_going
+no_due_note None n h = cc
+no_due_note (Some (Replies r)) n h = cc
+no_due_note (Some (Sends s p)) n h = cc
 
 -- an open life sends no notes
 pub no_life_note : (s : Scene) (now : Option Connid) (n : OwedNote) → life_going now s ≡ Some (GoesNote n) → ⊥
 unfolding life_going
 no_life_note s None n h = cc
-no_life_note s (Some c) n h = no_turn_note _ n h
+no_life_note s (Some c) n h = no_due_note _ n h
 
 -- a note that goes is the first one
 pub first_note : (o : Option OwedNote) (others : Option Going) (n : OwedNote) → note_going o others ≡ Some (GoesNote n) → (others ≡ Some (GoesNote n) → ⊥) → o ≡ Some n

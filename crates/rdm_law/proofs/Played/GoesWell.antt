@@ -22,8 +22,8 @@ use Rattle.rdm_model.specs.Owns.{Own, rank_of, no_rank, port_count, own_of}
 use Rattle.rdm_model.specs.Jobs.{is_fair, law_ops, instr_fits}
 use Rattle.rdm_model.specs.Scenes.{Scene, scene, deeds_at}
 use Rattle.rdm_model.specs.Notes.{next_note}
-use Rattle.rdm_model.specs.Turns.{Turn, turn}
-use Rattle.rdm_model.specs.Going.{Goes, turn_going, life_going, going}
+use Rattle.rdm_model.specs.Dues.{Due, due}
+use Rattle.rdm_model.specs.Going.{Goes, due_going, life_going, going}
 use Rattle.rdm_model.specs.Local.{heard_by, own_scene, Local}
 use Rattle.rdm_law.proofs.Lives.Lives.{life_scene, life_of, opened_scene, note_goes, life_local}
 use Rattle.rdm_law.proofs.Fits.Fitting.{AllHandledFit, CanGo}
@@ -32,7 +32,7 @@ use Rattle.rdm_law.proofs.Fits.RegionsFit.{DidFits, AllDidFit, MessagesFit}
 use Rattle.rdm_law.proofs.Fits.AnswersFit.{ranges_fit, numbers_fit}
 use Rattle.rdm_law.proofs.Fits.SentFits.{DeedsFit}
 use Rattle.rdm_law.proofs.Fits.RepliesFit.{OwnFits, HeadsFit, heads_fit}
-use Rattle.rdm_law.proofs.Fits.TurnsFit.{turn_fits}
+use Rattle.rdm_law.proofs.Fits.DuesFit.{due_fits}
 use Rattle.rdm_law.proofs.Played.Sound.{GoesWell}
 use Rattle.rdm_law.proofs.Fits.FairJobs.{JobFits, fair_job, all_did_fit, all_taken_fit, life_did, life_taken, life_count, did_instructions, next_within}
 
@@ -111,19 +111,19 @@ open_port job port log c is =
           absurd (none_some c (sym r ∙ q))
     ]
 
--- what goes out of a port is the turn of its open life
-turn_of_going : (o : Option Turn) (to : Life) (item : Item) → turn_going o ≡ Some (Goes to item) → (t : Turn) × (o ≡ Some t) × (turn_going (Some t) ≡ Some (Goes to item))
-unfolding turn_going
-turn_of_going None to item h = cc
-turn_of_going (Some t) to item h = (t, refl, h)
+-- what goes out of a port is the due item of its open life
+due_of_going : (o : Option Due) (to : Life) (item : Item) → due_going o ≡ Some (Goes to item) → (t : Due) × (o ≡ Some t) × (due_going (Some t) ≡ Some (Goes to item))
+unfolding due_going
+due_of_going None to item h = cc
+due_of_going (Some t) to item h = (t, refl, h)
 
--- what goes out of an open life is its turn
+-- what goes out of an open life is its due item
 pub life_goes : (ports : ℕ) (own : Own) (port_log log : List Deed) (to : Life) (item : Item) → going (life_scene ports own port_log log) ≡ Some (Goes to item)
-    → (t : Turn) × (turn own (heard_by own.limits.first log) log ≡ Some t) × (turn_going (Some t) ≡ Some (Goes to item))
+    → (t : Due) × (due own (heard_by own.limits.first log) log ≡ Some t) × (due_going (Some t) ≡ Some (Goes to item))
 unfolding going life_going
 life_goes ports own port_log log to item h =
-    turn_of_going (turn own (heard_by own.limits.first log) log) to item
-    (note_goes (next_note ports own.life.port.0 port_log) (turn_going (turn own (heard_by own.limits.first log) log)) to item h)
+    due_of_going (due own (heard_by own.limits.first log) log) to item
+    (note_goes (next_note ports own.life.port.0 port_log) (due_going (due own (heard_by own.limits.first log) log)) to item h)
 
 -- where no life is open nothing goes to a life
 pub closed_goes : (s : Scene) (to : Life) (item : Item) → s.now ≡ None → going s ≡ Some (Goes to item) → ⊥
@@ -187,7 +187,7 @@ open_goes_well job port log to item c fair l h is goes =
     let ms = heard_by own.limits.first mine in
     let bytes : MessagesFit ms = λ source k. bytes_by_fit own.limits.first mine source k fits.taken in
     let heads : HeadsFit ms.head = heads_fit mine fits.taken in
-    turn_fits (port_count job) own ms mine t.0 to item (life_begins job port log c fair is) fair.limits bytes heads fits.deeds_fit fits.taken t.1 t.2
+    due_fits (port_count job) own ms mine t.0 to item (life_begins job port log c fair is) fair.limits bytes heads fits.deeds_fit fits.taken t.1 t.2
 
 -- what goes out in a fair job fits the wire
 pub goes_well : (job : Job) → IsTrue (is_fair law_ops job) → GoesWell job

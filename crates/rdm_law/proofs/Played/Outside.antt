@@ -26,8 +26,8 @@ use Rattle.rdm_model.specs.Jobs.{is_fair, law_ops, instr_fits, is_rank, choice_r
 use Rattle.rdm_model.specs.Scenes.{Scene, scene, deeds_at}
 use Rattle.rdm_model.specs.Answers.{answer_of, is_entry}
 use Rattle.rdm_model.specs.Classes.{class_of}
-use Rattle.rdm_model.specs.Turns.{Turn, Replies, Sends, turn}
-use Rattle.rdm_model.specs.Going.{Going, GoesNote, Goes, turn_going, life_going, note_going, going}
+use Rattle.rdm_model.specs.Dues.{Due, Replies, Sends, due}
+use Rattle.rdm_model.specs.Going.{Going, GoesNote, Goes, due_going, life_going, note_going, going}
 use Rattle.rdm_model.specs.Notes.{OwedNote, next_note}
 use Rattle.rdm_model.specs.Takes.{is_again_early}
 use Rattle.rdm_model.specs.Settled.{is_worn, is_worn_by}
@@ -44,7 +44,7 @@ use Rattle.rdm_law.proofs.Played.Sound.{Sound, chosen}
 use Rattle.rdm_law.proofs.Played.PlayedSteps.{Keeps}
 use Rattle.rdm_law.proofs.Played.Quiet.{going_to}
 use Rattle.rdm_law.proofs.Played.QuietSettled.{GoesToRanks}
-use Rattle.rdm_law.proofs.Played.Ranks.{LifeIs, LivesAre, turn_is_to, next_note_to}
+use Rattle.rdm_law.proofs.Played.Ranks.{LifeIs, LivesAre, due_is_to, next_note_to}
 
 -- an entry is in the log of its port alone
 entry_elsewhere : (job : Job) (w : World) (port p : ℕ) (act : Act) → (p ≡ port → ⊥) → (with_entry job w port act).logs p ≡ w.logs p
@@ -162,18 +162,18 @@ unfolding of_life
 life_of_ranks P c [] h = tt
 life_of_ranks P c (d ∷ before) h = at_of_life (LivesAre P) c d before (λ s. (life_of_ranks P c before h.0, h.1)) (λ s. life_of_ranks P c before h.0)
 
--- a turn is no note
-turn_no_note : (o : Option Turn) (n : OwedNote) → turn_going o ≡ Some (GoesNote n) → ⊥
-unfolding turn_going
-turn_no_note None n h = cc
-turn_no_note (Some (Replies r)) n h = cc
-turn_no_note (Some (Sends s p)) n h = cc
+-- a due item is no note
+due_no_note : (o : Option Due) (n : OwedNote) → due_going o ≡ Some (GoesNote n) → ⊥
+unfolding due_going
+due_no_note None n h = cc
+due_no_note (Some (Replies r)) n h = cc
+due_no_note (Some (Sends s p)) n h = cc
 
 -- what goes out of a life is no note
 no_note : (s : Scene) (now : Option Connid) (n : OwedNote) → life_going now s ≡ Some (GoesNote n) → ⊥
 unfolding life_going
 no_note s None n h = cc
-no_note s (Some c) n h = turn_no_note (turn s.own s.ms s.log) n h
+no_note s (Some c) n h = due_no_note (due s.own s.ms s.log) n h
 
 -- the next note of a port goes to a rank
 scene_note : (job : Job) (port : ℕ) (log : List Deed) (n : OwedNote) → AllDidFit (port_count job) log
@@ -214,7 +214,7 @@ life_rank job w port to item fair s empty is =
           let own = own_of job (life_of port c) in
           let mine = of_life c port_log in
           let t = life_goes (port_count job) own port_log mine to item (subst (λ (x : Scene). going x ≡ Some (Goes to item)) (opened_scene job port c port_log now) is) in
-          turn_is_to (OfRank (port_count job)) own (heard_by own.limits.first mine) mine t.0 to item (life_of_ranks (OfRank (port_count job)) c port_log ranks) t.1 t.2
+          due_is_to (OfRank (port_count job)) own (heard_by own.limits.first mine) mine t.0 to item (life_of_ranks (OfRank (port_count job)) c port_log ranks) t.1 t.2
     ]) refl
 
 -- all that goes out of a fair job's ports goes to ranks

@@ -8,7 +8,7 @@ use Rattle.rdm_model.specs.declared.job.Choice.{Choice}
 use Rattle.rdm_model.specs.Owns.{port_count}
 use Rattle.rdm_model.specs.Jobs.{is_fair, choices_fit, choice_rank}
 use Rattle.rdm_model.specs.Worlds.{World, new_world, after_choice, after_choices}
-use Rattle.rdm_model.specs.Played.{stop_if, is_last_try, try_then, after_first_handle, handle_any, turn_of, turns_of, round_of, unless_quiet, rounds, round_bound, played_world}
+use Rattle.rdm_model.specs.Played.{stop_if, is_last_try, try_then, after_first_handle, handle_any, visit_of, visits_of, round_of, unless_quiet, rounds, round_bound, played_world}
 use Rattle.rdm_lists.proofs.Below.{member_below}
 
 -- each choice of a rank keeps it
@@ -31,9 +31,9 @@ first_handle_keeps job P keeps (suc fuel) port pick w is h =
     stop_keeps P (is_last_try port pick w v) v (after_first_handle fuel job port (pick + 1)) now (first_handle_keeps job P keeps fuel port (pick + 1) v is now)
 
 -- a port's part of a round
-pub turn_keeps : (job : Job) (P : World → Type 0) → Keeps job P → (port : ℕ) (w : World) → port < port_count job → P w → P (turn_of job w port)
-unfolding turn_of handle_any choice_rank
-turn_keeps job P keeps port w is h =
+pub visit_keeps : (job : Job) (P : World → Type 0) → Keeps job P → (port : ℕ) (w : World) → port < port_count job → P w → P (visit_of job w port)
+unfolding visit_of handle_any choice_rank
+visit_keeps job P keeps port w is h =
     let a = after_choice job w (Choice.Next port) in
     let b = after_choice job a (Choice.Push port) in
     let n = length (b.stashes port) + length (b.queues port) + 1 in
@@ -44,17 +44,17 @@ turn_keeps job P keeps port w is h =
     keeps c (Choice.Poll port) is pc
 
 -- the parts of some ports
-pub turns_keep : (job : Job) (P : World → Type 0) → Keeps job P → (ports : List ℕ) (w : World) → ((port : ℕ) → Member port ports → port < port_count job) → P w
-    → P (turns_of job w ports)
-unfolding turns_of
-turns_keep job P keeps [] w are h = h
-turns_keep job P keeps (port ∷ ports) w are h =
-    turns_keep job P keeps ports (turn_of job w port) (λ p m. are p (inr m)) (turn_keeps job P keeps port w (are port (inl refl)) h)
+pub visits_keep : (job : Job) (P : World → Type 0) → Keeps job P → (ports : List ℕ) (w : World) → ((port : ℕ) → Member port ports → port < port_count job) → P w
+    → P (visits_of job w ports)
+unfolding visits_of
+visits_keep job P keeps [] w are h = h
+visits_keep job P keeps (port ∷ ports) w are h =
+    visits_keep job P keeps ports (visit_of job w port) (λ p m. are p (inr m)) (visit_keeps job P keeps port w (are port (inl refl)) h)
 
 -- a round
 pub round_keeps : (job : Job) (P : World → Type 0) → Keeps job P → (w : World) → P w → P (round_of job w)
 unfolding round_of
-round_keeps job P keeps w h = turns_keep job P keeps (below (port_count job)) w (member_below (port_count job)) h
+round_keeps job P keeps w h = visits_keep job P keeps (below (port_count job)) w (member_below (port_count job)) h
 
 -- rounds
 pub rounds_keep : (job : Job) (P : World → Type 0) → Keeps job P → (fuel : ℕ) (w : World) → P w → P (rounds fuel job w)

@@ -13,13 +13,13 @@ use Rattle.rdm_model.specs.Going.{going}
 use Rattle.rdm_model.specs.Settled.{is_worn}
 use Rattle.rdm_model.specs.Local.{own_scene}
 use Rattle.rdm_model.specs.Worlds.{World, after_choice}
-use Rattle.rdm_model.specs.Played.{stop_if, handle_any, turn_of, turns_of, round_of, unless_quiet, rounds}
+use Rattle.rdm_model.specs.Played.{stop_if, handle_any, visit_of, visits_of, round_of, unless_quiet, rounds}
 use Rattle.rdm_law.proofs.Played.Quiet.{Still, still_refl, still_then, Outcome, NextQuiet, going_to, PushQuiet, PollQuiet, next_outcome, push_outcome, poll_outcome}
 use Rattle.rdm_law.proofs.Played.QuietHandles.{at_most, PlacesQuiet, HandleQuiet, handle_any_outcome, still_place}
 use Rattle.rdm_lists.proofs.Below.{member_below}
 
 -- nothing that a port could do would change anything
-pub record TurnQuiet (job : Job) (port : ℕ) (w : World) : Type 0 where
+pub record VisitQuiet (job : Job) (port : ℕ) (w : World) : Type 0 where
   pub next : NextQuiet job port (w.logs port)
   pub push : PushQuiet job port (w.logs port) w.queues
   pub poll : PollQuiet job port (w.logs port)
@@ -35,8 +35,8 @@ still_push job port w v s q g goes =
     subst R (s.logs port) (subst Q (s.queues (going_to g)) (q g (subst P (sym (s.logs port)) goes)))
 
 -- so of all that a port could do
-pub still_turn : (job : Job) (port : ℕ) (w v : World) → Still w v → TurnQuiet job port v → TurnQuiet job port w
-still_turn job port w v s q = record {
+pub still_visit : (job : Job) (port : ℕ) (w v : World) → Still w v → VisitQuiet job port v → VisitQuiet job port w
+still_visit job port w v s q = record {
   next = subst (NextQuiet job port) (s.logs port) q.next;
   push = still_push job port w v s q.push;
   poll = subst (PollQuiet job port) (s.logs port) q.poll;
@@ -61,9 +61,9 @@ one_then w v u A B C (inr a) (inl less) both = (let e = a.0.changes in inl (omeg
 one_then w v u A B C (inr a) (inr b) both = inr (still_then w v u a.0 b.0, both a.0 a.1 b.1)
 
 -- a port's part of a round
-pub turn_outcome : (job : Job) (w : World) (port : ℕ) → 0 < job.inbox → port < port_count job → Outcome w (turn_of job w port) (TurnQuiet job port w)
-unfolding turn_of
-turn_outcome job w port some rank =
+pub visit_outcome : (job : Job) (w : World) (port : ℕ) → 0 < job.inbox → port < port_count job → Outcome w (visit_of job w port) (VisitQuiet job port w)
+unfolding visit_of
+visit_outcome job w port some rank =
     let a = after_choice job w (Choice.Next port) in
     let b = after_choice job a (Choice.Push port) in
     let c = handle_any job b port in
@@ -75,7 +75,7 @@ turn_outcome job w port some rank =
     (λ s n u. (n, still_push job port w a s u)) in
     let three : Outcome w c (N × U × H) = one_then w b c (N × U) (HandleQuiet job port b) (N × U × H) two (handle_any_outcome job b port some rank)
     (λ s nu h. (nu.0, nu.1, still_handle job port w b s h)) in
-    one_then w c d (N × U × H) (PollQuiet job port (c.logs port)) (TurnQuiet job port w) three (poll_outcome job c port)
+    one_then w c d (N × U × H) (PollQuiet job port (c.logs port)) (VisitQuiet job port w) three (poll_outcome job c port)
     (λ s nuh p. record {
       next = nuh.0;
       push = nuh.1;
@@ -86,25 +86,25 @@ turn_outcome job w port some rank =
 
 -- nothing that these ports could do would change anything
 abbrev pub AllQuiet : Job → List ℕ → World → Type 0
-AllQuiet job ports w = (port : ℕ) → Member port ports → TurnQuiet job port w
+AllQuiet job ports w = (port : ℕ) → Member port ports → VisitQuiet job port w
 
 -- the parts of some ports
-turns_outcome : (job : Job) (ports : List ℕ) (w : World) → 0 < job.inbox → ((port : ℕ) → Member port ports → port < port_count job) → Outcome w (turns_of job w ports) (AllQuiet job ports w)
-unfolding turns_of
-turns_outcome job [] w some ranks = inr (still_refl w, λ port m. elim m [ ])
-turns_outcome job (port ∷ ports) w some ranks =
-    let v = turn_of job w port in
-    one_then w v (turns_of job v ports) (TurnQuiet job port w) (AllQuiet job ports v) (AllQuiet job (port ∷ ports) w)
-    (turn_outcome job w port some (ranks port (inl refl))) (turns_outcome job ports v some (λ p m. ranks p (inr m)))
+visits_outcome : (job : Job) (ports : List ℕ) (w : World) → 0 < job.inbox → ((port : ℕ) → Member port ports → port < port_count job) → Outcome w (visits_of job w ports) (AllQuiet job ports w)
+unfolding visits_of
+visits_outcome job [] w some ranks = inr (still_refl w, λ port m. elim m [ ])
+visits_outcome job (port ∷ ports) w some ranks =
+    let v = visit_of job w port in
+    one_then w v (visits_of job v ports) (VisitQuiet job port w) (AllQuiet job ports v) (AllQuiet job (port ∷ ports) w)
+    (visit_outcome job w port some (ranks port (inl refl))) (visits_outcome job ports v some (λ p m. ranks p (inr m)))
     (λ s first rest p m. elim m [
-      | inl is ↦ subst (λ (x : ℕ). TurnQuiet job x w) is first
-      | inr k ↦ still_turn job p w v s (rest p k)
+      | inl is ↦ subst (λ (x : ℕ). VisitQuiet job x w) is first
+      | inr k ↦ still_visit job p w v s (rest p k)
     ])
 
 -- a round
 pub round_outcome : (job : Job) (w : World) → 0 < job.inbox → Outcome w (round_of job w) (AllQuiet job (below (port_count job)) w)
 unfolding round_of
-round_outcome job w some = turns_outcome job (below (port_count job)) w some (member_below (port_count job))
+round_outcome job w some = visits_outcome job (below (port_count job)) w some (member_below (port_count job))
 
 -- where a test holds the world is the first one, and else the other
 ended : (P : World → Type 0) (b : Bool) (v : World) (go_on : World → World) → (b ≡ true → P v) → (b ≡ false → P (go_on v)) → P (stop_if b v go_on)
@@ -123,7 +123,7 @@ rounds_end job (suc fuel) w some =
     ended Goal (v.changes == w.changes) v (rounds fuel job)
     (λ is. elim (round_outcome job w some) [
       | inl less ↦ (let same : v.changes ≡ w.changes = eqb-true _ _ is in absurd (omega arith))
-      | inr a ↦ inr (λ port m. still_turn job port v w (still_back w v a.0) (a.1 port m))
+      | inr a ↦ inr (λ port m. still_visit job port v w (still_back w v a.0) (a.1 port m))
     ])
     (λ is. elim (round_outcome job w some) [
       | inl less ↦ elim (rounds_end job fuel v some) [

@@ -30,7 +30,7 @@ use Rattle.rdm_law.proofs.Played.Sound.{Sound, waiting_in}
 use Rattle.rdm_law.proofs.Played.Delivers.{AreNumbered}
 use Rattle.rdm_law.proofs.Played.WaitingAll.{waits_once, waits_by_logs, waiting_count}
 use Rattle.rdm_law.proofs.Played.Quiet.{NextQuiet, going_to, PushQuiet, PollQuiet}
-use Rattle.rdm_law.proofs.Played.QuietRounds.{TurnQuiet, AllQuiet}
+use Rattle.rdm_law.proofs.Played.QuietRounds.{VisitQuiet, AllQuiet}
 use Rattle.rdm_lists.proofs.Below.{below_member}
 use Rattle.rdm_lists.proofs.Places.{member_at}
 
@@ -84,7 +84,7 @@ all_from_members p [] h = refl
 all_from_members p (x ∷ xs) h = and_from (p x) (list_all p xs) (h x (inl refl)) (all_from_members p xs (λ y m. h y (inr m)))
 
 -- a datagram that waits for a quiet port can't be handled
-waits_quiet : (job : Job) (w : World) (history : List Entry) (port : ℕ) (d : Datagram) → Sound job w → IsJoint w.logs history → Played job history → TurnQuiet job port w
+waits_quiet : (job : Job) (w : World) (history : List Entry) (port : ℕ) (d : Datagram) → Sound job w → IsJoint w.logs history → Played job history → VisitQuiet job port w
     → Member d (waiting_datagrams port history)
     → (is_again_early lives_class (sent_scene job port history) d || is_worn_by job (log_of port history) d) ≡ true
 unfolding port_deeds
@@ -140,7 +140,7 @@ quiet_settled job w history some s joint played quiet ranks =
     all_from_members (is_quiet_in job history) (below (port_count job)) (λ port m. port_quiet job w history port some s joint played quiet ranks m)
 
 -- as many datagrams are in a quiet port's stash as wait for it in the history
-pub quiet_stash : (job : Job) (w : World) (history : List Entry) (port : ℕ) → Sound job w → IsJoint w.logs history → Played job history → TurnQuiet job port w
+pub quiet_stash : (job : Job) (w : World) (history : List Entry) (port : ℕ) → Sound job w → IsJoint w.logs history → Played job history → VisitQuiet job port w
     → length (w.stashes port) ≡ length (waiting_datagrams port history)
 quiet_stash job w history port s joint played q =
     let all = waiting_count w.logs (waiting_in w) history port s.delivers joint played.wire in

@@ -16,18 +16,18 @@ use Rattle.rdm_model.specs.Matches.{pairs}
 use Rattle.rdm_model.specs.Sends.{Sent, sends_to, new_sent, range_of, sends}
 use Rattle.rdm_model.specs.Regions.{regions}
 use Rattle.rdm_model.specs.Replies.{Reply}
-use Rattle.rdm_model.specs.Turns.{Turn, Replies, Sends, progress, turn}
-use Rattle.rdm_model.specs.Going.{Goes, turn_going}
+use Rattle.rdm_model.specs.Dues.{Due, Replies, Sends, progress, due}
+use Rattle.rdm_model.specs.Going.{Goes, due_going}
 use Rattle.rdm_model.specs.Jobs.{instr_fits, is_rank}
 use Rattle.rdm_model.proofs.Matches.{pair_heard}
 use Rattle.rdm_model.proofs.Numbers.{sends_keep}
-use Rattle.rdm_model.proofs.Turns.{turn_cases}
+use Rattle.rdm_model.proofs.Dues.{due_cases}
 use Rattle.rdm_law.proofs.Replies.Owed.{NewReply, OwedIn, owed_in}
 use Rattle.rdm_law.proofs.Replies.Queue.{owed}
 use Rattle.rdm_law.proofs.Replies.Answered.{waits_owed}
 use Rattle.rdm_law.proofs.Accounts.Known.{heard_taken}
 use Rattle.rdm_law.proofs.Fits.RegionsFit.{DidFits, AllDidFit}
-use Rattle.rdm_law.proofs.Fits.TurnsFit.{reply_no_send}
+use Rattle.rdm_law.proofs.Fits.DuesFit.{reply_no_send}
 use Rattle.rdm_lists.proofs.Members.{member-append_cases, member-filter, member-map}
 use Rattle.rdm_lists.proofs.Options.{or_else_cases, then_some_parts}
 use Rattle.rdm_lists.proofs.Places.{slice_get-member}
@@ -132,11 +132,11 @@ owed_is P own ms (d ∷ before) r h (inl new) = reply_is P own ms d before r h n
 owed_is P own ms (d ∷ before) r h (inr i) = owed_is P own ms before r h.0 i
 
 -- what goes out of a life goes to one of those
-pub turn_is_to : (P : Life → Type 0) (own : Own) (ms : Messages) (log : List Deed) (t : Turn) (to : Life) (item : Item) → LivesAre P log → turn own ms log ≡ Some t
-    → turn_going (Some t) ≡ Some (Goes to item) → P to
-unfolding turn_going
-turn_is_to P own ms log (Replies r) to item h is goes =
-    elim (turn_cases own ms log (Replies r) is) [
+pub due_is_to : (P : Life → Type 0) (own : Own) (ms : Messages) (log : List Deed) (t : Due) (to : Life) (item : Item) → LivesAre P log → due own ms log ≡ Some t
+    → due_going (Some t) ≡ Some (Goes to item) → P to
+unfolding due_going
+due_is_to P own ms log (Replies r) to item h is goes =
+    elim (due_cases own ms log (Replies r) is) [
       | inl a ↦
           let same : a.0 ≡ r = (let e = a.2 in cc) in
           let waits : Member r (progress own ms log).replies = subst (λ (x : Reply). Member x (progress own ms log).replies) same (slice_get-member (progress own ms log).replies 0 a.0 a.1) in
@@ -145,8 +145,8 @@ turn_is_to P own ms log (Replies r) to item h is goes =
           subst P to_is (owed_is P own ms log r h (owed_in own ms log r (slice_get-member (owed own ms log) w.0.place r w.3)))
       | inr a ↦ (let e = a.1.is in absurd (reply_no_send r a.1.sent a.1.packet e))
     ]
-turn_is_to P own ms log (Sends s p) to item h is goes =
-    elim (turn_cases own ms log (Sends s p) is) [
+due_is_to P own ms log (Sends s p) to item h is goes =
+    elim (due_cases own ms log (Sends s p) is) [
       | inl a ↦ absurd (reply_no_send a.0 s p (sym a.2))
       | inr a ↦
           let same : a.1.sent ≡ s = (let e = a.1.is in cc) in

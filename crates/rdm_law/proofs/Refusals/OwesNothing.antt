@@ -26,11 +26,11 @@ use Rattle.rdm_model.specs.Receives.{is_filled}
 use Rattle.rdm_model.specs.Sends.{Sent, sends}
 use Rattle.rdm_model.specs.Grants.{grants, grants_by, first_part, first_part_taken, first_part_by, window, granted_bytes}
 use Rattle.rdm_model.specs.Replies.{Reply, reply, handshake_by, given_by, pair_items, pair_replies, grant_for, replies_by, without_lives, without_forgotten}
-use Rattle.rdm_model.specs.Turns.{Progress, progress, after_deed, after_push, next_packet, next_send, next_turn, turn}
+use Rattle.rdm_model.specs.Dues.{Progress, progress, after_deed, after_push, next_packet, next_send, next_due, due}
 use Rattle.rdm_model.specs.Lawful.{life_deeds, sent_to}
 use Rattle.rdm_model.proofs.Matches.{member_is_pair}
 use Rattle.rdm_model.proofs.SameRegions.{Agree}
-use Rattle.rdm_model.proofs.SameTurns.{progress_same, turn_same}
+use Rattle.rdm_model.proofs.SameDues.{progress_same, due_same}
 use Rattle.rdm_law.specs.Clauses.{OwesAs, DropsOweNothing}
 use Rattle.rdm_law.proofs.Accounts.Wired.{Played}
 use Rattle.rdm_law.proofs.Accounts.Known.{account}
@@ -158,7 +158,7 @@ progress_still own ms log none =
 owes_own : (own : Own) (ms : Messages) (log : List Deed)
     → ((p : Pair) → Member p (pairs own.limits.first ms.head log) → window own.limits ms.head (Nothing ∷ log) p (granted_bytes own.limits ms.head log p) ≡ 0)
     → OwesAs own ms (Nothing ∷ log) log
-unfolding turn next_turn
+unfolding due next_due
 owes_own own ms log none =
     let e = progress_still own ms log none in
     let s = sends_still own ms log in
@@ -180,8 +180,8 @@ owes_by own ms ns log a o =
     let b = agree_still own.limits.first ms ns log a in
     let p = progress_same own ms ns log a in
     let q = progress_same own ms ns (Nothing ∷ log) b in
-    let t = turn_same own ms ns log a in
-    let u = turn_same own ms ns (Nothing ∷ log) b in
+    let t = due_same own ms ns log a in
+    let u = due_same own ms ns (Nothing ∷ log) b in
     record {
       replies_are = sym (ap (λ (x : Progress). x.replies) q) ∙ o.replies_are ∙ ap (λ (x : Progress). x.replies) p;
       next_is = sym u ∙ o.next_is ∙ t;

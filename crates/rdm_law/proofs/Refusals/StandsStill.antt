@@ -18,7 +18,7 @@ use Rattle.rdm_model.specs.Parts.{carried_by, carried_pieces, has_landed}
 use Rattle.rdm_model.specs.Receives.{RecvEnd, is_filled, filled_by, recv_ends, with_recv_ends, recv_ends_by, withdrawn_by}
 use Rattle.rdm_model.specs.Regions.{regions, after_ends, region_by}
 use Rattle.rdm_model.specs.Sends.{Sent, known_by, known_word, sends, with_sent, sent_by}
-use Rattle.rdm_model.specs.Turns.{Progress, progress, after_deed, after_push, is_over, ends_send, live_of}
+use Rattle.rdm_model.specs.Dues.{Progress, progress, after_deed, after_push, is_over, ends_send, live_of}
 use Rattle.rdm_model.specs.Completions.{completions, completions_by, recv_completions, ended_sends, poll_count, is_poll}
 use Rattle.rdm_law.specs.Clauses.{StandsAs}
 use Rattle.rdm_lists.proofs.Options.{or_else-none}

@@ -8,7 +8,7 @@ use Rattle.rdm_model.specs.Owns.{Own, Messages}
 use Rattle.rdm_model.specs.Currents.{forgotten_by}
 use Rattle.rdm_model.specs.Sends.{sends}
 use Rattle.rdm_model.specs.Replies.{Reply, replies_by}
-use Rattle.rdm_model.specs.Turns.{Turn, Replies, progress, next_turn, next_send, reply_turn, turn}
+use Rattle.rdm_model.specs.Dues.{Due, Replies, progress, next_due, next_send, reply_due, due}
 use Rattle.rdm_law.proofs.Replies.Queue.{owed, Placed, placed, popped, without, queue, replies_in, queue_replies, next_send_none}
 use Rattle.rdm_lists.proofs.Members.{member-append_cases, member-filter, member-map}
 use Rattle.rdm_lists.proofs.Places.{slice_get-append, slice_get-member}
@@ -194,9 +194,9 @@ waits_owed own ms log r h =
     let m = member-map (λ (x : Placed). x.reply) r (queue own ms log) (subst (λ (x : List Reply). Member r x) (sym (queue_replies own ms log)) h) in
     (m.0, m.1, m.2, (is_queue own ms log).stands m.0 m.1 ∙ ap Some m.2)
 
--- a turn that is a reply is the first of the queue
-reply_first : (o : Option Reply) (others : Option Turn) (r : Reply) → ((s : Reply) → others ≡ Some (Replies s) → ⊥) → reply_turn o others ≡ Some (Replies r) → o ≡ Some r
-unfolding reply_turn
+-- a due item that is a reply is the first of the queue
+reply_first : (o : Option Reply) (others : Option Due) (r : Reply) → ((s : Reply) → others ≡ Some (Replies s) → ⊥) → reply_due o others ≡ Some (Replies r) → o ≡ Some r
+unfolding reply_due
 reply_first None others r never h = absurd (never r h)
 reply_first (Some s) others r never h = cc
 
@@ -205,16 +205,16 @@ first_of_map : (q : List Placed) (r : Reply) → slice_get (replies_in q) 0 ≡ 
 first_of_map [] r h = cc
 first_of_map (x ∷ q) r h = (x, refl, cc)
 
--- the reply whose turn it is heads the queue
-pub turn_reply : (own : Own) (ms : Messages) (log : List Deed) (r : Reply) → turn own ms log ≡ Some (Replies r)
+-- the reply that is due heads the queue
+pub due_reply : (own : Own) (ms : Messages) (log : List Deed) (r : Reply) → due own ms log ≡ Some (Replies r)
     → (x : Placed) × (slice_get (queue own ms log) 0 ≡ Some x) × (x.reply ≡ r)
-unfolding turn next_turn
-turn_reply own ms log r h =
+unfolding due next_due
+due_reply own ms log r h =
     let p = progress own ms log in
     let f : slice_get p.replies 0 ≡ Some r = reply_first (slice_get p.replies 0) (next_send own log p.packets (sends own ms log)) r (next_send_none own log p.packets (sends own ms log)) h in
     first_of_map (queue own ms log) r (ap (λ (x : List Reply). slice_get x 0) (queue_replies own ms log) ∙ f)
 
--- a push whose turn is a reply's answers it, at a place
-pub pushed_answered : (own : Own) (ms : Messages) (before : List Deed) (r : Reply) → turn own ms before ≡ Some (Replies r)
+-- a push whose due item is a reply's answers it, at a place
+pub pushed_answered : (own : Own) (ms : Messages) (before : List Deed) (r : Reply) → due own ms before ≡ Some (Replies r)
     → (x : Placed) × Answered own ms x (length before) (Pushed ∷ before) × (x.reply ≡ r)
-pushed_answered own ms before r h = let t = turn_reply own ms before r h in (t.0, inl (refl, refl, t.1), t.2)
+pushed_answered own ms before r h = let t = due_reply own ms before r h in (t.0, inl (refl, refl, t.1), t.2)

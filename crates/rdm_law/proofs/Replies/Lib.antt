@@ -9,4 +9,4 @@ pub mod Clashes
 pub mod NewReplies
 pub mod OwedOnce
 pub mod Seen
-pub mod ReplyTurns
+pub mod ReplyDues

@@ -11,7 +11,7 @@ use Rattle.rdm_model.specs.Owns.{Own, Messages}
 use Rattle.rdm_model.specs.Currents.{forgotten_by}
 use Rattle.rdm_model.specs.Sends.{Sent, sends}
 use Rattle.rdm_model.specs.Replies.{Reply, replies_by, without_forgotten, without_lives}
-use Rattle.rdm_model.specs.Turns.{Progress, Turn, Replies, Sends, progress, after_deed, after_push, after_turn, next_turn, next_send, reply_turn, send_turn, is_over, next_packet}
+use Rattle.rdm_model.specs.Dues.{Progress, Due, Replies, Sends, progress, after_deed, after_push, after_due, next_due, next_send, reply_due, send_due, is_over, next_packet}
 
 -- all that a life ever owed for what it took, in order
 unfoldable pub owed : Own → Messages → List Deed → List Reply
@@ -76,33 +76,33 @@ without_replies lives (x ∷ q) =
       | false ↦ without_replies lives q
     ]
 
--- the turn of a life with no reply in its queue is no reply
+-- the due item of a life with no reply in its queue is no reply
 pub next_send_none : (own : Own) (log : List Deed) (packets : ℕ → List Packet) (ss : List Sent) (r : Reply) → next_send own log packets ss ≡ Some (Replies r) → ⊥
-unfolding next_send send_turn
+unfolding next_send send_due
 next_send_none own log packets [] r h = cc
 next_send_none own log packets (s ∷ ss) r h =
-    (elim (is_over log (packets s.number) s) as (λ b. cond b (next_send own log packets ss) (send_turn s (next_packet own log s (packets s.number)) (next_send own log packets ss)) ≡ Some (Replies r) → ⊥) [
+    (elim (is_over log (packets s.number) s) as (λ b. cond b (next_send own log packets ss) (send_due s (next_packet own log s (packets s.number)) (next_send own log packets ss)) ≡ Some (Replies r) → ⊥) [
       | true ↦ λ k. next_send_none own log packets ss r k
-      | false ↦ λ k. (elim (next_packet own log s (packets s.number)) as (λ o. send_turn s o (next_send own log packets ss) ≡ Some (Replies r) → ⊥) [
+      | false ↦ λ k. (elim (next_packet own log s (packets s.number)) as (λ o. send_due s o (next_send own log packets ss) ≡ Some (Replies r) → ⊥) [
         | None ↦ λ l. next_send_none own log packets ss r l
         | Some p ↦ λ l. cc
       ]) k
     ]) h
 
 -- where no reply is next, there is none
-turned : (rs : List Reply) (others : Option Turn) (p : Progress) → ((r : Reply) → others ≡ Some (Replies r) → ⊥) → p.replies ≡ rs
-    → (after_turn (reply_turn (slice_get rs 0) others) p).replies ≡ drop 1 p.replies
-unfolding after_turn reply_turn
-turned [] None p never e = e ∙ sym (ap (λ (x : List Reply). drop 1 x) e)
-turned [] (Some (Replies r)) p never e = absurd (never r refl)
-turned [] (Some (Sends s q)) p never e = e ∙ sym (ap (λ (x : List Reply). drop 1 x) e)
-turned (r ∷ rs) others p never e = refl
+was_due : (rs : List Reply) (others : Option Due) (p : Progress) → ((r : Reply) → others ≡ Some (Replies r) → ⊥) → p.replies ≡ rs
+    → (after_due (reply_due (slice_get rs 0) others) p).replies ≡ drop 1 p.replies
+unfolding after_due reply_due
+was_due [] None p never e = e ∙ sym (ap (λ (x : List Reply). drop 1 x) e)
+was_due [] (Some (Replies r)) p never e = absurd (never r refl)
+was_due [] (Some (Sends s q)) p never e = e ∙ sym (ap (λ (x : List Reply). drop 1 x) e)
+was_due (r ∷ rs) others p never e = refl
 
 -- a push takes the first reply, whatever is next
 pub pushed_replies : (own : Own) (ms : Messages) (before : List Deed) (d : Deed) (p : Progress) → (after_push own ms before d p).replies ≡ popped d p.replies
-unfolding after_push popped next_turn
+unfolding after_push popped next_due
 pushed_replies own ms before Pushed p =
-    turned p.replies (next_send own before p.packets (sends own ms before)) p (next_send_none own before p.packets (sends own ms before)) refl
+    was_due p.replies (next_send own before p.packets (sends own ms before)) p (next_send_none own before p.packets (sends own ms before)) refl
 pushed_replies own ms before (Did i) p = refl
 pushed_replies own ms before PushedNote p = refl
 pushed_replies own ms before (TookNote q b) p = refl

@@ -23,8 +23,8 @@ use Rattle.rdm_model.specs.Deeds.{Deed, Took, Item, Spelled}
 use Rattle.rdm_model.specs.Owns.{Own, Messages, own_of}
 use Rattle.rdm_model.specs.Heard.{head_by, heard_head, is_heard, heard_below, has_entered}
 use Rattle.rdm_model.specs.Sends.{Sent, sends_to, sends}
-use Rattle.rdm_model.specs.Turns.{Sends, is_over, is_read, is_pushed, ends_send, next_packet}
-use Rattle.rdm_model.specs.Going.{Goes, turn_going}
+use Rattle.rdm_model.specs.Dues.{Sends, is_over, is_read, is_pushed, ends_send, next_packet}
+use Rattle.rdm_model.specs.Going.{Goes, due_going}
 use Rattle.rdm_model.specs.Currents.{is_forgotten}
 use Rattle.rdm_model.specs.Sources.{is_other}
 use Rattle.rdm_model.specs.Settled.{waiting_datagrams}
@@ -33,17 +33,17 @@ use Rattle.rdm_model.specs.Standing.{goes, NoneWaits, AllEnter}
 use Rattle.rdm_model.proofs.Matches.{pair_heard}
 use Rattle.rdm_model.proofs.Opens.{opening_is, some_opening}
 use Rattle.rdm_model.proofs.Numbers.{NewSent, sends_step, new_placed, placed, sends_one, sends_to_append}
-use Rattle.rdm_model.proofs.Turns.{Underway}
+use Rattle.rdm_model.proofs.Dues.{Underway}
 use Rattle.rdm_model.proofs.Pushes.{pushed_of, underway}
-use Rattle.rdm_law.proofs.Lives.Lives.{TurnedAt}
+use Rattle.rdm_law.proofs.Lives.Lives.{WasDueAt}
 use Rattle.rdm_law.proofs.Accounts.Wired.{own_life}
 use Rattle.rdm_law.proofs.Accounts.Known.{account, sends_of}
 use Rattle.rdm_law.proofs.Accounts.SendsAre.{sends_are}
 use Rattle.rdm_law.proofs.Lives.Replaced.{not_forgotten}
 use Rattle.rdm_law.proofs.Classes.EndsKnown.{end_taken}
-use Rattle.rdm_law.proofs.Accounts.Turned.{turn_member}
+use Rattle.rdm_law.proofs.Accounts.WasDue.{due_member}
 use Rattle.rdm_law.proofs.Settled.Still.{settled_still, at_rest}
-use Rattle.rdm_law.proofs.Settled.TurnsPushed.{packet_push, pushed_turned}
+use Rattle.rdm_law.proofs.Settled.DuesPushed.{packet_push, pushed_was_due}
 use Rattle.rdm_law.proofs.Settled.WholePushed.{none_left, get_none}
 use Rattle.rdm_law.proofs.Settled.Meets.{Meet, delivered}
 use Rattle.rdm_lists.proofs.Members.{member-filter, member_list_any}
@@ -181,21 +181,21 @@ rtm_item : (p : Packet) (t : Sent) (form : Form) → p ≡ Rtm t.message.no t.me
 rtm_item p t form e = ap Spelled e
 
 -- a packet of a send goes to its life
-pub sends_going : (t : Sent) (p : Packet) (i : Life) → t.to ≡ i → turn_going (Some (Sends t p)) ≡ Some (Goes i (Spelled p))
-unfolding turn_going
+pub sends_going : (t : Sent) (p : Packet) (i : Life) → t.to ≡ i → due_going (Some (Sends t p)) ≡ Some (Goes i (Spelled p))
+unfolding due_going
 sends_going t p i e = ap (λ (l : Life). Some (Goes l (Spelled p))) e
 
--- a packet that a life pushed of a send was a turn of the send
-pub send_turned : (job : Job) (history : List Entry) (j : Life) (t : Sent) (p : Packet) → Member t (sends_of job history j)
+-- a packet that a life pushed of a send was a due item of the send
+pub send_was_due : (job : Job) (history : List Entry) (j : Life) (t : Sent) (p : Packet) → Member t (sends_of job history j)
     → Member p (pushed_of (own_of job j) (account job history j) (life_deeds job history j) t.number)
-    → (k : ℕ) × TurnedAt (own_of job j) (Sends t p) k (life_deeds job history j)
-send_turned job history j t p m h =
+    → (k : ℕ) × WasDueAt (own_of job j) (Sends t p) k (life_deeds job history j)
+send_was_due job history j t p m h =
     let own = own_of job j in
     let log = life_deeds job history j in
     let r = packet_push own (account job history j) log t.number p h in
-    let turned = pushed_turned own (Sends r.sent p) r.place log r.pushed in
-    let same : r.sent ≡ t = sends_one own (account job history j) log r.sent t (turn_member own r.sent p r.place log turned) m r.number_is in
-    (r.place, subst (λ (s : Sent). TurnedAt own (Sends s p) r.place log) same turned)
+    let was_due = pushed_was_due own (Sends r.sent p) r.place log r.pushed in
+    let same : r.sent ≡ t = sends_one own (account job history j) log r.sent t (due_member own r.sent p r.place log was_due) m r.number_is in
+    (r.place, subst (λ (s : Sent). WasDueAt own (Sends s p) r.place log) same was_due)
 
 -- nothing of a standing life was forgotten
 pub stands : (job : Job) (history : List Entry) (i j : Life) → Meet job history i j → is_forgotten (life_deeds job history j) i ≡ false
@@ -221,9 +221,9 @@ each_heard job history i j t m none mem to =
     let kept = subst (λ (l : Life). is_forgotten log l ≡ false) (sym to) (stands job history i j m) in
     elim (rest_pushed own ms log t mem kept (rest.each t mem)) [
       | inl a ↦ (
-          let turned = send_turned job history j t a.0 mem a.1 in
+          let was_due = send_was_due job history j t a.0 mem a.1 in
           let o = opening_is own.limits t.message t.kind a.0 a.2 in
-          elim (delivered job history i j (Spelled a.0) (Sends t a.0) turned.0 m turned.1 (sends_going t a.0 i to)) [
+          elim (delivered job history i j (Spelled a.0) (Sends t a.0) was_due.0 m was_due.1 (sends_going t a.0 i to)) [
             | inl b ↦ took_heard (life_deeds job history i) j t.message.no t.message.tag t.message.opt o.form
                 (subst (λ (x : Item). Member (Took j x) (life_deeds job history i)) (rtm_item a.0 t o.form o.is) b)
             | inr b ↦ (let w = member_list_any (λ (d : Datagram). goes j i d d.body) b.1.0 (waiting_datagrams i.port.0 history) b.1.1 b.1.2 in absurd (cc))

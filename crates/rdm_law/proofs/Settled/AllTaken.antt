@@ -4,7 +4,7 @@ use Rattle.rdm_num.specs.declared.numbers.OpId.{OpId}
 use Rattle.rdm_num.specs.declared.numbers.Stamp.{Stamp}
 use Rattle.rdm_pkt.specs.declared.Packet.TheVariants.{Cts}
 use Rattle.rdm_model.specs.Currents.{is_forgotten}
-use Rattle.rdm_model.specs.Turns.{Replies}
+use Rattle.rdm_model.specs.Dues.{Replies}
 use Rattle.rdm_model.specs.Local.{Local}
 use Rattle.rdm_model.specs.declared.entry.Act.TheVariants.{Push}
 use Rattle.rdm_law.proofs.Settled.Still.{settled_still, at_rest}
@@ -15,7 +15,7 @@ use Rattle.rdm_law.proofs.Accounts.Known.{account}
 use Rattle.rdm_law.proofs.Settled.Datagrams.{stamp_rises}
 use Rattle.rdm_law.proofs.Replies.Queue.{Placed}
 use Rattle.rdm_law.proofs.Replies.Answered.{Answered}
-use Rattle.rdm_law.proofs.Settled.PlacedRest.{answered_turned, turned_placed, place_rest}
+use Rattle.rdm_law.proofs.Settled.PlacedRest.{answered_was_due, was_due_placed, place_rest}
 use Rattle.rdm_law.proofs.Windows.GrantsTaken.{placed_pushed}
 use Rattle.rdm_law.proofs.Windows.GrantsReach.{AllTaken}
 use Rattle.std.proofs.Common.{◌≡◌, ℕ, ◌<◌, false, List, [], ◌∷◌, Some, arith, inl, inr, sym, ◌∙◌, ap, subst}
@@ -35,7 +35,7 @@ use Rattle.rdm_model.specs.declared.entry.Act.TheVariants.{Handle}
 use Rattle.rdm_model.specs.declared.answer.Handled.TheVariants.{Dropped}
 use Rattle.rdm_model.specs.Deeds.{Item, Spelled, log_of}
 use Rattle.rdm_model.specs.Owns.{own_of}
-use Rattle.rdm_model.specs.Going.{Goes, turn_going}
+use Rattle.rdm_model.specs.Going.{Goes, due_going}
 use Rattle.rdm_model.specs.Classes.{class_of}
 use Rattle.rdm_model.specs.Scenes.{deeds_at}
 use Rattle.rdm_model.specs.Steps.{last_stamp, clock, Does}
@@ -95,12 +95,12 @@ grant_handled : (job : Job) (history : List Entry) (i j : Life) (x : Placed) (k 
     → Answered (own_of job i) (account job history i) x k (life_deeds job history i) → x.reply.to ≡ j → x.reply.item ≡ Spelled (Cts send recv size connid)
     → (d : Datagram) × TakenAs i j.connid (Spelled (Cts send recv size connid)) d × (d.dst.0 ≡ j.port.0) × PlacedAt job i.port.0 i.connid d k (log_of i.port.0 history)
     × HandledBy j.port.0 d history
-unfolding life_deeds port_deeds turn_going
+unfolding life_deeds port_deeds due_going
 grant_handled job history i j x k send recv size connid m a to is =
     let item = Spelled (Cts send recv size connid) in
-    let turned = answered_turned (own_of job i) (life_deeds job history i) x k a in
-    let goes : turn_going (Some (Replies x.reply)) ≡ Some (Goes j item) = ap (λ (l : Life). Some (Goes l x.reply.item)) to ∙ ap (λ (y : Item). Some (Goes j y)) is in
-    let t = turned_placed job i.port.0 i.connid j item (Replies x.reply) k (log_of i.port.0 history) (m.played.locals i.port.0) turned goes in
+    let was_due = answered_was_due (own_of job i) (life_deeds job history i) x k a in
+    let goes : due_going (Some (Replies x.reply)) ≡ Some (Goes j item) = ap (λ (l : Life). Some (Goes l x.reply.item)) to ∙ ap (λ (y : Item). Some (Goes j y)) is in
+    let t = was_due_placed job i.port.0 i.connid j item (Replies x.reply) k (log_of i.port.0 history) (m.played.locals i.port.0) was_due goes in
     let d = t.datagram in
     let here = placed_pushed job i.port.0 i.connid d k (log_of i.port.0 history) t.placed' in
     let src : d.src.0 ≡ i.port.0 = ap (λ (p : PortNo). p.0) t.as'.src_is in

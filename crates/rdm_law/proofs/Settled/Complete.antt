@@ -27,7 +27,7 @@ use Rattle.rdm_num.specs.Lives.{op_id}
 use Rattle.rdm_pkt.specs.declared.Packet.TheVariants.{CtsData}
 use Rattle.rdm_model.specs.Sends.{Sent, sends_to}
 use Rattle.rdm_model.specs.Currents.{is_forgotten}
-use Rattle.rdm_model.specs.Turns.{pieces_in, data_packet, granted_packet, next_packet, is_read}
+use Rattle.rdm_model.specs.Dues.{pieces_in, data_packet, granted_packet, next_packet, is_read}
 use Rattle.rdm_model.specs.Settled.{is_settled, next_completion_is_none, is_worn}
 use Rattle.rdm_model.specs.Lawful.{life_deeds, sent_to, sent_scene}
 use Rattle.rdm_model.specs.Standing.{goes, drops_between, is_between, Standing, pairs_in, MatchedIsComplete, AllPolled}
@@ -37,7 +37,7 @@ use Rattle.rdm_model.proofs.SameReceives.{recv_ends_same}
 use Rattle.rdm_model.proofs.SameCompletions.{completions_same}
 use Rattle.rdm_model.proofs.Matches.{pair_heard}
 use Rattle.rdm_model.proofs.Opens.{openings_bytes}
-use Rattle.rdm_model.proofs.Turns.{Underway}
+use Rattle.rdm_model.proofs.Dues.{Underway}
 use Rattle.rdm_model.proofs.Pushes.{pushed_of, underway}
 use Rattle.rdm_model.proofs.Served.{done_bytes}
 use Rattle.rdm_law.proofs.Accounts.Wired.{own_life}
@@ -183,17 +183,17 @@ matched_complete job history i j m n taken s p in_sends in_pairs life number =
     )
 
 -- either holds, both ways
-or_turned : (a b : Bool) → (a || b) ≡ (b || a)
-or_turned true true = refl
-or_turned true false = refl
-or_turned false true = refl
-or_turned false false = refl
+or_was_due : (a b : Bool) → (a || b) ≡ (b || a)
+or_was_due true true = refl
+or_was_due true false = refl
+or_was_due false true = refl
+or_was_due false false = refl
 
 -- a drop between the lives, both ways
-drops_turned : (i j : Life) (act : Act) → drops_between j i act ≡ drops_between i j act
+drops_was_due : (i j : Life) (act : Act) → drops_between j i act ≡ drops_between i j act
 unfolding drops_between is_between
-drops_turned i j (Handle d (Dropped why)) = or_turned (goes j i d d.body) (goes i j d d.body)
-drops_turned i j _ = refl
+drops_was_due i j (Handle d (Dropped why)) = or_was_due (goes j i d d.body) (goes i j d d.body)
+drops_was_due i j _ = refl
 
 -- the same test of each entry
 any_same : (f g : Entry → Bool) (xs : List Entry) → ((e : Entry) → f e ≡ g e) → list_any f xs ≡ list_any g xs
@@ -208,7 +208,7 @@ stands_back job history i j s =
       open_j = s.open_i;
       current_j = s.current_i;
       current_i = s.current_j;
-      none_dropped = any_same (λ (e : Entry). drops_between j i e.act) (λ (e : Entry). drops_between i j e.act) history (λ e. drops_turned i j e.act) ∙ s.none_dropped;
+      none_dropped = any_same (λ (e : Entry). drops_between j i e.act) (λ (e : Entry). drops_between i j e.act) history (λ e. drops_was_due i j e.act) ∙ s.none_dropped;
       clock_i = s.clock_j;
       clock_j = s.clock_i;
     }

@@ -28,7 +28,7 @@ use Rattle.rdm_model.specs.Replies.{reply, end_for}
 use Rattle.rdm_model.specs.Sends.{Sent, sends}
 use Rattle.rdm_model.specs.Named.{read_from}
 use Rattle.rdm_model.specs.Currents.{is_forgotten}
-use Rattle.rdm_model.specs.Turns.{is_read, is_over, is_pushed, ends_send, next_packet}
+use Rattle.rdm_model.specs.Dues.{is_read, is_over, is_pushed, ends_send, next_packet}
 use Rattle.rdm_model.specs.Lawful.{life_deeds}
 use Rattle.rdm_model.proofs.Matches.{member_is_pair}
 use Rattle.rdm_model.proofs.Opens.{opened_bytes}

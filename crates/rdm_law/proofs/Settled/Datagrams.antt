@@ -1,4 +1,4 @@
--- Each turn of a life went in a datagram that its port pushed.
+-- Each due item of a life went in a datagram that its port pushed.
 use Rattle.std.proofs.Common.{◌≡◌, ℕ, ◌<◌, ◌≤◌, List, [], ◌∷◌, Option, Some, refl, arith, inl, inr, ◌∙◌, ap, subst}
 use Rattle.std.specs.Prelude.{slice_get}
 use Rattle.rdm_num.specs.declared.numbers.Life.{Life}
@@ -20,14 +20,14 @@ use Rattle.rdm_model.specs.declared.answer.Handled.{Handled}
 use Rattle.rdm_model.specs.declared.answer.Handled.TheVariants.{Took as TookAnswer}
 use Rattle.rdm_model.specs.Deeds.{Pushed, Item, deed_of, deed_by_next, deed_by_push, deed_by_handle, deeds, of_life}
 use Rattle.rdm_model.specs.Owns.{rank_of, port_count, own_of}
-use Rattle.rdm_model.specs.Turns.{Turn, turn}
-use Rattle.rdm_model.specs.Going.{Goes, turn_going, Bears, IsNext}
+use Rattle.rdm_model.specs.Dues.{Due, due}
+use Rattle.rdm_model.specs.Going.{Goes, due_going, Bears, IsNext}
 use Rattle.rdm_model.specs.Classes.{class_of}
 use Rattle.rdm_model.specs.Scenes.{Scene, deeds_at}
 use Rattle.rdm_model.specs.Steps.{clock, stamp_after, Does}
 use Rattle.rdm_model.specs.Local.{heard_by, own_scene, Local}
 use Rattle.rdm_model.specs.Wire.{PushedIn}
-use Rattle.rdm_law.proofs.Lives.Lives.{TurnedAt, life_of, life_scene, at_of_life, opened_scene, push_is, IsPush}
+use Rattle.rdm_law.proofs.Lives.Lives.{WasDueAt, life_of, life_scene, at_of_life, opened_scene, push_is, IsPush}
 
 -- the datagram of a life's push to another
 pub record Carrying (job : Job) (port : ℕ) (c : Connid) (to : Life) (item : Item) (log : List Entry) : Type 0 where
@@ -91,18 +91,18 @@ act_pushed ops (Push d) h = let b = body_pushed d.body h in (d, b.0, b.1, b.2, r
 act_pushed ops (Handle d answer) h = absurd (handle_pushed d.src d.body answer h)
 act_pushed ops (Poll c) h = cc
 
--- the newest push carries the turn
-carrying_now : (job : Job) (port : ℕ) (c : Connid) (to : Life) (item : Item) (t : Turn) (e : Entry) (before : List Entry) (from to' : Connid) (load : Load) (d : Datagram)
+-- the newest push carries the due item
+carrying_now : (job : Job) (port : ℕ) (c : Connid) (to : Life) (item : Item) (t : Due) (e : Entry) (before : List Entry) (from to' : Connid) (load : Load) (d : Datagram)
     → e.act ≡ Push d → e.port.0 ≡ port → d.body ≡ Between from to' load → d.src ≡ e.port → d.stamp ≡ e.stamp
     → (is : IsPush (own_of job (life_of port c)) (of_life c (deeds_at job port before)) d from to' load)
-    → turn (own_of job (life_of port c)) (heard_by (own_of job (life_of port c)).limits.first (of_life c (deeds_at job port before))) (of_life c (deeds_at job port before)) ≡ Some t
-    → turn_going (Some t) ≡ Some (Goes to item) → Carrying job port c to item (e ∷ before)
+    → due (own_of job (life_of port c)) (heard_by (own_of job (life_of port c)).limits.first (of_life c (deeds_at job port before))) (of_life c (deeds_at job port before)) ≡ Some t
+    → due_going (Some t) ≡ Some (Goes to item) → Carrying job port c to item (e ∷ before)
 unfolding own_of clock
 carrying_now job port c to item t e before from to' load d act p body src stamp is now g =
     let out = is.out.is in
     let gives = is.out.gives in
-    let same : is.out.turn' ≡ t = cc in
-    let goes : Goes is.dest is.item ≡ Goes to item = (let x = ap (λ (u : Turn). turn_going (Some u)) same in cc) in
+    let same : is.out.due' ≡ t = cc in
+    let goes : Goes is.dest is.item ≡ Goes to item = (let x = ap (λ (u : Due). due_going (Some u)) same in cc) in
     let dest : is.dest ≡ to = cc in
     let it : is.item ≡ item = cc in
     record {
@@ -116,13 +116,13 @@ carrying_now job port c to item t e before from to' load d act p body src stamp 
       stamp_is = let s = ap (λ (x : Stamp). x.0) stamp in omega arith;
     }
 
--- each turn of a life went in a datagram
-pub turned_carried : (job : Job) (port : ℕ) (c : Connid) (to : Life) (item : Item) (t : Turn) (k : ℕ) (log : List Entry) → Local job port log
-    → TurnedAt (own_of job (life_of port c)) t k (of_life c (deeds_at job port log)) → turn_going (Some t) ≡ Some (Goes to item) → Carrying job port c to item log
+-- each due item of a life went in a datagram
+pub was_due_carried : (job : Job) (port : ℕ) (c : Connid) (to : Life) (item : Item) (t : Due) (k : ℕ) (log : List Entry) → Local job port log
+    → WasDueAt (own_of job (life_of port c)) t k (of_life c (deeds_at job port log)) → due_going (Some t) ≡ Some (Goes to item) → Carrying job port c to item log
 unfolding of_life deeds_at deeds
-turned_carried job port c to item t k [] l h g = elim h [ ]
-turned_carried job port c to item t k (e ∷ before) l h g =
-    at_of_life (λ log. TurnedAt (own_of job (life_of port c)) t k log → Carrying job port c to item (e ∷ before)) c (deed_of (rank_of job port).ops e.act) (deeds_at job port before)
+was_due_carried job port c to item t k [] l h g = elim h [ ]
+was_due_carried job port c to item t k (e ∷ before) l h g =
+    at_of_life (λ log. WasDueAt (own_of job (life_of port c)) t k log → Carrying job port c to item (e ∷ before)) c (deed_of (rank_of job port).ops e.act) (deeds_at job port before)
     (λ now h. elim h [
       | inl a ↦ (
           let p = act_pushed (rank_of job port).ops e.act a.0 in
@@ -131,7 +131,7 @@ turned_carried job port c to item t k (e ∷ before) l h g =
           subst (λ (s : Scene). IsNext s p.0) (opened_scene job port c (deeds_at job port before) now) does.3 in
           let is = push_is (port_count job) (own_of job (life_of port c)) (deeds_at job port before) (of_life c (deeds_at job port before)) p.0 p.1 p.2 p.3 p.5 next in
           carrying_now job port c to item t e before p.1 p.2 p.3 p.0 p.4 l.1 p.5 does.0 does.2 is a.1 g)
-      | inr a ↦ carrying_later job port c to item e before l.2.0 (turned_carried job port c to item t k before l.0 a g)
+      | inr a ↦ carrying_later job port c to item e before l.2.0 (was_due_carried job port c to item t k before l.0 a g)
     ])
-    (λ other h. carrying_later job port c to item e before l.2.0 (turned_carried job port c to item t k before l.0 h g))
+    (λ other h. carrying_later job port c to item e before l.2.0 (was_due_carried job port c to item t k before l.0 h g))
     h

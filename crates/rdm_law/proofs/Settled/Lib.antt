@@ -1,6 +1,6 @@
 -- At a settled end what was matched between standing lives is complete.
 pub mod Still
-pub mod TurnsPushed
+pub mod DuesPushed
 pub mod Datagrams
 pub mod Delivered
 pub mod Meets

@@ -24,8 +24,8 @@ use Rattle.rdm_model.specs.declared.answer.Handled.TheVariants.{Took as TookAnsw
 use Rattle.rdm_model.specs.Deeds.{Deed, Took, Item, Spelled, item_of, deed_of, deed_by_handle, log_of, of_open_life, open_life}
 use Rattle.rdm_model.specs.Owns.{rank_of, own_of}
 use Rattle.rdm_model.specs.Heard.{is_heard}
-use Rattle.rdm_model.specs.Turns.{Turn}
-use Rattle.rdm_model.specs.Going.{Goes, turn_going}
+use Rattle.rdm_model.specs.Dues.{Due}
+use Rattle.rdm_model.specs.Going.{Goes, due_going}
 use Rattle.rdm_model.specs.Classes.{class_of, lives_class}
 use Rattle.rdm_model.specs.Scenes.{Scene, scene, deeds_at}
 use Rattle.rdm_model.specs.Steps.{last_stamp, clock, Does, Classing}
@@ -35,13 +35,13 @@ use Rattle.rdm_model.specs.Wire.{PushedIn, Comes}
 use Rattle.rdm_model.specs.Settled.{waiting_datagrams, is_worn, is_worn_by, is_settled}
 use Rattle.rdm_model.specs.Lawful.{life_deeds, port_deeds, sent_scene}
 use Rattle.rdm_model.specs.Standing.{goes, drops_between, Standing}
-use Rattle.rdm_law.proofs.Lives.Lives.{TurnedAt, is_connid-true}
+use Rattle.rdm_law.proofs.Lives.Lives.{WasDueAt, is_connid-true}
 use Rattle.rdm_law.proofs.Fits.SmallBytes.{all_member}
 use Rattle.rdm_law.proofs.Lives.Handled.{life_newest}
 use Rattle.rdm_law.proofs.Accounts.Wired.{Played, played_before, took_to, bears_item}
 use Rattle.rdm_law.proofs.Played.Waiting.{waits_in_history}
 use Rattle.rdm_law.proofs.Settled.Still.{quiet, open_rank, not_worn}
-use Rattle.rdm_law.proofs.Settled.Datagrams.{turned_carried}
+use Rattle.rdm_law.proofs.Settled.Datagrams.{was_due_carried}
 use Rattle.rdm_law.proofs.Settled.Delivered.{HandledIt, handled_cases, it_was, local_at, deed_stays, dropped_between}
 use Rattle.rdm_num.proofs.Lives.{same_life-refl, port_is}
 
@@ -170,12 +170,12 @@ goes_from i j d load s t b =
     rw b (and_from _ _ (ap (λ (l : Life). same_life l j) x ∙ same_life-refl j) (ap (λ (l : Life). same_life l i) z ∙ same_life-refl i))
 
 -- what one standing life pushed for the other was taken, or opens a message that was not heard of and waits
-pub delivered : (job : Job) (history : List Entry) (i j : Life) (item : Item) (t : Turn) (k : ℕ) → Meet job history i j
-    → TurnedAt (own_of job j) t k (life_deeds job history j) → turn_going (Some t) ≡ Some (Goes i item)
+pub delivered : (job : Job) (history : List Entry) (i j : Life) (item : Item) (t : Due) (k : ℕ) → Meet job history i j
+    → WasDueAt (own_of job j) t k (life_deeds job history j) → due_going (Some t) ≡ Some (Goes i item)
     → Member (Took j item) (life_deeds job history i) ⊎ (IsUnheard (life_deeds job history i) j item × ((d : Datagram) × Member d (waiting_datagrams i.port.0 history) × (goes j i d d.body ≡ true)))
 unfolding life_deeds port_deeds
 delivered job history i j item t k m h g =
-    let c = turned_carried job j.port.0 j.connid i item t k (log_of j.port.0 history) (m.played.locals j.port.0) h g in
+    let c = was_due_carried job j.port.0 j.connid i item t k (log_of j.port.0 history) (m.played.locals j.port.0) h g in
     let it : item_of c.load ≡ item = bears_item item c.load c.bears in
     let src : PushedIn c.datagram (log_of c.datagram.src.0 history) = subst (λ (n : ℕ). PushedIn c.datagram (log_of n history)) (sym c.src_is) c.pushed in
     let stamp : c.datagram.stamp.0 < last_stamp = (let a = c.stamp_is in let b = m.standing.clock_j in omega arith) in

@@ -38,10 +38,10 @@ use Rattle.rdm_model.specs.Lawful.{port_deeds, life_deeds}
 use Rattle.rdm_model.specs.Wire.{PushedIn, Comes}
 use Rattle.rdm_model.proofs.Numbers.{made}
 use Rattle.rdm_law.proofs.Lives.Lives.{life_of, life_scene, is_connid-from, opened_scene}
-use Rattle.rdm_law.proofs.Accounts.Wired.{Played, played_before, TakenAs, TakenTurn, pushed_taken}
+use Rattle.rdm_law.proofs.Accounts.Wired.{Played, played_before, TakenAs, TakenDue, pushed_taken}
 use Rattle.rdm_law.proofs.Accounts.Went.{went}
 use Rattle.rdm_law.proofs.Accounts.Known.{account}
-use Rattle.rdm_law.proofs.Accounts.Turned.{turn_member}
+use Rattle.rdm_law.proofs.Accounts.WasDue.{due_member}
 use Rattle.rdm_law.proofs.Replies.Seen.{owed_seen}
 use Rattle.rdm_law.proofs.Lives.Held.{current_port, to_new}
 use Rattle.rdm_law.proofs.Central.Lawfully.{own_entry}
@@ -111,11 +111,11 @@ sent_met job history j s m =
     subst (λ (ds : List Deed). HasMet ds s.to) (sym e.split) (met_longer e.newer (e.deed ∷ e.before) s.to (met_more e.deed e.before s.to here))
 
 -- a life for which a datagram was pushed was opened
-dest_opened : (job : Job) (history : List Entry) (i j : Life) (item : Item) (d : Datagram) → Played job history → TakenTurn job history i j item d → IsOpened job history i
+dest_opened : (job : Job) (history : List Entry) (i j : Life) (item : Item) (d : Datagram) → Played job history → TakenDue job history i j item d → IsOpened job history i
 dest_opened job history i j item d played t =
     elim (went job history i j item d t) [
       | inl s ↦
-          let m = turn_member (own_of job j) s.sent s.packet t.place (life_deeds job history j) s.turned in
+          let m = due_member (own_of job j) s.sent s.packet t.place (life_deeds job history j) s.was_due in
           met_opened job history j i played (subst (λ (l : Life). HasMet (life_deeds job history j) l) s.to_is (sent_met job history j s.sent m))
       | inr r ↦
           let seen = owed_seen (own_of job j) (account job history j) r.reply (life_deeds job history j) r.owed in

@@ -10,16 +10,16 @@ use Rattle.rdm_model.specs.Owns.{Own, Messages}
 use Rattle.rdm_model.specs.Currents.{forgotten_by, is_forgotten}
 use Rattle.rdm_model.specs.Sends.{sends}
 use Rattle.rdm_model.specs.Replies.{Reply, replies_by, without_forgotten, without_lives}
-use Rattle.rdm_model.specs.Turns.{Replies, progress, after_deed, next_turn, reply_turn, turn}
+use Rattle.rdm_model.specs.Dues.{Replies, progress, after_deed, next_due, reply_due, due}
 use Rattle.rdm_model.proofs.Served.{PushedAt}
 use Rattle.rdm_law.proofs.Replies.Queue.{owed, popped, pushed_replies}
 use Rattle.rdm_lists.proofs.Members.{member-append_left, member-append_right, member-append_cases, filter-member}
 use Rattle.std.proofs.lemmas.Bool.{or_parts}
 
--- the first reply has the turn
-pub head_turn : (own : Own) (ms : Messages) (log : List Deed) (r : Reply) → slice_get (progress own ms log).replies 0 ≡ Some r → turn own ms log ≡ Some (Replies r)
-unfolding turn next_turn reply_turn
-head_turn own ms log r h = rw h refl
+-- the first reply has the due item
+pub head_due : (own : Own) (ms : Messages) (log : List Deed) (r : Reply) → slice_get (progress own ms log).replies 0 ≡ Some r → due own ms log ≡ Some (Replies r)
+unfolding due next_due reply_due
+head_due own ms log r h = rw h refl
 
 -- what waited waits, or was taken by the push
 popped_or : (d : Deed) (rs : List Reply) (r : Reply) → Member r rs → Member r (popped d rs) ⊎ ((d ≡ Pushed) × (slice_get rs 0 ≡ Some r))
@@ -70,7 +70,7 @@ owed_or own ms (d ∷ before) r h f =
         | inr pushed ↦ inr (pushed.0, inr pushed.1)
         | inl waits ↦ elim (popped_or d rs r waits) [
           | inl stays ↦ inl (waits_after own ms d before r (member-append_left r left new (kept (forgotten_by before d) (popped d rs) r parts.1 stays)))
-          | inr goes ↦ inr (length before, inl (goes.0, head_turn own ms before r goes.1, refl))
+          | inr goes ↦ inr (length before, inl (goes.0, head_due own ms before r goes.1, refl))
         ]
       ]
     ]

@@ -19,21 +19,21 @@ use Rattle.rdm_model.specs.Owns.{Own, Messages, own_of, rank_of, port_count}
 use Rattle.rdm_model.specs.Currents.{forgotten_by, is_forgotten}
 use Rattle.rdm_model.specs.Sends.{sends}
 use Rattle.rdm_model.specs.Replies.{Reply, replies_by}
-use Rattle.rdm_model.specs.Turns.{Turn, Replies, progress, turn}
+use Rattle.rdm_model.specs.Dues.{Due, Replies, progress, due}
 use Rattle.rdm_model.specs.Scenes.{Scene, deeds_at}
-use Rattle.rdm_model.specs.Going.{Goes, turn_going, IsNext}
+use Rattle.rdm_model.specs.Going.{Goes, due_going, IsNext}
 use Rattle.rdm_model.specs.Classes.{class_of}
 use Rattle.rdm_model.specs.Steps.{Does}
 use Rattle.rdm_model.specs.Local.{heard_by, own_scene, Local}
 use Rattle.rdm_model.proofs.Served.{PushedAt}
-use Rattle.rdm_law.proofs.Lives.Lives.{life_of, life_scene, TurnedAt, IsPush, push_is, at_of_life, opened_scene}
+use Rattle.rdm_law.proofs.Lives.Lives.{life_of, life_scene, WasDueAt, IsPush, push_is, at_of_life, opened_scene}
 use Rattle.rdm_law.proofs.Accounts.Pushed.{PlacedAt}
 use Rattle.rdm_law.proofs.Accounts.Wired.{TakenAs, bears_item}
 use Rattle.rdm_law.proofs.Settled.Datagrams.{act_pushed}
-use Rattle.rdm_law.proofs.Settled.TurnsPushed.{pushed_turned}
+use Rattle.rdm_law.proofs.Settled.DuesPushed.{pushed_was_due}
 use Rattle.rdm_law.proofs.Replies.Queue.{owed, Placed, placed, popped, without, queue, replies_in, queue_replies}
 use Rattle.rdm_law.proofs.Replies.Answered.{Answered}
-use Rattle.rdm_law.proofs.Settled.OwedRest.{none_first, head_turn}
+use Rattle.rdm_law.proofs.Settled.OwedRest.{none_first, head_due}
 use Rattle.rdm_lists.proofs.Members.{member-append_left, member-append_right, filter-member, map-member}
 use Rattle.rdm_lists.proofs.Places.{slice_get_split}
 use Rattle.std.proofs.lemmas.Bool.{or_parts}
@@ -97,41 +97,41 @@ first_reply : (q : List Placed) (x : Placed) → slice_get q 0 ≡ Some x → sl
 first_reply [] x h = cc
 first_reply (y ∷ q) x h = let e : y ≡ x = cc in ap (λ (z : Placed). Some z.reply) e
 
--- a reply that was pushed had the turn
+-- a reply that was pushed was due
 answered_pushed : (own : Own) (ms : Messages) (log : List Deed) (x : Placed) (k : ℕ) → Answered own ms x k log → PushedAt own ms (Replies x.reply) k log
 answered_pushed own ms [] x k h = elim h [ ]
 answered_pushed own ms (d ∷ before) x k (inl h) =
-    inl (h.0, head_turn own ms before x.reply (ap (λ (rs : List Reply). slice_get rs 0) (sym (queue_replies own ms before)) ∙ first_reply (queue own ms before) x h.2), h.1)
+    inl (h.0, head_due own ms before x.reply (ap (λ (rs : List Reply). slice_get rs 0) (sym (queue_replies own ms before)) ∙ first_reply (queue own ms before) x h.2), h.1)
 answered_pushed own ms (d ∷ before) x k (inr h) = inr (answered_pushed own ms before x k h)
 
 -- by what the life heard itself
-pub answered_turned : (own : Own) (log : List Deed) (x : Placed) (k : ℕ) → Answered own (heard_by own.limits.first log) x k log → TurnedAt own (Replies x.reply) k log
-answered_turned own log x k h = pushed_turned own (Replies x.reply) k log (answered_pushed own (heard_by own.limits.first log) log x k h)
+pub answered_was_due : (own : Own) (log : List Deed) (x : Placed) (k : ℕ) → Answered own (heard_by own.limits.first log) x k log → WasDueAt own (Replies x.reply) k log
+answered_was_due own log x k h = pushed_was_due own (Replies x.reply) k log (answered_pushed own (heard_by own.limits.first log) log x k h)
 
--- the datagram of a turn, at its place
-pub record PlacedTurn (job : Job) (port : ℕ) (c : Connid) (to : Life) (item : Item) (k : ℕ) (log : List Entry) : Type 0 where
+-- the datagram of a due item, at its place
+pub record PlacedDue (job : Job) (port : ℕ) (c : Connid) (to : Life) (item : Item) (k : ℕ) (log : List Entry) : Type 0 where
   pub datagram : Datagram
   pub placed' : PlacedAt job port c datagram k log
   pub as' : TakenAs (life_of port c) to.connid item datagram
   pub dst_is : datagram.dst ≡ to.port
 
--- the datagram of an older turn
-placed_later : (job : Job) (port : ℕ) (c : Connid) (to : Life) (item : Item) (k : ℕ) (e : Entry) (before : List Entry) → PlacedTurn job port c to item k before
-    → PlacedTurn job port c to item k (e ∷ before)
+-- the datagram of an older due item
+placed_later : (job : Job) (port : ℕ) (c : Connid) (to : Life) (item : Item) (k : ℕ) (e : Entry) (before : List Entry) → PlacedDue job port c to item k before
+    → PlacedDue job port c to item k (e ∷ before)
 placed_later job port c to item k e before p = record { datagram = p.datagram; placed' = inr p.placed'; as' = p.as'; dst_is = p.dst_is }
 
--- the datagram of the newest turn
-placed_now : (job : Job) (port : ℕ) (c : Connid) (to : Life) (item : Item) (t : Turn) (k : ℕ) (e : Entry) (before : List Entry) (from to' : Connid) (load : Load) (d : Datagram)
+-- the datagram of the newest due item
+placed_now : (job : Job) (port : ℕ) (c : Connid) (to : Life) (item : Item) (t : Due) (k : ℕ) (e : Entry) (before : List Entry) (from to' : Connid) (load : Load) (d : Datagram)
     → e.act ≡ Push d → open_life (deeds_at job port before) ≡ Some c → k ≡ length (of_life c (deeds_at job port before)) → e.port.0 ≡ port → d.body ≡ Between from to' load → d.src ≡ e.port
     → (is : IsPush (own_of job (life_of port c)) (of_life c (deeds_at job port before)) d from to' load)
-    → turn (own_of job (life_of port c)) (heard_by (own_of job (life_of port c)).limits.first (of_life c (deeds_at job port before))) (of_life c (deeds_at job port before)) ≡ Some t
-    → turn_going (Some t) ≡ Some (Goes to item) → PlacedTurn job port c to item k (e ∷ before)
+    → due (own_of job (life_of port c)) (heard_by (own_of job (life_of port c)).limits.first (of_life c (deeds_at job port before))) (of_life c (deeds_at job port before)) ≡ Some t
+    → due_going (Some t) ≡ Some (Goes to item) → PlacedDue job port c to item k (e ∷ before)
 unfolding own_of
-placed_now job port c to item t k e before from to' load d act now at p body src is turned g =
+placed_now job port c to item t k e before from to' load d act now at p body src is was_due g =
     let out = is.out.is in
     let gives = is.out.gives in
-    let same : is.out.turn' ≡ t = cc in
-    let goes : Goes is.dest is.item ≡ Goes to item = (let x = ap (λ (u : Turn). turn_going (Some u)) same in cc) in
+    let same : is.out.due' ≡ t = cc in
+    let goes : Goes is.dest is.item ≡ Goes to item = (let x = ap (λ (u : Due). due_going (Some u)) same in cc) in
     let dest : is.dest ≡ to = cc in
     let it : is.item ≡ item = cc in
     record {
@@ -146,13 +146,13 @@ placed_now job port c to item t k e before from to' load d act now at p body src
       dst_is = is.dst_is ∙ ap (λ (l : Life). l.port) dest;
     }
 
--- each turn of a life went in a datagram that its port pushed at that place
-pub turned_placed : (job : Job) (port : ℕ) (c : Connid) (to : Life) (item : Item) (t : Turn) (k : ℕ) (log : List Entry) → Local job port log
-    → TurnedAt (own_of job (life_of port c)) t k (of_life c (deeds_at job port log)) → turn_going (Some t) ≡ Some (Goes to item) → PlacedTurn job port c to item k log
+-- each due item of a life went in a datagram that its port pushed at that place
+pub was_due_placed : (job : Job) (port : ℕ) (c : Connid) (to : Life) (item : Item) (t : Due) (k : ℕ) (log : List Entry) → Local job port log
+    → WasDueAt (own_of job (life_of port c)) t k (of_life c (deeds_at job port log)) → due_going (Some t) ≡ Some (Goes to item) → PlacedDue job port c to item k log
 unfolding of_life deeds_at deeds
-turned_placed job port c to item t k [] l h g = elim h [ ]
-turned_placed job port c to item t k (e ∷ before) l h g =
-    at_of_life (λ log. TurnedAt (own_of job (life_of port c)) t k log → PlacedTurn job port c to item k (e ∷ before)) c (deed_of (rank_of job port).ops e.act) (deeds_at job port before)
+was_due_placed job port c to item t k [] l h g = elim h [ ]
+was_due_placed job port c to item t k (e ∷ before) l h g =
+    at_of_life (λ log. WasDueAt (own_of job (life_of port c)) t k log → PlacedDue job port c to item k (e ∷ before)) c (deed_of (rank_of job port).ops e.act) (deeds_at job port before)
     (λ now h. elim h [
       | inl a ↦ (
           let p = act_pushed (rank_of job port).ops e.act a.0 in
@@ -163,7 +163,7 @@ turned_placed job port c to item t k (e ∷ before) l h g =
           subst (λ (s : Scene). IsNext s p.0) (opened_scene job port c (deeds_at job port before) now) does.3 in
           let is = push_is (port_count job) (own_of job (life_of port c)) (deeds_at job port before) (of_life c (deeds_at job port before)) p.0 p.1 p.2 p.3 p.5 next in
           placed_now job port c to item t k e before p.1 p.2 p.3 p.0 p.4 now a.2 l.1 p.5 does.0 is a.1 g)
-      | inr a ↦ placed_later job port c to item k e before (turned_placed job port c to item t k before l.0 a g)
+      | inr a ↦ placed_later job port c to item k e before (was_due_placed job port c to item t k before l.0 a g)
     ])
-    (λ other h. placed_later job port c to item k e before (turned_placed job port c to item t k before l.0 h g))
+    (λ other h. placed_later job port c to item k e before (was_due_placed job port c to item t k before l.0 h g))
     h

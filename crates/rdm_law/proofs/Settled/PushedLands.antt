@@ -21,23 +21,23 @@ use Rattle.rdm_model.specs.Heard.{is_heard}
 use Rattle.rdm_model.specs.Parts.{carried_pieces}
 use Rattle.rdm_model.specs.Grants.{Grant}
 use Rattle.rdm_model.specs.Sends.{Sent}
-use Rattle.rdm_model.specs.Turns.{Sends, packet_piece, pieces_in}
+use Rattle.rdm_model.specs.Dues.{Sends, packet_piece, pieces_in}
 use Rattle.rdm_model.specs.Lawful.{life_deeds}
 use Rattle.rdm_model.proofs.Rows.{row_has}
 use Rattle.rdm_model.proofs.Opens.{opening_is}
 use Rattle.rdm_model.proofs.Pushes.{pushed_of, underway}
 use Rattle.rdm_model.proofs.Served.{done_bytes}
 use Rattle.rdm_law.proofs.Windows.Pushing.{piece_packet}
-use Rattle.rdm_law.proofs.Lives.Lives.{TurnedAt}
+use Rattle.rdm_law.proofs.Lives.Lives.{WasDueAt}
 use Rattle.rdm_law.proofs.Accounts.Wired.{Played, own_life}
 use Rattle.rdm_law.proofs.Accounts.Known.{account, sends_of}
 use Rattle.rdm_law.proofs.Accounts.Chains.{pair_one, grants_known}
 use Rattle.rdm_law.proofs.Accounts.Whole.{byte_of_piece}
 use Rattle.rdm_law.proofs.Classes.Landed.{piece_at}
 use Rattle.rdm_law.proofs.Classes.Fresh.{in_range}
-use Rattle.rdm_law.proofs.Accounts.Turned.{turn_is}
+use Rattle.rdm_law.proofs.Accounts.WasDue.{due_is}
 use Rattle.rdm_law.proofs.Settled.Meets.{Meet, IsUnheard, delivered}
-use Rattle.rdm_law.proofs.Settled.AllEnters.{send_turned, sends_going}
+use Rattle.rdm_law.proofs.Settled.AllEnters.{send_was_due, sends_going}
 use Rattle.rdm_law.proofs.Settled.CarriedBack.{came_for, came_opening}
 use Rattle.rdm_lists.proofs.Options.{some_of}
 use Rattle.rdm_lists.proofs.Below.{each_below_from}
@@ -61,13 +61,13 @@ data_piece p recv offset connid bytes x e h = let k = ap packet_piece (sym e) �
 
 -- a packet of a send that was taken brought its piece
 packet_came : (job : Job) (history : List Entry) (i j : Life) (s : Sent) (p : Packet) (x : Piece) (k : ℕ) → Played job history → Member s (sends_of job history j) → s.to ≡ i
-    → TurnedAt (own_of job j) (Sends s p) k (life_deeds job history j) → Member (Took j (Spelled p)) (life_deeds job history i) → packet_piece p ≡ Some x
+    → WasDueAt (own_of job j) (Sends s p) k (life_deeds job history j) → Member (Took j (Spelled p)) (life_deeds job history i) → packet_piece p ≡ Some x
     → Member x (carried_pieces (own_of job i).limits.first (account job history i).head (life_deeds job history i) j s.message.no.0)
-packet_came job history i j s p x k played m to turned took h =
+packet_came job history i j s p x k played m to was_due took h =
     let first = (own_of job i).limits.first in
     let heads = (account job history i).head in
     let log = life_deeds job history i in
-    elim (turn_is (own_of job j) s p k (life_deeds job history j) turned) [
+    elim (due_is (own_of job j) s p k (life_deeds job history j) was_due) [
       | inl a ↦ (
           let o = opening_is (own_of job j).limits s.message s.kind p a in
           came_opening first heads log j s.message.no s.message.tag s.message.opt o.form x (subst (λ (q : Packet). Member (Took j (Spelled q)) log) o.is took) (rtm_piece p s o.form x o.is h))
@@ -96,12 +96,12 @@ unheard_data log j p recv offset connid bytes e u = let P : Packet → Type 0 = 
 -- a packet that was pushed of a heard message was taken
 pub packet_taken : (job : Job) (history : List Entry) (i j : Life) (s : Sent) (p : Packet) → Meet job history i j → Member s (sends_of job history j) → s.to ≡ i
     → is_heard (life_deeds job history i) j s.message.no.0 ≡ true → Member p (pushed_of (own_of job j) (account job history j) (life_deeds job history j) s.number)
-    → (k : ℕ) × TurnedAt (own_of job j) (Sends s p) k (life_deeds job history j) × Member (Took j (Spelled p)) (life_deeds job history i)
+    → (k : ℕ) × WasDueAt (own_of job j) (Sends s p) k (life_deeds job history j) × Member (Took j (Spelled p)) (life_deeds job history i)
 packet_taken job history i j s p m mem to heard h =
-    let t = send_turned job history j s p mem h in
+    let t = send_was_due job history j s p mem h in
     elim (delivered job history i j (Spelled p) (Sends s p) t.0 m t.1 (sends_going s p i to)) [
       | inl a ↦ (t.0, t.1, a)
-      | inr a ↦ elim (turn_is (own_of job j) s p t.0 (life_deeds job history j) t.1) [
+      | inr a ↦ elim (due_is (own_of job j) s p t.0 (life_deeds job history j) t.1) [
         | inl b ↦ (let o = opening_is (own_of job j).limits s.message s.kind p b in absurd (unheard_none (life_deeds job history i) j s p o.form o.is heard a.0))
         | inr b ↦ absurd (unheard_data (life_deeds job history i) j p (op_id b.grant.recv) b.offset (own_of job j).life.connid b.bytes b.is a.0)
       ]

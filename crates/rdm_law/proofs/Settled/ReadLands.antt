@@ -26,8 +26,8 @@ use Rattle.rdm_model.specs.Replies.{Reply, reply, asks_for}
 use Rattle.rdm_model.specs.Sends.{Sent}
 use Rattle.rdm_model.specs.Named.{read_from}
 use Rattle.rdm_model.specs.Currents.{is_forgotten}
-use Rattle.rdm_model.specs.Turns.{Replies, is_read}
-use Rattle.rdm_model.specs.Going.{Goes, turn_going}
+use Rattle.rdm_model.specs.Dues.{Replies, is_read}
+use Rattle.rdm_model.specs.Going.{Goes, due_going}
 use Rattle.rdm_model.specs.Lawful.{life_deeds}
 use Rattle.rdm_model.proofs.SameRegions.{Agree}
 use Rattle.rdm_model.proofs.Numbers.{sends_one}
@@ -42,7 +42,7 @@ use Rattle.rdm_law.proofs.Replies.Owed.{shape_in, recv_in}
 use Rattle.rdm_law.proofs.Settled.OwedRest.{owed_rest}
 use Rattle.rdm_law.proofs.Replies.Queue.{owed}
 use Rattle.rdm_law.proofs.Settled.Still.{settled_still, at_rest, AtRest}
-use Rattle.rdm_law.proofs.Settled.TurnsPushed.{pushed_turned}
+use Rattle.rdm_law.proofs.Settled.DuesPushed.{pushed_was_due}
 use Rattle.rdm_law.proofs.Settled.Meets.{Meet, IsUnheard, delivered}
 use Rattle.rdm_law.proofs.Settled.AllEnters.{stands}
 use Rattle.rdm_law.proofs.Settled.CarriedBack.{came_for}
@@ -53,8 +53,8 @@ pub rest_of : (job : Job) (history : List Entry) (i j : Life) → Meet job histo
 rest_of job history i j m = at_rest (own_of job j) (account job history j) (life_deeds job history j) (settled_still job history j m.played m.settled m.standing.open_j m.standing.clock_j)
 
 -- a reply goes to its life
-replies_going : (r : Reply) (to : Life) (item : Item) → r.to ≡ to → r.item ≡ item → turn_going (Some (Replies r)) ≡ Some (Goes to item)
-unfolding turn_going
+replies_going : (r : Reply) (to : Life) (item : Item) → r.to ≡ to → r.item ≡ item → due_going (Some (Replies r)) ≡ Some (Goes to item)
+unfolding due_going
 replies_going r to item e f = ap (λ (l : Life). Some (Goes l r.item)) e ∙ ap (λ (x : Item). Some (Goes to x)) f
 
 -- an item that is no packet which opens a message
@@ -79,7 +79,7 @@ owed_taken job history i j r item m h to is rep =
     let log = life_deeds job history j in
     let kept = subst (λ (l : Life). is_forgotten log l ≡ false) (sym to) (stands job history i j m) in
     let p = owed_rest own (account job history j) log r h kept (rest_of job history i j m).no_reply in
-    elim (delivered job history i j item (Replies r) p.0 m (pushed_turned own (Replies r) p.0 log p.1) (replies_going r i item to is)) [
+    elim (delivered job history i j item (Replies r) p.0 m (pushed_was_due own (Replies r) p.0 log p.1) (replies_going r i item to is)) [
       | inl a ↦ a
       | inr a ↦ absurd (replied_heard (life_deeds job history i) j item rep a.0)
     ]

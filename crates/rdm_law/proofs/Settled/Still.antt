@@ -24,14 +24,14 @@ use Rattle.rdm_model.specs.Deeds.{Deed, Did, deed_by_next, deed_by_push, deed_by
 use Rattle.rdm_model.specs.Owns.{Own, Messages, no_rank, rank_of, port_count, own_of}
 use Rattle.rdm_model.specs.Notes.{OwedNote, next_note}
 use Rattle.rdm_model.specs.Scenes.{Scene, deeds_at}
-use Rattle.rdm_model.specs.Going.{Going, turn_going, life_going, note_going, going}
+use Rattle.rdm_model.specs.Going.{Going, due_going, life_going, note_going, going}
 use Rattle.rdm_model.specs.Steps.{last_stamp, clock}
 use Rattle.rdm_model.specs.Classes.{lives_class}
 use Rattle.rdm_model.specs.Local.{own_scene}
 use Rattle.rdm_model.specs.Lawful.{port_deeds, life_deeds, sent_scene}
 use Rattle.rdm_model.specs.Replies.{Reply}
 use Rattle.rdm_model.specs.Sends.{Sent, sends}
-use Rattle.rdm_model.specs.Turns.{Turn, Replies, Sends, next_packet, is_over, send_turn, next_send, reply_turn, next_turn, progress, turn}
+use Rattle.rdm_model.specs.Dues.{Due, Replies, Sends, next_packet, is_over, send_due, next_send, reply_due, next_due, progress, due}
 use Rattle.rdm_model.specs.Settled.{waiting_datagrams, is_worn, is_worn_by, left_at, is_no_entry, next_completion_is_none, is_quiet, is_quiet_in, is_settled}
 use Rattle.rdm_model.specs.Takes.{is_again_early}
 use Rattle.rdm_law.proofs.Lives.Lives.{life_scene, opened_scene}
@@ -120,28 +120,28 @@ unfolding note_going
 note_none None o h = h
 note_none (Some n) o h = cc
 
--- where nothing goes by a turn there is none
-turn_none : (o : Option Turn) → turn_going o ≡ None → o ≡ None
-unfolding turn_going
-turn_none None h = refl
-turn_none (Some (Replies r)) h = cc
-turn_none (Some (Sends s p)) h = cc
+-- where nothing goes by a due item there is none
+due_none : (o : Option Due) → due_going o ≡ None → o ≡ None
+unfolding due_going
+due_none None h = refl
+due_none (Some (Replies r)) h = cc
+due_none (Some (Sends s p)) h = cc
 
--- a scene from which nothing goes has no turn
-scene_none : (s : Scene) (c : Connid) → s.now ≡ Some c → going s ≡ None → turn s.own s.ms s.log ≡ None
+-- a scene from which nothing goes has no due item
+scene_none : (s : Scene) (c : Connid) → s.now ≡ Some c → going s ≡ None → due s.own s.ms s.log ≡ None
 unfolding going life_going
-scene_none s c n h = turn_none (turn s.own s.ms s.log) (subst (λ (o : Option Connid). life_going o s ≡ None) n (note_none (next_note s.ports s.own.life.port.0 s.port_log) (life_going s.now s) h))
+scene_none s c n h = due_none (due s.own s.ms s.log) (subst (λ (o : Option Connid). life_going o s ≡ None) n (note_none (next_note s.ports s.own.life.port.0 s.port_log) (life_going s.now s) h))
 
--- a life has no turn left
+-- a life has no due item left
 abbrev pub IsStill : Job → List Entry → Life → Type 0
-IsStill job history l = turn (own_of job l) (account job history l) (life_deeds job history l) ≡ None
+IsStill job history l = due (own_of job l) (account job history l) (life_deeds job history l) ≡ None
 
 -- the life of an endpoint is its own
 own_now : (job : Job) (l : Life) → ◌≡◌ {A = Option Connid} (Some (own_of job l).life.connid) (Some l.connid)
 unfolding own_of
 own_now job l = refl
 
--- at a settled end an open life whose clock goes on has no turn left
+-- at a settled end an open life whose clock goes on has no due item left
 pub settled_still : (job : Job) (history : List Entry) (l : Life) → Played job history → is_settled job history ≡ true
     → open_life (port_deeds job l.port.0 history) ≡ Some l.connid → clock job (log_of l.port.0 history) < last_stamp → IsStill job history l
 unfolding life_deeds
@@ -153,26 +153,26 @@ settled_still job history l played h open' low =
     let here = subst (λ (s : Scene). going s ≡ None) (opened_scene job port l.connid (port_deeds job port history) open') own in
     scene_none (life_scene (port_count job) (own_of job l) (port_deeds job port history) (life_deeds job history l)) l.connid (own_now job l) here
 
--- with no turn, no reply waits
-reply_none : (o : Option Reply) (others : Option Turn) → reply_turn o others ≡ None → (o ≡ None) × (others ≡ None)
-unfolding reply_turn
+-- with no due item, no reply waits
+reply_none : (o : Option Reply) (others : Option Due) → reply_due o others ≡ None → (o ≡ None) × (others ≡ None)
+unfolding reply_due
 reply_none None others h = (refl, h)
 reply_none (Some r) others h = cc
 
--- with no turn, no send has a packet
-send_none : (s : Sent) (o : Option Packet) (others : Option Turn) → send_turn s o others ≡ None → (o ≡ None) × (others ≡ None)
-unfolding send_turn
+-- with no due item, no send has a packet
+send_none : (s : Sent) (o : Option Packet) (others : Option Due) → send_due s o others ≡ None → (o ≡ None) × (others ≡ None)
+unfolding send_due
 send_none s None others h = (refl, h)
 send_none s (Some p) others h = cc
 
--- with no turn, each send is over or has nothing next
+-- with no due item, each send is over or has nothing next
 sends_none : (own : Own) (log : List Deed) (packets : ℕ → List Packet) (sents : List Sent) (s : Sent) → next_send own log packets sents ≡ None → Member s sents
     → (is_over log (packets s.number) s ≡ true) ⊎ (next_packet own log s (packets s.number) ≡ None)
 unfolding next_send
 sends_none own log packets [] s h m = elim m [ ]
 sends_none own log packets (t ∷ ts) s h m =
     (elim (is_over log (packets t.number) t) as (λ b. is_over log (packets t.number) t ≡ b
-    → cond b (next_send own log packets ts) (send_turn t (next_packet own log t (packets t.number)) (next_send own log packets ts)) ≡ None
+    → cond b (next_send own log packets ts) (send_due t (next_packet own log t (packets t.number)) (next_send own log packets ts)) ≡ None
     → (is_over log (packets s.number) s ≡ true) ⊎ (next_packet own log s (packets s.number) ≡ None)) [
       | true ↦ λ is k. elim m [
         | inl a ↦ inl (subst (λ (x : Sent). is_over log (packets x.number) x ≡ true) a is)
@@ -186,14 +186,14 @@ sends_none own log packets (t ∷ ts) s h m =
           ]
     ]) refl h
 
--- what a life without a turn has: no reply that waits, and sends that are over or have nothing next
+-- what a life without a due item has: no reply that waits, and sends that are over or have nothing next
 pub record AtRest (own : Own) (ms : Messages) (log : List Deed) : Type 0 where
   pub no_reply : slice_get (progress own ms log).replies 0 ≡ None
   pub each : (s : Sent) → Member s (sends own ms log) → (is_over log ((progress own ms log).packets s.number) s ≡ true) ⊎ (next_packet own log s ((progress own ms log).packets s.number) ≡ None)
 
--- a life without a turn is at rest
-pub at_rest : (own : Own) (ms : Messages) (log : List Deed) → turn own ms log ≡ None → AtRest own ms log
-unfolding turn next_turn
+-- a life without a due item is at rest
+pub at_rest : (own : Own) (ms : Messages) (log : List Deed) → due own ms log ≡ None → AtRest own ms log
+unfolding due next_due
 at_rest own ms log h =
     let r = reply_none (slice_get (progress own ms log).replies 0) (next_send own log (progress own ms log).packets (sends own ms log)) h in
     record { no_reply = r.0; each = λ s m. sends_none own log (progress own ms log).packets (sends own ms log) s r.1 m }

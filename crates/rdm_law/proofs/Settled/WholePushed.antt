@@ -14,11 +14,11 @@ use Rattle.rdm_model.specs.Deeds.{Deed}
 use Rattle.rdm_model.specs.Owns.{Own, Messages}
 use Rattle.rdm_model.specs.Currents.{is_forgotten}
 use Rattle.rdm_model.specs.Sends.{Sent, sends}
-use Rattle.rdm_model.specs.Turns.{pieces_in, next_packet, is_read, is_pushed, is_over, ends_send}
+use Rattle.rdm_model.specs.Dues.{pieces_in, next_packet, is_read, is_pushed, is_over, ends_send}
 use Rattle.rdm_model.proofs.Cuts.{InRow, piece_bytes-append}
 use Rattle.rdm_model.proofs.Rows.{row_covers, row_covered}
 use Rattle.rdm_model.proofs.Opens.{pieces_in-append, opened_bytes, openings_bytes}
-use Rattle.rdm_model.proofs.Turns.{Underway}
+use Rattle.rdm_model.proofs.Dues.{Underway}
 use Rattle.rdm_model.proofs.Pushes.{pushed_of, underway}
 use Rattle.rdm_model.proofs.Served.{done_bytes}
 

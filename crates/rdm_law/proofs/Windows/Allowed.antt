@@ -19,7 +19,7 @@ use Rattle.rdm_model.specs.Grants.{Grant, grants_by, grants, grant_bytes}
 use Rattle.rdm_model.specs.Named.{live_send, is_long_send, is_no_op}
 use Rattle.rdm_model.specs.Classes.{allowed_bytes, is_wrong_grant, is_mismatch}
 use Rattle.rdm_model.specs.Scenes.{Scene}
-use Rattle.rdm_model.specs.Turns.{pieces_in, live_sends}
+use Rattle.rdm_model.specs.Dues.{pieces_in, live_sends}
 use Rattle.rdm_model.specs.Local.{heard_by}
 use Rattle.rdm_model.proofs.SameRegions.{sends_same}
 use Rattle.rdm_model.proofs.Grows.{agree_grows}
@@ -30,7 +30,7 @@ use Rattle.rdm_model.proofs.Pushes.{member_later}
 use Rattle.rdm_law.proofs.Lives.Lives.{life_scene, LifeStep, LifeLocal}
 use Rattle.rdm_law.proofs.Classes.Classed.{IsTaken, taken_parts}
 use Rattle.rdm_law.proofs.Ends.LiveSends.{live_parts}
-use Rattle.rdm_law.proofs.Accounts.Turned.{own_sends}
+use Rattle.rdm_law.proofs.Accounts.WasDue.{own_sends}
 use Rattle.rdm_lists.proofs.Members.{find_member}
 use Rattle.rdm_num.proofs.Lives.{same_life-true}
 

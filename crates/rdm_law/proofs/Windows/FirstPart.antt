@@ -27,11 +27,11 @@ use Rattle.rdm_model.specs.Deeds.{Deed, Took, Spelled}
 use Rattle.rdm_model.specs.Owns.{own_of}
 use Rattle.rdm_model.specs.Grants.{first_part, first_part_in, first_part_by, first_part_taken}
 use Rattle.rdm_model.specs.Sends.{Sent}
-use Rattle.rdm_model.specs.Turns.{Sends, packet_piece, pieces_in}
+use Rattle.rdm_model.specs.Dues.{Sends, packet_piece, pieces_in}
 use Rattle.rdm_model.specs.Lawful.{life_deeds}
 use Rattle.rdm_model.proofs.Matches.{pair_heard}
-use Rattle.rdm_law.proofs.Lives.Lives.{TurnedAt}
-use Rattle.rdm_law.proofs.Accounts.Turned.{turn_is}
+use Rattle.rdm_law.proofs.Lives.Lives.{WasDueAt}
+use Rattle.rdm_law.proofs.Accounts.WasDue.{due_is}
 use Rattle.rdm_law.proofs.Accounts.Wired.{Played, taken_pushed}
 use Rattle.rdm_law.proofs.Accounts.Known.{Known, known_one, account, opened}
 use Rattle.rdm_law.proofs.Accounts.Named.{head_shape}
@@ -133,9 +133,9 @@ first_part_opened job history i j p s played g =
     let o = opened job history i j t.number t.tag t.opt (F.LongCts t.size t.send t.credits t.bytes) taken.datagram taken.taken in
     let mine : Known job history i j t.number.0 = record { sent = s; member = g.sent; to_is = g.to_is; number_is = g.number_is ∙ sym t.number_is } in
     let same : o.known.sent ≡ s = known_one job history i j t.number.0 o.known mine in
-    let turned = subst (λ (y : Sent). TurnedAt (own_of job j) (Sends y (Rtm t.number t.tag t.opt (F.LongCts t.size t.send t.credits t.bytes))) taken.taken.place (life_deeds job history j)) same o.turned in
+    let was_due = subst (λ (y : Sent). WasDueAt (own_of job j) (Sends y (Rtm t.number t.tag t.opt (F.LongCts t.size t.send t.credits t.bytes))) taken.taken.place (life_deeds job history j)) same o.was_due in
     let l = t.length_is in
-    elim (turn_is (own_of job j) s (Rtm t.number t.tag t.opt (F.LongCts t.size t.send t.credits t.bytes)) taken.taken.place (life_deeds job history j) turned) [
+    elim (due_is (own_of job j) s (Rtm t.number t.tag t.opt (F.LongCts t.size t.send t.credits t.bytes)) taken.taken.place (life_deeds job history j) was_due) [
       | inl m ↦
           ap (λ o. unwrap_or o 0) f.1 ∙ sym l ∙ sym (long_opening (own_of job j).limits s.message s.kind t.number t.tag t.opt t.size t.send t.credits t.bytes g.long m)
       | inr d ↦ absurd (let e = d.is in cc)

@@ -19,7 +19,7 @@ use Rattle.rdm_model.specs.Matches.{pairs}
 use Rattle.rdm_model.specs.Parts.{carried_by, carried_pieces}
 use Rattle.rdm_model.specs.Grants.{granted_bytes, grants, grant_bytes}
 use Rattle.rdm_model.specs.Sends.{Sent}
-use Rattle.rdm_model.specs.Turns.{Sends, packet_piece, pieces_in, is_read}
+use Rattle.rdm_model.specs.Dues.{Sends, packet_piece, pieces_in, is_read}
 use Rattle.rdm_model.specs.Lawful.{life_deeds}
 use Rattle.rdm_model.specs.Local.{heard_by}
 use Rattle.rdm_model.proofs.Cuts.{InRow}
@@ -28,8 +28,8 @@ use Rattle.rdm_model.proofs.Opens.{openings_in_row}
 use Rattle.rdm_model.proofs.Sending.{DataPush}
 use Rattle.rdm_model.proofs.SameReceives.{covers_more}
 use Rattle.rdm_model.proofs.Grows.{heads_by_heard}
-use Rattle.rdm_law.proofs.Lives.Lives.{TurnedAt}
-use Rattle.rdm_law.proofs.Accounts.Turned.{turn_is}
+use Rattle.rdm_law.proofs.Lives.Lives.{WasDueAt}
+use Rattle.rdm_law.proofs.Accounts.WasDue.{due_is}
 use Rattle.rdm_law.proofs.Accounts.Wired.{Played}
 use Rattle.rdm_law.proofs.Accounts.Known.{Known, known_one, sends_of, account}
 use Rattle.rdm_law.proofs.Accounts.Named.{pairs_of}
@@ -92,9 +92,9 @@ part_within_allowed own log s p x (inr d) h =
     omega arith
 
 -- what was pushed of a send ends within what is allowed
-pushed_within : (own : Own) (log : List Deed) (s : Sent) (p : Packet) (x : Piece) (k : ℕ) → TurnedAt own (Sends s p) k log → packet_piece p ≡ Some x
+pushed_within : (own : Own) (log : List Deed) (s : Sent) (p : Packet) (x : Piece) (k : ℕ) → WasDueAt own (Sends s p) k log → packet_piece p ≡ Some x
     → x.offset + length x.bytes ≤ allowed_of own log s
-pushed_within own log s p x k t h = part_within_allowed own log s p x (turn_is own s p k log t) h
+pushed_within own log s p x k t h = part_within_allowed own log s p x (due_is own s p k log t) h
 
 -- a long send is not read
 long_not_read : (kind : Kind) → kind ≡ LongCts → is_read kind ≡ true → ⊥
@@ -115,7 +115,7 @@ carried_within job history i j p s x played g m =
     let same : c.1.known.sent ≡ s = known_one job history i j p.message.no.0 c.1.known mine in
     elim c.1.how [
       | inl t ↦ pushed_within (own_of job j) (life_deeds job history j) s t.0 x c.0
-          (subst (λ (y : Sent). TurnedAt (own_of job j) (Sends y t.0) c.0 (life_deeds job history j)) same t.1) t.2
+          (subst (λ (y : Sent). WasDueAt (own_of job j) (Sends y t.0) c.0 (life_deeds job history j)) same t.1) t.2
       | inr v ↦ absurd (
           let a = given_known job history i j v.data' c.0 played v.went in
           let is : v.went.of.sent ≡ s = v.sent_is ∙ same in

@@ -28,7 +28,7 @@ use Rattle.rdm_model.proofs.SameRegions.{sends_same}
 use Rattle.rdm_model.proofs.Grows.{agree_grows}
 use Rattle.rdm_model.proofs.Pushes.{member_later}
 use Rattle.rdm_law.proofs.Lives.Logs.{at_log_of}
-use Rattle.rdm_law.proofs.Accounts.Wired.{Played, HandledBy, TakenTurn}
+use Rattle.rdm_law.proofs.Accounts.Wired.{Played, HandledBy, TakenDue}
 use Rattle.rdm_law.proofs.Accounts.Pushed.{PlacedAt}
 use Rattle.rdm_law.proofs.Accounts.Known.{Known, account, sends_of}
 use Rattle.rdm_law.proofs.Accounts.Named.{pairs_of, pair_known, IsOfSend, went_reply, head_shape, long_send, one_send, send_number}
@@ -36,7 +36,7 @@ use Rattle.rdm_law.proofs.Matching.Distinct.{matching_distinct}
 use Rattle.rdm_law.proofs.Replies.Queue.{owed, Placed}
 use Rattle.rdm_law.proofs.Replies.Answered.{Answered, answered_owed}
 use Rattle.rdm_law.proofs.Replies.Owed.{shape_in, recv_in}
-use Rattle.rdm_law.proofs.Replies.ReplyTurns.{turned_answered}
+use Rattle.rdm_law.proofs.Replies.ReplyDues.{was_due_answered}
 use Rattle.rdm_law.proofs.Windows.WindowsAt.{WindowAt, window_member, owed_window}
 use Rattle.rdm_law.proofs.Windows.WindowsSame.{window_stays, answered_stays}
 use Rattle.rdm_law.proofs.Windows.Granted.{Granting}
@@ -160,12 +160,12 @@ no_send send recv size connid h = elim h [ ]
 
 -- a grant that was pushed is of a window of a pair that grants a send
 pub cts_went : (job : Job) (history : List Entry) (i j : Life) (send recv : OpId) (size : ℕ) (connid : Connid) (d : Datagram) → Played job history
-    → (t : TakenTurn job history j i (Spelled (Cts send recv size connid)) d) → CtsWent job history i j send recv size t.place
+    → (t : TakenDue job history j i (Spelled (Cts send recv size connid)) d) → CtsWent job history i j send recv size t.place
 cts_went job history i j send recv size connid d played t =
     let own = own_of job i in
     let log = life_deeds job history i in
     let r = went_reply job history j i (Cts send recv size connid) d t (no_send send recv size connid) in
-    let a = turned_answered own r.reply t.place log r.turned in
+    let a = was_due_answered own r.reply t.place log r.was_due in
     let at : slice_get (owed own (account job history i) log) a.0.place ≡ Some r.reply = answered_owed own (account job history i) log a.0 t.place a.1 ∙ ap Some a.2 in
     let w = owed_window own (account job history i) log a.0.place r.reply send recv size connid at r.is in
     let m = window_member own (account job history i) log w.pair w.start size a.0.place w.window' in

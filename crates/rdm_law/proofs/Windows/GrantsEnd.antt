@@ -31,7 +31,7 @@ use Rattle.rdm_model.specs.declared.entry.Entry.{Entry}
 use Rattle.rdm_model.specs.Owns.{own_of}
 use Rattle.rdm_model.specs.Parts.{carried_pieces}
 use Rattle.rdm_model.specs.Grants.{data_room, window_of, with_window}
-use Rattle.rdm_model.specs.Turns.{pieces_in}
+use Rattle.rdm_model.specs.Dues.{pieces_in}
 use Rattle.rdm_model.specs.Lawful.{life_deeds}
 use Rattle.rdm_model.specs.Local.{heard_by}
 use Rattle.rdm_model.proofs.Matches.{member_is_pair}

@@ -160,12 +160,12 @@ grant_newest job e before i j p s send recv size connid d entered played g n t d
     let item = Spelled (Cts send recv size connid) in
     let C : Act → Type 0 = λ act. Comes before e act in
     let came : Comes before e (Handle d (TookAnswer entered)) = subst C is played.wire.1 in
-    let turn = pushed_taken job before j i item d earlier t dst came.1 in
-    let w = cts_went job before i j send recv size connid d earlier turn in
-    let r = granting_earlier job e before i j p s send recv size turn.place g w n in
+    let due = pushed_taken job before j i item d earlier t dst came.1 in
+    let w = cts_went job before i j send recv size connid d earlier due in
+    let r = granting_earlier job e before i j p s send recv size due.place g w n in
     let window : WindowAt (own_of job i) (account job before i) p w.start size w.answer.place (life_deeds job before i) =
     subst (λ (x : Pair). WindowAt (own_of job i) (account job before i) x w.start size w.answer.place (life_deeds job before i)) r.0 w.window' in
-    let start = starts_at job before i j p s w.start size w.answer turn.place d earlier r.1 (tiled job before i j p s earlier r.1) window w.answered turn.placed came.2 in
+    let start = starts_at job before i j p s w.start size w.answer due.place d earlier r.1 (tiled job before i j p s earlier r.1) window w.answered due.placed came.2 in
     let log = life_deeds job before j in
     let deed = took_deed (rank_of job j.port.0).ops j i item d entered e.act is t in
     let o = open_for job j i item d e before entered played is at t in
@@ -178,10 +178,10 @@ grant_newest job e before i j p s send recv size connid d entered played g n t d
       start = w.start;
       size = size;
       answer = w.answer;
-      push = turn.place;
+      push = due.place;
       window' = window_longer job e before i p w.start size w.answer.place window;
-      answered = answered_longer job e before i w.answer turn.place w.answered;
-      pushed = placed_longer job e before i.port.0 i.connid d turn.place turn.placed;
+      answered = answered_longer job e before i w.answer due.place w.answered;
+      pushed = placed_longer job e before i.port.0 i.connid d due.place due.placed;
       within = omega arith;
     }
 
@@ -195,7 +195,7 @@ grant_within job (e ∷ before) i j p s send recv size connid d played g n t dst
 grant_within job (e ∷ before) i j p s send recv size connid d played g n t dst (inr h) =
     let earlier = played_before job e before played in
     let c = comes_of j.port.0 d before earlier.wire h in
-    let turn = pushed_taken job before j i (Spelled (Cts send recv size connid)) d earlier t dst c.1 in
-    let w = cts_went job before i j send recv size connid d earlier turn in
-    let r = granting_earlier job e before i j p s send recv size turn.place g w n in
+    let due = pushed_taken job before j i (Spelled (Cts send recv size connid)) d earlier t dst c.1 in
+    let w = cts_went job before i j send recv size connid d earlier due in
+    let r = granting_earlier job e before i j p s send recv size due.place g w n in
     grant_older job e before i j p s d (grant_within job before i j p s send recv size connid d earlier r.1 n t dst h)

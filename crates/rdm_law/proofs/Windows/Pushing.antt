@@ -10,12 +10,12 @@ use Rattle.rdm_model.specs.Deeds.{Deed}
 use Rattle.rdm_model.specs.Owns.{Own, Messages}
 use Rattle.rdm_model.specs.Currents.{is_forgotten}
 use Rattle.rdm_model.specs.Sends.{Sent, sends}
-use Rattle.rdm_model.specs.Turns.{packet_piece, pieces_in, is_read, is_pushed, is_over}
+use Rattle.rdm_model.specs.Dues.{packet_piece, pieces_in, is_read, is_pushed, is_over}
 use Rattle.rdm_model.proofs.Pushes.{pushed_of}
 use Rattle.rdm_model.proofs.Sending.{push_is}
 use Rattle.rdm_model.proofs.Numbers.{sends_one}
 use Rattle.rdm_model.proofs.Served.{push_member}
-use Rattle.rdm_law.proofs.Settled.TurnsPushed.{packet_push}
+use Rattle.rdm_law.proofs.Settled.DuesPushed.{packet_push}
 use Rattle.rdm_law.proofs.Accounts.Whole.{byte_of_piece}
 use Rattle.rdm_law.proofs.Windows.Granted.{allowed_of, part_within_allowed, byte_ends}
 use Rattle.rdm_lists.proofs.Options.{some_of}

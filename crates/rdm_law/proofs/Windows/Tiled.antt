@@ -30,7 +30,7 @@ use Rattle.rdm_law.proofs.Replies.Answered.{Answered, answered_once}
 use Rattle.rdm_law.proofs.Windows.WindowsAt.{WindowAt, windows_in_order}
 use Rattle.rdm_law.proofs.Windows.Granted.{Granting, allowed_of, own_tells, start_within}
 use Rattle.rdm_law.proofs.Lives.Handled.{at_life, NewTake, new_take}
-use Rattle.rdm_model.specs.Turns.{pieces_in}
+use Rattle.rdm_model.specs.Dues.{pieces_in}
 use Rattle.rdm_num.specs.Pieces.{piece_bytes}
 use Rattle.rdm_model.proofs.Sending.{grant_taken}
 use Rattle.rdm_law.proofs.Accounts.Wired.{taken_pushed}
@@ -128,11 +128,11 @@ new_tile : (job : Job) (e : Entry) (before : List Entry) (i j : Life) (p : Pair)
     → TakenWindow job (e ∷ before) i j p y
 new_tile job e before i j p s send recv size connid played g tile n t y low high =
     let earlier = played_before job e before played in
-    let w = cts_went job before i j send recv size connid t.datagram earlier t.turn' in
-    let r = granting_earlier job e before i j p s send recv size t.turn'.place g w n in
+    let w = cts_went job before i j send recv size connid t.datagram earlier t.due' in
+    let r = granting_earlier job e before i j p s send recv size t.due'.place g w n in
     let window : WindowAt (own_of job i) (account job before i) p w.start size w.answer.place (life_deeds job before i) =
     subst (λ (x : Pair). WindowAt (own_of job i) (account job before i) x w.start size w.answer.place (life_deeds job before i)) r.0 w.window' in
-    let start = starts_at job before i j p s w.start size w.answer t.turn'.place t.datagram earlier r.1 (tile r.1) window w.answered t.turn'.placed t.fresh in
+    let start = starts_at job before i j p s w.start size w.answer t.due'.place t.datagram earlier r.1 (tile r.1) window w.answered t.due'.placed t.fresh in
     record {
       start = w.start;
       size = size;
@@ -140,10 +140,10 @@ new_tile job e before i j p s send recv size connid played g tile n t y low high
       window' = window_longer job e before i p w.start size w.answer.place window;
       low = omega arith;
       high = omega arith;
-      push = t.turn'.place;
-      answered = answered_longer job e before i w.answer t.turn'.place w.answered;
+      push = t.due'.place;
+      answered = answered_longer job e before i w.answer t.due'.place w.answered;
       datagram = t.datagram;
-      pushed = placed_longer job e before i.port.0 i.connid t.datagram t.turn'.place t.turn'.placed;
+      pushed = placed_longer job e before i.port.0 i.connid t.datagram t.due'.place t.due'.placed;
       handled = t.handled;
     }
 

@@ -17,7 +17,7 @@ use Rattle.rdm_model.proofs.SameReplies.{replies_by_same, window_same, granted_b
 use Rattle.rdm_model.proofs.Grows.{agree_grows}
 use Rattle.rdm_law.proofs.Replies.Queue.{Placed}
 use Rattle.rdm_law.proofs.Replies.Answered.{Answered}
-use Rattle.rdm_law.proofs.Replies.ReplyTurns.{owed_same, answered_same}
+use Rattle.rdm_law.proofs.Replies.ReplyDues.{owed_same, answered_same}
 use Rattle.rdm_law.proofs.Windows.WindowsAt.{NewWindow, WindowAt}
 
 -- a new window is the same by accounts that agree

@@ -2,7 +2,7 @@ use Rattle.std.proofs.Common.{ap, sym, ◌∙◌}
 use Rattle.std.specs.Prelude.{option_map}
 use Rattle.std.specs.Option.{option_copied}
 use Rattle.rdm_num.specs.Lives.{life}
-use Rattle.rdm_av.proofs.Kept.{current_is_lookup}
+use Rattle.rdm_av.proofs.HeldLives.{current_is_lookup}
 use Rattle.rdm_av.proofs.Av.current.Goals as goal
 
 pub returns-in-Some : goal.returns-in-Some

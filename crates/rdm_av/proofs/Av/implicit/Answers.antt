@@ -1,7 +1,7 @@
 use Rattle.std.proofs.Common.{ap, ◌∙◌}
 use Rattle.std.specs.FinSet.{from_list}
 use Rattle.rdm_av.specs.Lives.{with_current}
-use Rattle.rdm_av.proofs.Kept.{lives_of, map_after}
+use Rattle.rdm_av.proofs.HeldLives.{lives_of, map_after}
 use Rattle.rdm_av.proofs.Av.implicit.Goals as goal
 
 pub returns-clause-ok : goal.returns-clause-ok

@@ -1,5 +1,5 @@
 use Rattle.std.proofs.Common.{sym, ◌∙◌}
-use Rattle.rdm_av.proofs.Kept.{superseded_is_kept}
+use Rattle.rdm_av.proofs.HeldLives.{superseded_is_kept}
 use Rattle.rdm_av.proofs.Av.is_superseded.Goals as goal
 
 pub returns : goal.returns

@@ -2,7 +2,7 @@ use Rattle.std.proofs.Common.{ap, ◌∙◌}
 use Rattle.std.specs.FinMap as map
 use Rattle.std.specs.FinSet as set
 use Rattle.rdm_av.specs.Lives.{with_current, with_superseded}
-use Rattle.rdm_av.proofs.Kept.{lives_of, map_after, set_after, none_current, not_both}
+use Rattle.rdm_av.proofs.HeldLives.{lives_of, map_after, set_after, none_current, not_both}
 use Rattle.rdm_av.proofs.Av.supersede.Goals as goal
 
 pub returns-in_err-insert-2-clause-err : goal.returns-in_err-insert-2-clause-err

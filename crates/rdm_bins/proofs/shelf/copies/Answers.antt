@@ -1,7 +1,7 @@
 use Rattle.std.proofs.Common.{◌≡◌, ◌+◌, ◌<◌, ◌≤◌, sym, ap, subst, ◌∙◌, length, rules}
 use Rattle.rdm_bins.specs.Shelf.{item_at}
 use Rattle.rdm_bins.proofs.Items.{item_read}
-use Rattle.rdm_bins.proofs.Kept.{IsKept, one_kept, one_dropped, none_kept, all_kept}
+use Rattle.rdm_bins.proofs.Gathered.{IsKept, one_kept, one_dropped, none_kept, all_kept}
 use Rattle.rdm_bins.proofs.shelf.copies.Goals.{in-Some+then-passes+in_ok-push, in-Some+else-passes, in_default}
 use Rattle.rdm_bins.proofs.shelf.copies.Goals as goal
 

@@ -1,4 +1,4 @@
-use Rattle.rdm_bins.proofs.Kept.{IsKept}
+use Rattle.rdm_bins.proofs.Gathered.{IsKept}
 use Rattle.rdm_bins.proofs.shelf.copies.Given as goal
 
 -- the copies are those of the items so far that pass

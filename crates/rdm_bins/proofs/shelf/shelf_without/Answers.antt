@@ -3,7 +3,7 @@ use Rattle.std.specs.Prelude.{not}
 use Rattle.std.specs.Map.{values_of}
 use Rattle.rdm_bins.specs.Shelf.{item_at}
 use Rattle.rdm_bins.proofs.Items.{item_read}
-use Rattle.rdm_bins.proofs.Kept.{IsKept, one_kept, one_dropped, none_kept, all_kept}
+use Rattle.rdm_bins.proofs.Gathered.{IsKept, one_kept, one_dropped, none_kept, all_kept}
 use Rattle.rdm_bins.proofs.shelf.shelf_without.Goals.{in-Some+then-not-passes+in_ok-push, in-Some+else-not-passes, in_default}
 use Rattle.rdm_bins.proofs.shelf.shelf_without.Goals as goal
 

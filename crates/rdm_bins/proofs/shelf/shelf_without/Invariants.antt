@@ -1,6 +1,6 @@
 use Rattle.std.specs.Prelude.{not}
 use Rattle.std.specs.Map.{values_of}
-use Rattle.rdm_bins.proofs.Kept.{IsKept}
+use Rattle.rdm_bins.proofs.Gathered.{IsKept}
 use Rattle.rdm_bins.proofs.shelf.shelf_without.Given as goal
 
 -- the shelf has the items so far that do not pass

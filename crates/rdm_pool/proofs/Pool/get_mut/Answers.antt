@@ -3,7 +3,7 @@ use Rattle.std.specs.Option.{ghost_name_of}
 use borrow.Follows.Closed.{read_of}
 use Rattle.rdm_pool.specs.Numbered.{after_write}
 use Rattle.rdm_pool.specs.Places.{live}
-use Rattle.rdm_pool.proofs.Kept.{key_held}
+use Rattle.rdm_pool.proofs.SlabKeys.{key_held}
 use Rattle.rdm_pool.proofs.Seen.{found_under, kept-written, written_seen}
 use Rattle.rdm_pool.proofs.Pool.get_mut.Goals as goal
 

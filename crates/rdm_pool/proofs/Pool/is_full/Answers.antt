@@ -1,4 +1,4 @@
-use Rattle.rdm_pool.proofs.Kept.{is_pool, length-listed}
+use Rattle.rdm_pool.proofs.SlabKeys.{is_pool, length-listed}
 use Rattle.std.proofs.Common.{rules}
 use Rattle.rdm_pool.proofs.Pool.is_full.Goals as goal
 

@@ -2,7 +2,7 @@ use Rattle.std.proofs.Common.{sym, ◌∙◌, ap, length, arith}
 use Rattle.std.proofs.lemmas.List.{with_items_is}
 use Rattle.rdm_pool.specs.Places.{live}
 use Rattle.rdm_pool.proofs.Entries.{without-absent, length-without}
-use Rattle.rdm_pool.proofs.Kept.{key_held}
+use Rattle.rdm_pool.proofs.SlabKeys.{key_held}
 use Rattle.rdm_pool.proofs.Changed.{held-take}
 use Rattle.rdm_pool.proofs.Seen.{found_under, taken_seen, nothing_taken}
 use Rattle.rdm_pool.proofs.Pool.take.Goals as goal

@@ -3,7 +3,7 @@ use Rattle.std.specs.List.{Contains}
 use Rattle.rdm_land.specs.Spans.{without_span}
 use Rattle.rdm_mr.specs.Tiles.{Tiles}
 use Rattle.rdm_land.proofs.Agreed.{agrees_along}
-use Rattle.rdm_land.proofs.Kept.{some_bytes, is_out, there, ends_inside, agrees_landed}
+use Rattle.rdm_land.proofs.LandingViews.{some_bytes, is_out, there, ends_inside, agrees_landed}
 use Rattle.rdm_land.proofs.landing.Landing.land.Goals as goal
 
 pub put_back-requires-clause-some : goal.put_back-requires-clause-some

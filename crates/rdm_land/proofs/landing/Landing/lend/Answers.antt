@@ -5,7 +5,7 @@ use Rattle.rdm_mr.specs.Tiles.{Tiles, AreHome, IsPartAt}
 use Rattle.rdm_land.specs.Spans.{span, with_span}
 use Rattle.rdm_land.proofs.SetRanges.{length-set}
 use Rattle.rdm_land.proofs.Agreed.{agrees_along}
-use Rattle.rdm_land.proofs.Kept.{fits_home, agrees_lent, taken_is, set_back}
+use Rattle.rdm_land.proofs.LandingViews.{fits_home, agrees_lent, taken_is, set_back}
 use Rattle.rdm_land.proofs.landing.Landing.lend.Goals as goal
 
 pub pick-requires-clause-home : goal.pick-requires-clause-home

@@ -4,7 +4,7 @@ use Rattle.rdm_gaps.specs.Places.{Missing}
 use Rattle.rdm_mr.specs.Tiles.{Tiles}
 use Rattle.rdm_land.proofs.SetRanges.{length-set}
 use Rattle.rdm_land.proofs.Agreed.{agrees_along}
-use Rattle.rdm_land.proofs.Kept.{fits_home, agrees_placed, taken_is}
+use Rattle.rdm_land.proofs.LandingViews.{fits_home, agrees_placed, taken_is}
 use Rattle.rdm_land.proofs.landing.Landing.place.Goals as goal
 
 pub write-requires : goal.write-requires

@@ -5,7 +5,7 @@ use Rattle.rdm_land.specs.Spans.{without_span}
 use Rattle.rdm_mr.specs.Tiles.{Tiles}
 use Rattle.rdm_land.proofs.Agreed.{agrees_along}
 use Rattle.rdm_land.proofs.SetRanges.{length-set}
-use Rattle.rdm_land.proofs.Kept.{some_bytes, some_places, is_out, there, ends_inside, is_taken, agrees_unlent}
+use Rattle.rdm_land.proofs.LandingViews.{some_bytes, some_places, is_out, there, ends_inside, is_taken, agrees_unlent}
 use Rattle.rdm_land.proofs.landing.Landing.unlend.Goals as goal
 
 pub put_back-requires-clause-some : goal.put_back-requires-clause-some

@@ -1,4 +1,4 @@
--- The worlds of a plain job are built.
+-- The worlds of an eager job are built.
 use Rattle.std.proofs.Common.{ℕ, List, IsTrue}
 use Rattle.rdm_num.specs.declared.numbers.Connid.{Connid}
 use Rattle.rdm_num.specs.declared.numbers.Life.{Life}
@@ -13,18 +13,18 @@ use Rattle.rdm_model.specs.Deeds.{Deed, Item, Spelled, item_of}
 use Rattle.rdm_model.specs.Jobs.{is_fair, law_ops}
 use Rattle.rdm_model.specs.Owns.{Own}
 use Rattle.rdm_model.specs.Worlds.{World, new_world, scene_in, after_choices}
-use Rattle.rdm_law.proofs.Plain.PlainDeeds as Law
-use Rattle.rdm_law.proofs.Plain.PlainWaiting.{waiting_built}
-use Rattle.rdm_law.proofs.Plain.PlainWaiting as Waiting
-use Rattle.rdm_law.proofs.Plain.PlainPorts.{PlainJob}
-use Rattle.rdm_law.proofs.Plain.PlainPlayed.{PlainWorld, new_plain_world, plain_keeps}
+use Rattle.rdm_law.proofs.Eager.EagerDeeds as Law
+use Rattle.rdm_law.proofs.Eager.EagerWaiting.{waiting_built}
+use Rattle.rdm_law.proofs.Eager.EagerWaiting as Waiting
+use Rattle.rdm_law.proofs.Eager.EagerPorts.{EagerJob}
+use Rattle.rdm_law.proofs.Eager.EagerPlayed.{EagerWorld, new_eager_world, eager_keeps}
 use Rattle.rdm_law.proofs.Played.PlayedSteps.{choices_keep}
-use Rattle.rdm_ep.specs.Plain.{IsPlainItem}
+use Rattle.rdm_ep.specs.Eager.{IsEagerItem}
 use Rattle.rdm_port.specs.Built.{IsBuiltBody}
 use Rattle.rdm_world.specs.Shows.{IsBuiltWorld, StaysBuilt}
 
--- what the law calls plain is what the endpoint takes
-same_item : (own : Own) (log : List Deed) (from : Life) (item : Item) → Law.IsPlainItem own log from item → IsPlainItem own log from item
+-- what the law calls eager is what the endpoint takes
+same_item : (own : Own) (log : List Deed) (from : Life) (item : Item) → Law.IsEagerItem own log from item → IsEagerItem own log from item
 same_item own log from (Spelled (Rtm number tag opt (Eager bytes))) h = h
 same_item own log from (Spelled (Handshake words connid)) h = h
 same_item own log from _ h = elim h [ ]
@@ -34,13 +34,13 @@ same_body : (own : Own) (log : List Deed) (d : Datagram) (body : Body) → Waiti
 same_body own log d (Note note) h = h
 same_body own log d (Between from to load) h = same_item own log (life d.src from) (item_of load) h
 
--- a plain world is built
-plain_built : (job : Job) (lives : ℕ → Connid) (w : World) → IsTrue (is_fair law_ops job) → PlainJob job lives → PlainWorld job lives w → IsBuiltWorld job w
-plain_built job lives w fair plain p port d m =
+-- an eager world is built
+eager_built : (job : Job) (lives : ℕ → Connid) (w : World) → IsTrue (is_fair law_ops job) → EagerJob job lives → EagerWorld job lives w → IsBuiltWorld job w
+eager_built job lives w fair plain p port d m =
     same_body (scene_in job w port).own (scene_in job w port).log d d.body (waiting_built job lives w port d fair plain p m)
 
 -- each world of such a job that choices reach is built
-pub plain_stays_built : (job : Job) (lives : ℕ → Connid) → IsTrue (is_fair law_ops job) → PlainJob job lives → StaysBuilt job new_world
-plain_stays_built job lives fair plain cs ranks =
-    plain_built job lives (after_choices job new_world cs) fair plain
-    (choices_keep job (PlainWorld job lives) (plain_keeps job lives fair plain) cs new_world ranks (new_plain_world job lives))
+pub eager_stays_built : (job : Job) (lives : ℕ → Connid) → IsTrue (is_fair law_ops job) → EagerJob job lives → StaysBuilt job new_world
+eager_stays_built job lives fair plain cs ranks =
+    eager_built job lives (after_choices job new_world cs) fair plain
+    (choices_keep job (EagerWorld job lives) (eager_keeps job lives fair plain) cs new_world ranks (new_eager_world job lives))

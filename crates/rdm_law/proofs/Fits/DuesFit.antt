@@ -22,11 +22,11 @@ use Rattle.rdm_model.specs.Owns.{Own, Messages}
 use Rattle.rdm_model.specs.Sends.{Sent, sends}
 use Rattle.rdm_model.specs.Grants.{Grant, grants, grant_bytes, data_room}
 use Rattle.rdm_model.specs.Replies.{Reply}
-use Rattle.rdm_model.specs.Turns.{Turn, Replies, Sends, pieces_in, is_read, is_pushed, is_over, progress, turn}
-use Rattle.rdm_model.specs.Going.{Goes, turn_going}
+use Rattle.rdm_model.specs.Dues.{Due, Replies, Sends, pieces_in, is_read, is_pushed, is_over, progress, due}
+use Rattle.rdm_model.specs.Going.{Goes, due_going}
 use Rattle.rdm_model.proofs.Rows.{row_covers}
 use Rattle.rdm_model.proofs.Opens.{some_opening}
-use Rattle.rdm_model.proofs.Turns.{SendTurn, turn_cases, GrantedNext, Underway, next_is}
+use Rattle.rdm_model.proofs.Dues.{SendDue, due_cases, GrantedNext, Underway, next_is}
 use Rattle.rdm_model.proofs.Pushes.{pushed_of, underway}
 use Rattle.rdm_model.proofs.Sending.{grant_taken}
 use Rattle.rdm_law.proofs.Fits.Fitting.{CanGo}
@@ -186,8 +186,8 @@ all_opened own s pushed datas is =
     omega arith
 
 -- the next packet of a live send fits
-send_fits : (own : Own) (ms : Messages) (log : List Deed) (t : Turn) → OwnFits own → LimitsFit own.limits → AllTakenFit log
-    → ((s : Sent) → Member s (sends own ms log) → SentFits own s) → (r : SendTurn own log (pushed_of own ms log) (sends own ms log) t) → fits r.packet ≡ true
+send_fits : (own : Own) (ms : Messages) (log : List Deed) (t : Due) → OwnFits own → LimitsFit own.limits → AllTakenFit log
+    → ((s : Sent) → Member s (sends own ms log) → SentFits own s) → (r : SendDue own log (pushed_of own ms log) (sends own ms log) t) → fits r.packet ≡ true
 send_fits own ms log t o l taken sent r =
     let s = r.sent in
     let pushed = pushed_of own ms log s.number in
@@ -201,11 +201,11 @@ send_fits own ms log t o l taken sent r =
     ]
 
 -- what a life owes next can go
-pub turn_fits : (ports : ℕ) (own : Own) (ms : Messages) (log : List Deed) (t : Turn) (to : Life) (item : Item) → OwnFits own → LimitsFit own.limits → MessagesFit ms → HeadsFit ms.head
-    → DeedsFit ports own.limits.first log → AllTakenFit log → turn own ms log ≡ Some t → turn_going (Some t) ≡ Some (Goes to item) → CanGo item
-unfolding turn_going
-turn_fits ports own ms log (Replies r) to item o l h k fit taken is goes =
-    elim (turn_cases own ms log (Replies r) is) [
+pub due_fits : (ports : ℕ) (own : Own) (ms : Messages) (log : List Deed) (t : Due) (to : Life) (item : Item) → OwnFits own → LimitsFit own.limits → MessagesFit ms → HeadsFit ms.head
+    → DeedsFit ports own.limits.first log → AllTakenFit log → due own ms log ≡ Some t → due_going (Some t) ≡ Some (Goes to item) → CanGo item
+unfolding due_going
+due_fits ports own ms log (Replies r) to item o l h k fit taken is goes =
+    elim (due_cases own ms log (Replies r) is) [
       | inl a ↦
           let same : a.0 ≡ r = (let e = a.2 in cc) in
           let of : r.item ≡ item = cc in
@@ -213,8 +213,8 @@ turn_fits ports own ms log (Replies r) to item o l h k fit taken is goes =
           subst CanGo of (replies_fit ports own ms log r o h k fit waits)
       | inr a ↦ (let e = a.1.is in absurd (reply_no_send r a.1.sent a.1.packet e))
     ]
-turn_fits ports own ms log (Sends s p) to item o l h k fit taken is goes =
-    elim (turn_cases own ms log (Sends s p) is) [
+due_fits ports own ms log (Sends s p) to item o l h k fit taken is goes =
+    elim (due_cases own ms log (Sends s p) is) [
       | inl a ↦ absurd (reply_no_send a.0 s p (sym a.2))
       | inr a ↦
           let same : a.1.packet ≡ p = (let e = a.1.is in cc) in

@@ -1,4 +1,4 @@
--- A plain life pushes each message once: a message that waits was not heard of yet.
+-- An eager life pushes each message once: a message that waits was not heard of yet.
 use Rattle.std.proofs.Common.{◌≡◌, ℕ, ◌-◌, false, is_some, slice_get, List, [], ◌∷◌, Option, Some, None, IsTrue, refl, inl, inr, sym, ◌∙◌, ap, subst}
 use Rattle.rdm_lists.specs.Lists.{Member}
 use Rattle.rdm_num.specs.Lives.{life}
@@ -28,18 +28,18 @@ use Rattle.rdm_model.specs.Jobs.{is_fair, law_ops}
 use Rattle.rdm_model.specs.Heard.{heard_head, is_heard}
 use Rattle.rdm_model.specs.Scenes.{deeds_at}
 use Rattle.rdm_model.specs.Sends.{Sent, sends, sends_to}
-use Rattle.rdm_model.specs.Turns.{Turn, Replies, Sends}
-use Rattle.rdm_model.specs.Going.{Goes, turn_going}
+use Rattle.rdm_model.specs.Dues.{Due, Replies, Sends}
+use Rattle.rdm_model.specs.Going.{Goes, due_going}
 use Rattle.rdm_model.specs.Local.{heard_by}
 use Rattle.rdm_model.specs.Wire.{PushedIn, IsOther, IsUnhandled}
 use Rattle.rdm_model.specs.Worlds.{World}
 use Rattle.rdm_model.proofs.Numbers.{placed}
 use Rattle.rdm_model.proofs.Sending.{IsSingle}
-use Rattle.rdm_law.proofs.Lives.Lives.{life_of, TurnedAt}
-use Rattle.rdm_law.proofs.Accounts.Pushed.{PlacedAt, placed_once, PushedTurn, pushed_turn}
+use Rattle.rdm_law.proofs.Lives.Lives.{life_of, WasDueAt}
+use Rattle.rdm_law.proofs.Accounts.Pushed.{PlacedAt, placed_once, PushedDue, pushed_due}
 use Rattle.rdm_law.proofs.Accounts.Wired.{HandledIn, taken_handled, bears_item}
-use Rattle.rdm_law.proofs.Accounts.Turned.{own_sends, turn_member, turn_rtm, turn_opening}
-use Rattle.rdm_law.proofs.Replies.ReplyTurns.{turned_owed}
+use Rattle.rdm_law.proofs.Accounts.WasDue.{own_sends, due_member, due_rtm, due_opening}
+use Rattle.rdm_law.proofs.Replies.ReplyDues.{was_due_owed}
 use Rattle.rdm_law.proofs.Accounts.Known.{heard_taken, owed_rtm}
 use Rattle.rdm_law.proofs.Fits.SmallBytes.{bytes_by_fit}
 use Rattle.rdm_law.proofs.Fits.RegionsFit.{MessagesFit}
@@ -48,37 +48,37 @@ use Rattle.rdm_law.proofs.Fits.FairJobs.{fair_job}
 use Rattle.rdm_law.proofs.Played.GoesWell.{life_fits}
 use Rattle.rdm_law.proofs.Played.Delivers.{handled_waited}
 use Rattle.rdm_law.proofs.Played.Sound.{waiting_in}
-use Rattle.rdm_law.proofs.Plain.PlainTurns.{plain_sends, plain_kind}
-use Rattle.rdm_law.proofs.Plain.PlainPorts.{PlainJob, IsPlainBody, handled_plain, life_plain}
-use Rattle.rdm_law.proofs.Plain.PlainPlayed.{PlainWorld}
+use Rattle.rdm_law.proofs.Eager.EagerDues.{eager_sends, eager_kind}
+use Rattle.rdm_law.proofs.Eager.EagerPorts.{EagerJob, IsEagerBody, handled_eager, life_eager}
+use Rattle.rdm_law.proofs.Eager.EagerPlayed.{EagerWorld}
 use Rattle.rdm_num.proofs.Lives.{port_is}
 
--- a packet that opens the message of a number to a life had the turn
-pub record RtmTurn (own : Own) (to : Life) (number : MsgNo) (k : ℕ) (log : List Deed) : Type 0 where
+-- a packet that opens the message of a number to a life was due
+pub record RtmDue (own : Own) (to : Life) (number : MsgNo) (k : ℕ) (log : List Deed) : Type 0 where
   pub sent : Sent
   pub to_is : sent.to ≡ to
   pub tag : Option ℕ
   pub opt : Opt
   pub form : Form
-  pub turned : TurnedAt own (Sends sent (Rtm number tag opt form)) k log
+  pub was_due : WasDueAt own (Sends sent (Rtm number tag opt form)) k log
 
--- such a packet had the turn where it went out
-rtm_by_turn : (own : Own) (k : ℕ) (log : List Deed) (t : Turn) (to : Life) (item : Item) (number : MsgNo) (tag : Option ℕ) (opt : Opt) (form : Form)
-    → TurnedAt own t k log → turn_going (Some t) ≡ Some (Goes to item) → item ≡ Spelled (Rtm number tag opt form) → RtmTurn own to number k log
-unfolding turn_going
-rtm_by_turn own k log (Sends s p) to item number tag opt form h g is =
+-- such a packet was due where it went out
+rtm_by_due : (own : Own) (k : ℕ) (log : List Deed) (t : Due) (to : Life) (item : Item) (number : MsgNo) (tag : Option ℕ) (opt : Opt) (form : Form)
+    → WasDueAt own t k log → due_going (Some t) ≡ Some (Goes to item) → item ≡ Spelled (Rtm number tag opt form) → RtmDue own to number k log
+unfolding due_going
+rtm_by_due own k log (Sends s p) to item number tag opt form h g is =
     let same : p ≡ Rtm number tag opt form = cc in
     let dest : s.to ≡ to = cc in
-    record { sent = s; to_is = dest; tag = tag; opt = opt; form = form; turned = subst (λ (x : Packet). TurnedAt own (Sends s x) k log) same h }
-rtm_by_turn own k log (Replies r) to item number tag opt form h g is =
+    record { sent = s; to_is = dest; tag = tag; opt = opt; form = form; was_due = subst (λ (x : Packet). WasDueAt own (Sends s x) k log) same h }
+rtm_by_due own k log (Replies r) to item number tag opt form h g is =
     let same : r.item ≡ Spelled (Rtm number tag opt form) = cc in
-    absurd (owed_rtm own (heard_by own.limits.first log) log r number tag opt form (turned_owed own r k log h) same)
+    absurd (owed_rtm own (heard_by own.limits.first log) log r number tag opt form (was_due_owed own r k log h) same)
 
--- a pushed packet that opens a message had the turn
+-- a pushed packet that opens a message was due
 pushed_rtm : (job : Job) (port : ℕ) (from : Connid) (to : Life) (load : Load) (d : Datagram) (log : List Entry) (number : MsgNo) (tag : Option ℕ) (opt : Opt) (form : Form)
-    → (p : PushedTurn job port from to load d log) → item_of load ≡ Spelled (Rtm number tag opt form) → RtmTurn (own_of job (life_of port from)) to number p.place (of_life from (deeds_at job port log))
+    → (p : PushedDue job port from to load d log) → item_of load ≡ Spelled (Rtm number tag opt form) → RtmDue (own_of job (life_of port from)) to number p.place (of_life from (deeds_at job port log))
 pushed_rtm job port from to load d log number tag opt form p is =
-    rtm_by_turn (own_of job (life_of port from)) p.place (of_life from (deeds_at job port log)) p.turn' to p.item number tag opt form p.turned p.gives
+    rtm_by_due (own_of job (life_of port from)) p.place (of_life from (deeds_at job port log)) p.due' to p.item number tag opt form p.was_due p.gives
     (sym (bears_item p.item load p.bears) ∙ is)
 
 -- sends to one life with one number are one send
@@ -92,22 +92,22 @@ numbered_once own ms log s t m k one_life one_number =
 
 -- where all sends of a life are of one packet, it opens the message of a number to a life once
 opens_once : (own : Own) (to : Life) (number : MsgNo) (k l : ℕ) (log : List Deed) → ((s : Sent) → Member s (own_sends own log) → s.kind ≡ Eager)
-    → RtmTurn own to number k log → RtmTurn own to number l log → k ≡ l
+    → RtmDue own to number k log → RtmDue own to number l log → k ≡ l
 opens_once own to number k l log eager a b =
     let ms = heard_by own.limits.first log in
-    let ma = turn_member own a.sent (Rtm number a.tag a.opt a.form) k log a.turned in
-    let mb = turn_member own b.sent (Rtm number b.tag b.opt b.form) l log b.turned in
-    let na = (turn_rtm own a.sent number a.tag a.opt a.form k log a.turned).0 in
-    let nb = (turn_rtm own b.sent number b.tag b.opt b.form l log b.turned).0 in
+    let ma = due_member own a.sent (Rtm number a.tag a.opt a.form) k log a.was_due in
+    let mb = due_member own b.sent (Rtm number b.tag b.opt b.form) l log b.was_due in
+    let na = (due_rtm own a.sent number a.tag a.opt a.form k log a.was_due).0 in
+    let nb = (due_rtm own b.sent number b.tag b.opt b.form l log b.was_due).0 in
     let same : a.sent ≡ b.sent = numbered_once own ms log a.sent b.sent ma mb (a.to_is ∙ sym b.to_is) (sym na ∙ nb) in
     let single : IsSingle a.sent.kind = subst IsSingle (sym (eager a.sent ma)) tt in
-    let then' : TurnedAt own (Sends a.sent (Rtm number b.tag b.opt b.form)) l log = subst (λ (s : Sent). TurnedAt own (Sends s (Rtm number b.tag b.opt b.form)) l log) (sym same) b.turned in
-    turn_opening own a.sent number number a.tag b.tag a.opt b.opt a.form b.form k l log single a.turned then'
+    let then' : WasDueAt own (Sends a.sent (Rtm number b.tag b.opt b.form)) l log = subst (λ (s : Sent). WasDueAt own (Sends s (Rtm number b.tag b.opt b.form)) l log) (sym same) b.was_due in
+    due_opening own a.sent number number a.tag b.tag a.opt b.opt a.form b.form k l log single a.was_due then'
 
--- a plain life opens the message of a number to a life once
-life_opens_once : (job : Job) (lives : ℕ → Connid) (i to : Life) (w : World) (number : MsgNo) (k l : ℕ) → IsTrue (is_fair law_ops job) → PlainJob job lives → PlainWorld job lives w
-    → RtmTurn (own_of job i) to number k (of_life i.connid (deeds_at job i.port.0 (w.logs i.port.0)))
-    → RtmTurn (own_of job i) to number l (of_life i.connid (deeds_at job i.port.0 (w.logs i.port.0))) → k ≡ l
+-- an eager life opens the message of a number to a life once
+life_opens_once : (job : Job) (lives : ℕ → Connid) (i to : Life) (w : World) (number : MsgNo) (k l : ℕ) → IsTrue (is_fair law_ops job) → EagerJob job lives → EagerWorld job lives w
+    → RtmDue (own_of job i) to number k (of_life i.connid (deeds_at job i.port.0 (w.logs i.port.0)))
+    → RtmDue (own_of job i) to number l (of_life i.connid (deeds_at job i.port.0 (w.logs i.port.0))) → k ≡ l
 unfolding own_of heard_by
 life_opens_once job lives i to w number k l fair plain p a b =
     let own = own_of job i in
@@ -115,11 +115,11 @@ life_opens_once job lives i to w number k l fair plain p a b =
     let mine = of_life i.connid (deeds_at job i.port.0 log) in
     let local = p.sound.local i.port.0 in
     let fits = life_fits job i.port.0 log i.connid (fair_job job fair) local (p.sound.handled i.port.0) in
-    let deeds = life_plain job lives w.logs i.port.0 i.connid log plain p.sound.local (p.sound.delivers.handled i.port.0) local (p.has.handled i.port.0) in
+    let deeds = life_eager job lives w.logs i.port.0 i.connid log plain p.sound.local (p.sound.delivers.handled i.port.0) local (p.has.handled i.port.0) in
     let ms = heard_by own.limits.first mine in
     let bytes : MessagesFit ms = λ source n. bytes_by_fit own.limits.first mine source n fits.taken in
     let sent : (s : Sent) → Member s (own_sends own mine) → SentFits own s = sent_fits (port_count job) own ms mine bytes fits.deeds_fit in
-    opens_once own to number k l mine (λ s m. plain_kind own lives s (plain_sends own lives ms mine deeds s m) (sent s m)) a b
+    opens_once own to number k l mine (λ s m. eager_kind own lives s (eager_sends own lives ms mine deeds s m) (sent s m)) a b
 
 -- what was not handled is none of what a port took
 unhandled_other : (d q : Datagram) (log : List Entry) → IsUnhandled d log → HandledIn q log → q ≡ d → ⊥
@@ -130,7 +130,7 @@ unhandled_other d q (e ∷ before) u (inl k) is =
     other (ap (λ (x : Datagram). x.src) is) (ap (λ (x : Datagram). x.number) is)
 unhandled_other d q (e ∷ before) u (inr k) is = unhandled_other d q before u.0 k is
 
--- a datagram with a message of a plain life
+-- a datagram with a message of an eager life
 pub record HasMessage (from : Life) (number : MsgNo) (d : Datagram) : Type 0 where
   pub to : Connid
   pub load : Load
@@ -146,28 +146,28 @@ pushed_there : (logs : ℕ → List Entry) (d : Datagram) (l : Life) → d.src �
 pushed_there logs d l is h = subst (λ (x : ℕ). PushedIn d (logs x)) (ap (λ (x : PortNo). x.0) is) h
 
 -- two of them with one number to one life are one
-message_once : (job : Job) (lives : ℕ → Connid) (i : Life) (w : World) (number : MsgNo) (d q : Datagram) → IsTrue (is_fair law_ops job) → PlainJob job lives → PlainWorld job lives w
+message_once : (job : Job) (lives : ℕ → Connid) (i : Life) (w : World) (number : MsgNo) (d q : Datagram) → IsTrue (is_fair law_ops job) → EagerJob job lives → EagerWorld job lives w
     → PushedIn d (w.logs d.src.0) → PushedIn q (w.logs q.src.0) → (md : HasMessage i number d) → (mq : HasMessage i number q) → life d.dst md.to ≡ life q.dst mq.to → d ≡ q
 message_once job lives i w number d q fair plain p hd hq md mq to_is =
     let log = w.logs i.port.0 in
     let local = p.sound.local i.port.0 in
     let mine = of_life i.connid (deeds_at job i.port.0 log) in
-    let a = pushed_turn job i.port.0 i.connid md.to md.load d log local (pushed_there w.logs d i md.src_is hd) md.body_is in
-    let b = pushed_turn job i.port.0 i.connid mq.to mq.load q log local (pushed_there w.logs q i mq.src_is hq) mq.body_is in
+    let a = pushed_due job i.port.0 i.connid md.to md.load d log local (pushed_there w.logs d i md.src_is hd) md.body_is in
+    let b = pushed_due job i.port.0 i.connid mq.to mq.load q log local (pushed_there w.logs q i mq.src_is hq) mq.body_is in
     let x = pushed_rtm job i.port.0 i.connid (life d.dst md.to) md.load d log number md.tag md.opt md.form a.1 md.item_is in
     let y = pushed_rtm job i.port.0 i.connid (life q.dst mq.to) mq.load q log number mq.tag mq.opt mq.form b.1 mq.item_is in
-    let y' : RtmTurn (own_of job i) (life d.dst md.to) number b.1.place mine = subst (λ (l : Life). RtmTurn (own_of job i) l number b.1.place mine) (sym to_is) y in
+    let y' : RtmDue (own_of job i) (life d.dst md.to) number b.1.place mine = subst (λ (l : Life). RtmDue (own_of job i) l number b.1.place mine) (sym to_is) y in
     let same : a.1.place ≡ b.1.place = life_opens_once job lives i (life d.dst md.to) w number a.1.place b.1.place fair plain p x y' in
     placed_once job i.port.0 i.connid d q b.1.place log (subst (λ (k : ℕ). PlacedAt job i.port.0 i.connid d k log) same a.1.placed) b.1.placed
 
--- a plain datagram is for the one life of its port
-plain_to : (lives : ℕ → Connid) (first : ℕ) (d : Datagram) (body : Body) (from to : Connid) (load : Load) → IsPlainBody lives first d body → body ≡ Between from to load → to ≡ lives d.dst.0
-plain_to lives first d (Between f t (PacketLoad bytes)) from to load h is = (let same : t ≡ to = cc in sym same ∙ h.1)
-plain_to lives first d (Between f t (Ask a)) from to load h is = elim h [ ]
-plain_to lives first d (Between f t (Given g)) from to load h is = elim h [ ]
-plain_to lives first d (Note note) from to load h is = cc
+-- an eager datagram is for the one life of its port
+eager_to : (lives : ℕ → Connid) (first : ℕ) (d : Datagram) (body : Body) (from to : Connid) (load : Load) → IsEagerBody lives first d body → body ≡ Between from to load → to ≡ lives d.dst.0
+eager_to lives first d (Between f t (PacketLoad bytes)) from to load h is = (let same : t ≡ to = cc in sym same ∙ h.1)
+eager_to lives first d (Between f t (Ask a)) from to load h is = elim h [ ]
+eager_to lives first d (Between f t (Given g)) from to load h is = elim h [ ]
+eager_to lives first d (Note note) from to load h is = cc
 
--- plain datagrams for one port are for one life
+-- eager datagrams for one port are for one life
 one_dest : (lives : ℕ → Connid) (d q : Datagram) (a b : Connid) → d.dst.0 ≡ q.dst.0 → a ≡ lives d.dst.0 → b ≡ lives q.dst.0 → life d.dst a ≡ life q.dst b
 one_dest lives d q a b dst ha hb = ap (λ (p : PortNo). life p a) (port_is d.dst q.dst dst) ∙ ap (λ (c : Connid). life q.dst c) (ha ∙ ap lives dst ∙ sym hb)
 
@@ -181,8 +181,8 @@ same_number : (a b : MsgNo) → a.0 ≡ b.0 → a ≡ b
 same_number a b h = ap (λ (n : ℕ). let x : MsgNo = record { 0 = n } in x) h
 
 -- a message that waits for a port was not heard of by any life of the port
-pub waits_unheard : (job : Job) (lives : ℕ → Connid) (i : Life) (w : World) (port : ℕ) (c : Connid) (d : Datagram) (number : MsgNo) → IsTrue (is_fair law_ops job) → PlainJob job lives
-    → PlainWorld job lives w → Member d (waiting_in w port) → HasMessage i number d → is_heard (of_life c (deeds_at job port (w.logs port))) i number.0 ≡ false
+pub waits_unheard : (job : Job) (lives : ℕ → Connid) (i : Life) (w : World) (port : ℕ) (c : Connid) (d : Datagram) (number : MsgNo) → IsTrue (is_fair law_ops job) → EagerJob job lives
+    → EagerWorld job lives w → Member d (waiting_in w port) → HasMessage i number d → is_heard (of_life c (deeds_at job port (w.logs port))) i number.0 ≡ false
 unfolding is_heard
 waits_unheard job lives i w port c d number fair plain p m has =
     let mine = of_life c (deeds_at job port (w.logs port)) in
@@ -203,7 +203,7 @@ waits_unheard job lives i w port c d number fair plain p m has =
       form = t.form;
       item_is = k.2.item_is ∙ ap (λ (x : MsgNo). Spelled (Rtm x t.tag t.opt t.form)) (same_number t.number number t.number_is);
     } in
-    let to_q = plain_to lives first q q.body i.connid c k.2.load (handled_plain lives first q (w.logs port) (p.has.handled port) k.1) k.2.body_is in
-    let to_d = plain_to lives first d d.body i.connid has.to has.load (p.has.waiting port d m) has.body_is in
+    let to_q = eager_to lives first q q.body i.connid c k.2.load (handled_eager lives first q (w.logs port) (p.has.handled port) k.1) k.2.body_is in
+    let to_d = eager_to lives first d d.body i.connid has.to has.load (p.has.waiting port d m) has.body_is in
     let dest = one_dest lives q d c has.to (had.0 ∙ sym wait.for_it) to_q to_d in
     unhandled_other d q (w.logs port) wait.fresh k.1 (message_once job lives i w number q d fair plain p had.1 wait.pushed mq has dest))

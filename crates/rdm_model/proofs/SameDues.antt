@@ -3,7 +3,7 @@ use Rattle.std.proofs.Common.{◌≡◌, List, [], ◌∷◌, refl}
 use Rattle.rdm_model.specs.Deeds.{Deed, Pushed}
 use Rattle.rdm_model.specs.Owns.{Own, Messages}
 use Rattle.rdm_model.specs.Sends.{sends}
-use Rattle.rdm_model.specs.Turns.{Progress, after_push, after_deed, progress, turn, live_sends}
+use Rattle.rdm_model.specs.Dues.{Progress, after_push, after_deed, progress, due, live_sends}
 use Rattle.rdm_model.proofs.SameRegions.{Agree, agree_before, sends_same}
 use Rattle.rdm_model.proofs.SameReplies.{replies_by_same}
 
@@ -34,10 +34,10 @@ progress_same own ms ns (d ∷ before) a =
     let newest = after_deed_same own ms ns before d (after_push own ns before d (progress own ns before)) a in
     rw (earlier, pushed, newest) refl
 
--- the same turn is next
-pub turn_same : (own : Own) (ms ns : Messages) (log : List Deed) → Agree own.limits.first ms ns log → turn own ms log ≡ turn own ns log
-unfolding turn
-turn_same own ms ns log a = rw (sends_same own ms ns log a, progress_same own ms ns log a) refl
+-- the same due item is next
+pub due_same : (own : Own) (ms ns : Messages) (log : List Deed) → Agree own.limits.first ms ns log → due own ms log ≡ due own ns log
+unfolding due
+due_same own ms ns log a = rw (sends_same own ms ns log a, progress_same own ms ns log a) refl
 
 -- the same sends are live
 pub live_sends_same : (own : Own) (ms ns : Messages) (log : List Deed) → Agree own.limits.first ms ns log → live_sends own ms log ≡ live_sends own ns log

@@ -21,27 +21,27 @@ abbrev pub FitsOnePacket : Own → SendReq → Type 0
 FitsOnePacket own req = (raw : Bool) → nat_le req.len (eager_room (is_some req.tag) (is_some req.cq_data) raw own.limits) ≡ true
 
 -- an instruction that is built
-abbrev pub IsPlainInstr : Own → List Deed → Instr → Type 0
-IsPlainInstr own before (OpenLife connid) = ⊥
-IsPlainInstr own before (Insert life) = forgotten_by before (Did (Insert life)) ≡ []
-IsPlainInstr own before (Send req) = FitsOnePacket own req
-IsPlainInstr own before (Cancel recv) = is_some (find (is_recv recv.0) (matching own.limits.first (heads_by before) before).posted) ≡ true
-IsPlainInstr own before CloseLife = ⊥
-IsPlainInstr own before _ = Unit {0}
+abbrev pub IsEagerInstr : Own → List Deed → Instr → Type 0
+IsEagerInstr own before (OpenLife connid) = ⊥
+IsEagerInstr own before (Insert life) = forgotten_by before (Did (Insert life)) ≡ []
+IsEagerInstr own before (Send req) = FitsOnePacket own req
+IsEagerInstr own before (Cancel recv) = is_some (find (is_recv recv.0) (matching own.limits.first (heads_by before) before).posted) ≡ true
+IsEagerInstr own before CloseLife = ⊥
+IsEagerInstr own before _ = Unit {0}
 
 -- a message in one packet that was not heard of, or a handshake
-abbrev pub IsPlainItem : Own → List Deed → Life → Item → Type 0
-IsPlainItem own before from (Spelled (Rtm number tag opt (Eager bytes))) = (own.limits.first ≤ number.0) × (is_heard before from number.0 ≡ false)
-IsPlainItem own before from (Spelled (Handshake words connid)) = Unit {0}
-IsPlainItem own before from _ = ⊥
+abbrev pub IsEagerItem : Own → List Deed → Life → Item → Type 0
+IsEagerItem own before from (Spelled (Rtm number tag opt (Eager bytes))) = (own.limits.first ≤ number.0) × (is_heard before from number.0 ≡ false)
+IsEagerItem own before from (Spelled (Handshake words connid)) = Unit {0}
+IsEagerItem own before from _ = ⊥
 
 -- a deed that is built
-abbrev pub IsPlainDeed : Own → List Deed → Deed → Type 0
-IsPlainDeed own before (Did instr) = IsPlainInstr own before instr
-IsPlainDeed own before (Took from item) = IsPlainItem own before from item
-IsPlainDeed own before _ = Unit {0}
+abbrev pub IsEagerDeed : Own → List Deed → Deed → Type 0
+IsEagerDeed own before (Did instr) = IsEagerInstr own before instr
+IsEagerDeed own before (Took from item) = IsEagerItem own before from item
+IsEagerDeed own before _ = Unit {0}
 
 -- all deeds of a life are built
-abbrev pub IsPlain : Own → List Deed → Type 0
-IsPlain own [] = Unit {0}
-IsPlain own (d ∷ before) = IsPlain own before × IsPlainDeed own before d
+abbrev pub IsEager : Own → List Deed → Type 0
+IsEager own [] = Unit {0}
+IsEager own (d ∷ before) = IsEager own before × IsEagerDeed own before d

@@ -1,35 +1,35 @@
--- Each turn of a life went in a datagram that its port pushed, and what was pushed of a send were turns.
+-- Each due item of a life went in a datagram that its port pushed, and what was pushed of a send were due items.
 use Rattle.std.proofs.Common.{◌≡◌, ℕ, List, [], ◌∷◌, length, Some, refl, inl, inr, ◌∙◌, ap, subst}
 use Rattle.rdm_lists.specs.Lists.{Member}
 use Rattle.rdm_pkt.specs.declared.Packet.{Packet}
 use Rattle.rdm_model.specs.Deeds.{Deed}
 use Rattle.rdm_model.specs.Owns.{Own, Messages}
 use Rattle.rdm_model.specs.Sends.{Sent}
-use Rattle.rdm_model.specs.Turns.{Turn, Sends, progress}
+use Rattle.rdm_model.specs.Dues.{Due, Sends, progress}
 use Rattle.rdm_model.specs.Local.{heard_by}
 use Rattle.rdm_model.proofs.SameRegions.{Agree, agree_before}
-use Rattle.rdm_model.proofs.SameTurns.{turn_same}
+use Rattle.rdm_model.proofs.SameDues.{due_same}
 use Rattle.rdm_model.proofs.Grows.{agree_grows}
 use Rattle.rdm_model.proofs.Pushes.{pushed_of, pushed_step}
 use Rattle.rdm_model.proofs.Served.{PushedAt}
-use Rattle.rdm_law.proofs.Lives.Lives.{TurnedAt}
+use Rattle.rdm_law.proofs.Lives.Lives.{WasDueAt}
 use Rattle.rdm_lists.proofs.Members.{member-append_cases}
 
 -- a push by one account is one by another that agrees with it
-pushed_back : (own : Own) (ms ns : Messages) (t : Turn) (k : ℕ) (log : List Deed) → Agree own.limits.first ms ns log → PushedAt own ns t k log → PushedAt own ms t k log
+pushed_back : (own : Own) (ms ns : Messages) (t : Due) (k : ℕ) (log : List Deed) → Agree own.limits.first ms ns log → PushedAt own ns t k log → PushedAt own ms t k log
 pushed_back own ms ns t k [] g h = elim h [ ]
-pushed_back own ms ns t k (d ∷ before) g (inl a) = inl (a.0, turn_same own ms ns before (agree_before own.limits.first ms ns d before g) ∙ a.1, a.2)
+pushed_back own ms ns t k (d ∷ before) g (inl a) = inl (a.0, due_same own ms ns before (agree_before own.limits.first ms ns d before g) ∙ a.1, a.2)
 pushed_back own ms ns t k (d ∷ before) g (inr a) = inr (pushed_back own ms ns t k before (agree_before own.limits.first ms ns d before g) a)
 
--- a push by what a life heard in the end was a turn
-pub pushed_turned : (own : Own) (t : Turn) (k : ℕ) (log : List Deed) → PushedAt own (heard_by own.limits.first log) t k log → TurnedAt own t k log
-pushed_turned own t k [] h = elim h [ ]
-pushed_turned own t k (d ∷ before) (inl a) =
-    inl (a.0, turn_same own (heard_by own.limits.first before) (heard_by own.limits.first (d ∷ before)) before (agree_grows own.limits.first d before) ∙ a.1, a.2)
-pushed_turned own t k (d ∷ before) (inr a) =
-    inr (pushed_turned own t k before (pushed_back own (heard_by own.limits.first before) (heard_by own.limits.first (d ∷ before)) t k before (agree_grows own.limits.first d before) a))
+-- a push by what a life heard in the end was a due item
+pub pushed_was_due : (own : Own) (t : Due) (k : ℕ) (log : List Deed) → PushedAt own (heard_by own.limits.first log) t k log → WasDueAt own t k log
+pushed_was_due own t k [] h = elim h [ ]
+pushed_was_due own t k (d ∷ before) (inl a) =
+    inl (a.0, due_same own (heard_by own.limits.first before) (heard_by own.limits.first (d ∷ before)) before (agree_grows own.limits.first d before) ∙ a.1, a.2)
+pushed_was_due own t k (d ∷ before) (inr a) =
+    inr (pushed_was_due own t k before (pushed_back own (heard_by own.limits.first before) (heard_by own.limits.first (d ∷ before)) t k before (agree_grows own.limits.first d before) a))
 
--- a packet that was pushed of a send was a turn
+-- a packet that was pushed of a send was a due item
 pub record PacketPush (own : Own) (ms : Messages) (log : List Deed) (n : ℕ) (p : Packet) : Type 0 where
   pub sent : Sent
   pub number_is : sent.number ≡ n

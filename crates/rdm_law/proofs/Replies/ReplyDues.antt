@@ -13,7 +13,7 @@ use Rattle.rdm_model.specs.Owns.{Own, Messages}
 use Rattle.rdm_model.specs.Reads.{asked_by, asks_of}
 use Rattle.rdm_model.specs.Sends.{Sent, sends}
 use Rattle.rdm_model.specs.Replies.{Reply}
-use Rattle.rdm_model.specs.Turns.{Replies, progress}
+use Rattle.rdm_model.specs.Dues.{Replies, progress}
 use Rattle.rdm_model.specs.Scenes.{Scene}
 use Rattle.rdm_model.specs.Named.{live_send, is_good_ask, is_bad_key}
 use Rattle.rdm_model.specs.Local.{heard_by}
@@ -21,11 +21,11 @@ use Rattle.rdm_model.proofs.Rows.{overlaps_from}
 use Rattle.rdm_model.proofs.SameRegions.{Agree, agree_before, sends_same}
 use Rattle.rdm_model.proofs.SameReplies.{replies_by_same}
 use Rattle.rdm_model.proofs.Grows.{agree_grows}
-use Rattle.rdm_law.proofs.Lives.Lives.{LifeLocal, LifeStep, TurnedAt, life_scene}
+use Rattle.rdm_law.proofs.Lives.Lives.{LifeLocal, LifeStep, WasDueAt, life_scene}
 use Rattle.rdm_law.proofs.Classes.Classed.{taken_parts}
 use Rattle.rdm_law.proofs.Replies.Asks.{AsksShare}
 use Rattle.rdm_law.proofs.Replies.Queue.{owed, queue, Placed}
-use Rattle.rdm_law.proofs.Replies.Answered.{Answered, answered_owed, answered_once, turn_reply, waits_owed, waits_unanswered}
+use Rattle.rdm_law.proofs.Replies.Answered.{Answered, answered_owed, answered_once, due_reply, waits_owed, waits_unanswered}
 use Rattle.rdm_law.proofs.Replies.Owed.{OwedIn, owed_in}
 use Rattle.rdm_law.proofs.Replies.Clashes.{Clash}
 use Rattle.rdm_law.proofs.Replies.OwedOnce.{AsksApart, owed_unique}
@@ -65,18 +65,18 @@ answered_same own ms ns (d ∷ before) x k a (inl h) =
 answered_same own ms ns (d ∷ before) x k a (inr h) =
     inr (answered_same own ms ns before x k (agree_before own.limits.first ms ns d before a) h)
 
--- a reply whose turn was pushed stands at a place of all that is owed
-pub turned_answered : (own : Own) (r : Reply) (k : ℕ) (log : List Deed) → TurnedAt own (Replies r) k log
+-- a reply whose due item was pushed stands at a place of all that is owed
+pub was_due_answered : (own : Own) (r : Reply) (k : ℕ) (log : List Deed) → WasDueAt own (Replies r) k log
     → (x : Placed) × Answered own (heard_by own.limits.first log) x k log × (x.reply ≡ r)
-turned_answered own r k [] h = elim h [ ]
-turned_answered own r k (d ∷ before) (inl h) =
+was_due_answered own r k [] h = elim h [ ]
+was_due_answered own r k (d ∷ before) (inl h) =
     let first = own.limits.first in
-    let t = turn_reply own (heard_by first before) before r h.1 in
+    let t = due_reply own (heard_by first before) before r h.1 in
     let q = queue_same own (heard_by first before) (heard_by first (d ∷ before)) before (agree_grows first d before) in
     (t.0, inl (h.0, h.2, subst (λ (x : List Placed). slice_get x 0 ≡ Some t.0) q t.1), t.2)
-turned_answered own r k (d ∷ before) (inr h) =
+was_due_answered own r k (d ∷ before) (inr h) =
     let first = own.limits.first in
-    let o = turned_answered own r k before h in
+    let o = was_due_answered own r k before h in
     (o.0, inr (answered_same own (heard_by first before) (heard_by first (d ∷ before)) before o.0 k (agree_grows first d before) o.1), o.2)
 
 -- an ask that was taken of a send is one of its asks
@@ -120,20 +120,20 @@ asks_apart own [] l = tt
 asks_apart own (d ∷ before) l = (asks_apart own before l.0, step_apart own before d l.1)
 
 -- a reply that was pushed was owed
-pub turned_owed : (own : Own) (r : Reply) (k : ℕ) (log : List Deed) → TurnedAt own (Replies r) k log → OwedIn own (heard_by own.limits.first log) r log
-turned_owed own r k log h =
+pub was_due_owed : (own : Own) (r : Reply) (k : ℕ) (log : List Deed) → WasDueAt own (Replies r) k log → OwedIn own (heard_by own.limits.first log) r log
+was_due_owed own r k log h =
     let ms = heard_by own.limits.first log in
-    let a = turned_answered own r k log h in
+    let a = was_due_answered own r k log h in
     let m = slice_get-member (owed own ms log) a.0.place a.0.reply (answered_owed own ms log a.0 k a.1) in
     owed_in own ms log r (subst (λ (x : Reply). Member x (owed own ms log)) a.2 m)
 
 -- replies that clash and were pushed are one push
-pub reply_once : (own : Own) (r s : Reply) (k l : ℕ) (log : List Deed) → LifeLocal own log → TurnedAt own (Replies r) k log → TurnedAt own (Replies s) l log
+pub reply_once : (own : Own) (r s : Reply) (k l : ℕ) (log : List Deed) → LifeLocal own log → WasDueAt own (Replies r) k log → WasDueAt own (Replies s) l log
     → Clash r s → k ≡ l
 reply_once own r s k l log local h i c =
     let ms = heard_by own.limits.first log in
-    let a = turned_answered own r k log h in
-    let b = turned_answered own s l log i in
+    let a = was_due_answered own r k log h in
+    let b = was_due_answered own s l log i in
     let clash : Clash a.0.reply b.0.reply = subst (λ (x : Reply). Clash x b.0.reply) (sym a.2) (subst (λ (x : Reply). Clash r x) (sym b.2) c) in
     let e = owed_unique own ms log (asks_apart own log local) a.0.place b.0.place a.0.reply b.0.reply
     (answered_owed own ms log a.0 k a.1) (answered_owed own ms log b.0 l b.1) clash in
@@ -141,11 +141,11 @@ reply_once own r s k l log local h i c =
 
 -- a reply that waits clashes with none that was pushed
 pub waits_once : (own : Own) (r s : Reply) (l : ℕ) (log : List Deed) → LifeLocal own log → Member r (progress own (heard_by own.limits.first log) log).replies
-    → TurnedAt own (Replies s) l log → Clash r s → ⊥
+    → WasDueAt own (Replies s) l log → Clash r s → ⊥
 waits_once own r s l log local h i c =
     let ms = heard_by own.limits.first log in
     let a = waits_owed own ms log r h in
-    let b = turned_answered own s l log i in
+    let b = was_due_answered own s l log i in
     let clash : Clash r b.0.reply = subst (λ (x : Reply). Clash r x) (sym b.2) c in
     let e = owed_unique own ms log (asks_apart own log local) a.0.place b.0.place r b.0.reply a.3 (answered_owed own ms log b.0 l b.1) clash in
     waits_unanswered own ms log a.0 b.0 l a.1 b.1 e

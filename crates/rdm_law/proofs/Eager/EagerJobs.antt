@@ -4,7 +4,7 @@ use Rattle.rdm_num.specs.declared.request.SendReq.{SendReq}
 use Rattle.rdm_num.specs.declared.limits.EpLimits.{EpLimits}
 use Rattle.rdm_pkt.specs.Choice.{eager_room}
 use Rattle.rdm_law.proofs.Fits.Headers.{common_length, eager_room_is}
-use Rattle.rdm_law.proofs.Plain.PlainDeeds.{FitsOnePacket}
+use Rattle.rdm_law.proofs.Eager.EagerDeeds.{FitsOnePacket}
 
 -- headers are longest with a raw address
 raw_is_longest : (tagged cq_data raw : Bool) → common_length tagged cq_data raw ≤ common_length tagged cq_data true

@@ -1,4 +1,4 @@
--- What a turn is: a reply, or the next packet of a live send, which is its next opening or the next of its granted bytes.
+-- What a due item is: a reply, or the next packet of a live send, which is its next opening or the next of its granted bytes.
 use Rattle.std.proofs.Common.{◌≡◌, ℕ, ◌+◌, ◌-◌, ◌<◌, min, true, false, cond, List, [], ◌∷◌, ◌++◌, length, take, drop, Option, Some, None, refl, arith, ◌⊎◌, inl, inr, sym, ◌∙◌, ap, subst, append_assoc}
 use Rattle.std.specs.Prelude.{slice_get, nat_lt}
 use Rattle.std.proofs.lemmas.Bool.{ltb-true}
@@ -16,12 +16,12 @@ use Rattle.rdm_model.specs.Owns.{Own, Messages}
 use Rattle.rdm_model.specs.Sends.{Sent, sends}
 use Rattle.rdm_model.specs.Grants.{Grant, grants, grant_bytes, data_room}
 use Rattle.rdm_model.specs.Replies.{Reply}
-use Rattle.rdm_model.specs.Turns.{Progress, Turn, Replies, Sends, packet_piece, pieces_in, data_packet, granted_packet, next_packet, is_over, send_turn, next_send, reply_turn, next_turn, progress, turn}
+use Rattle.rdm_model.specs.Dues.{Progress, Due, Replies, Sends, packet_piece, pieces_in, data_packet, granted_packet, next_packet, is_over, send_due, next_send, reply_due, next_due, progress, due}
 use Rattle.rdm_model.proofs.Cuts.{Part, InRow, row_parts, row_append, front_part}
 use Rattle.rdm_model.proofs.Opens.{pieces_in-append, pieces_in_one, openings_in_row}
 
 -- a packet that is next of a live send
-pub record SendTurn (own : Own) (log : List Deed) (packets : ℕ → List Packet) (sents : List Sent) (t : Turn) : Type 0 where
+pub record SendDue (own : Own) (log : List Deed) (packets : ℕ → List Packet) (sents : List Sent) (t : Due) : Type 0 where
   pub sent : Sent
   pub member : Member sent sents
   pub packet : Packet
@@ -29,57 +29,57 @@ pub record SendTurn (own : Own) (log : List Deed) (packets : ℕ → List Packet
   pub live : is_over log (packets sent.number) sent ≡ false
   pub next : next_packet own log sent (packets sent.number) ≡ Some packet
 
--- the turn is of this send or of the others
-send_turn_cases : (s : Sent) (o : Option Packet) (others : Option Turn) (t : Turn) → send_turn s o others ≡ Some t
+-- the due item is of this send or of the others
+send_due_cases : (s : Sent) (o : Option Packet) (others : Option Due) (t : Due) → send_due s o others ≡ Some t
     → ((p : Packet) × (o ≡ Some p) × (t ≡ Sends s p)) ⊎ (others ≡ Some t)
-unfolding send_turn
-send_turn_cases s None others t h = inr h
-send_turn_cases s (Some p) others t h = inl (p, refl, cc)
+unfolding send_due
+send_due_cases s None others t h = inr h
+send_due_cases s (Some p) others t h = inl (p, refl, cc)
 
--- a turn of the other sends is one of all
-later_send : (own : Own) (log : List Deed) (packets : ℕ → List Packet) (s : Sent) (ss : List Sent) (t : Turn) → SendTurn own log packets ss t → SendTurn own log packets (s ∷ ss) t
+-- a due item of the other sends is one of all
+later_send : (own : Own) (log : List Deed) (packets : ℕ → List Packet) (s : Sent) (ss : List Sent) (t : Due) → SendDue own log packets ss t → SendDue own log packets (s ∷ ss) t
 later_send own log packets s ss t r =
     record { sent = r.sent; member = inr r.member; packet = r.packet; is = r.is; live = r.live; next = r.next }
 
--- the turn of the sends is a packet of one of them
-pub next_send_is : (own : Own) (log : List Deed) (packets : ℕ → List Packet) (sents : List Sent) (t : Turn) → next_send own log packets sents ≡ Some t
-    → SendTurn own log packets sents t
+-- the due item of the sends is a packet of one of them
+pub next_send_is : (own : Own) (log : List Deed) (packets : ℕ → List Packet) (sents : List Sent) (t : Due) → next_send own log packets sents ≡ Some t
+    → SendDue own log packets sents t
 unfolding next_send
 next_send_is own log packets [] t h = cc
 next_send_is own log packets (s ∷ ss) t h =
     (elim (is_over log (packets s.number) s) as (λ b. is_over log (packets s.number) s ≡ b
-    → cond b (next_send own log packets ss) (send_turn s (next_packet own log s (packets s.number)) (next_send own log packets ss)) ≡ Some t
-    → SendTurn own log packets (s ∷ ss) t) [
+    → cond b (next_send own log packets ss) (send_due s (next_packet own log s (packets s.number)) (next_send own log packets ss)) ≡ Some t
+    → SendDue own log packets (s ∷ ss) t) [
       | true ↦ λ is k. later_send own log packets s ss t (next_send_is own log packets ss t k)
-      | false ↦ λ is k. elim (send_turn_cases s (next_packet own log s (packets s.number)) (next_send own log packets ss) t k) [
+      | false ↦ λ is k. elim (send_due_cases s (next_packet own log s (packets s.number)) (next_send own log packets ss) t k) [
         | inl a ↦ record { sent = s; member = inl refl; packet = a.0; is = a.2; live = is; next = a.1 }
         | inr a ↦ later_send own log packets s ss t (next_send_is own log packets ss t a)
       ]
     ]) refl h
 
--- the turn is this reply, or of the sends
-reply_turn_cases : (o : Option Reply) (others : Option Turn) (t : Turn) → reply_turn o others ≡ Some t
+-- the due item is this reply, or of the sends
+reply_due_cases : (o : Option Reply) (others : Option Due) (t : Due) → reply_due o others ≡ Some t
     → ((r : Reply) × (o ≡ Some r) × (t ≡ Replies r)) ⊎ ((o ≡ None) × (others ≡ Some t))
-unfolding reply_turn
-reply_turn_cases None others t h = inr (refl, h)
-reply_turn_cases (Some r) others t h = inl (r, refl, cc)
+unfolding reply_due
+reply_due_cases None others t h = inr (refl, h)
+reply_due_cases (Some r) others t h = inl (r, refl, cc)
 
--- a turn is the first reply, or a packet of a live send where no reply is owed
-pub next_turn_cases : (own : Own) (log : List Deed) (sents : List Sent) (p : Progress) (t : Turn) → next_turn own log sents p ≡ Some t
-    → ((r : Reply) × (slice_get p.replies 0 ≡ Some r) × (t ≡ Replies r)) ⊎ ((slice_get p.replies 0 ≡ None) × SendTurn own log p.packets sents t)
-unfolding next_turn
-next_turn_cases own log sents p t h =
-    elim (reply_turn_cases (slice_get p.replies 0) (next_send own log p.packets sents) t h) [
+-- a due item is the first reply, or a packet of a live send where no reply is owed
+pub next_due_cases : (own : Own) (log : List Deed) (sents : List Sent) (p : Progress) (t : Due) → next_due own log sents p ≡ Some t
+    → ((r : Reply) × (slice_get p.replies 0 ≡ Some r) × (t ≡ Replies r)) ⊎ ((slice_get p.replies 0 ≡ None) × SendDue own log p.packets sents t)
+unfolding next_due
+next_due_cases own log sents p t h =
+    elim (reply_due_cases (slice_get p.replies 0) (next_send own log p.packets sents) t h) [
       | inl a ↦ inl a
       | inr a ↦ inr (a.0, next_send_is own log p.packets sents t a.1)
     ]
 
 -- what is next is the first reply, or a packet of a live send
-pub turn_cases : (own : Own) (ms : Messages) (log : List Deed) (t : Turn) → turn own ms log ≡ Some t
+pub due_cases : (own : Own) (ms : Messages) (log : List Deed) (t : Due) → due own ms log ≡ Some t
     → ((r : Reply) × (slice_get (progress own ms log).replies 0 ≡ Some r) × (t ≡ Replies r))
-    ⊎ ((slice_get (progress own ms log).replies 0 ≡ None) × SendTurn own log (progress own ms log).packets (sends own ms log) t)
-unfolding turn
-turn_cases own ms log t h = next_turn_cases own log (sends own ms log) (progress own ms log) t h
+    ⊎ ((slice_get (progress own ms log).replies 0 ≡ None) × SendDue own log (progress own ms log).packets (sends own ms log) t)
+unfolding due
+due_cases own ms log t h = next_due_cases own log (sends own ms log) (progress own ms log) t h
 
 -- the next granted bytes of a long send
 pub record GrantedNext (own : Own) (gs : List Grant) (s : Sent) (pushed : List Packet) (p : Packet) : Type 0 where

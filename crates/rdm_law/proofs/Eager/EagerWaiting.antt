@@ -1,4 +1,4 @@
--- What waits for a port of a plain world is built for the endpoint that is open there.
+-- What waits for a port of an eager world is built for the endpoint that is open there.
 use Rattle.std.proofs.Common.{◌≡◌, ℕ, false, List, ◌++◌, Option, Some, None, IsTrue, refl, sym, ap, subst}
 use Rattle.rdm_lists.specs.Lists.{Member}
 use Rattle.rdm_num.specs.Lives.{life}
@@ -24,18 +24,18 @@ use Rattle.rdm_model.specs.Scenes.{scene, deeds_at}
 use Rattle.rdm_model.specs.Local.{own_scene}
 use Rattle.rdm_model.specs.Worlds.{World, scene_in}
 use Rattle.rdm_law.proofs.Played.Sound.{waiting_in}
-use Rattle.rdm_law.proofs.Plain.PlainDeeds.{IsPlainPacket, IsPlainItem}
-use Rattle.rdm_law.proofs.Plain.PlainPorts.{PlainJob, IsPlainBody}
-use Rattle.rdm_law.proofs.Plain.PlainPlayed.{PlainWorld}
-use Rattle.rdm_law.proofs.Plain.MessageOnce.{HasMessage, waits_unheard}
+use Rattle.rdm_law.proofs.Eager.EagerDeeds.{IsEagerPacket, IsEagerItem}
+use Rattle.rdm_law.proofs.Eager.EagerPorts.{EagerJob, IsEagerBody}
+use Rattle.rdm_law.proofs.Eager.EagerPlayed.{EagerWorld}
+use Rattle.rdm_law.proofs.Eager.MessageOnce.{HasMessage, waits_unheard}
 
 -- a note, or an item that is built after those deeds
 abbrev pub IsBuiltBody : Own → List Deed → Datagram → Body → Type 0
 IsBuiltBody own log d (Note note) = Unit {0}
-IsBuiltBody own log d (Between from to load) = IsPlainItem own log (life d.src from) (item_of load)
+IsBuiltBody own log d (Between from to load) = IsEagerItem own log (life d.src from) (item_of load)
 
 -- what the open life of a port has not heard of
-open_unheard : (job : Job) (lives : ℕ → Connid) (i : Life) (w : World) (port : ℕ) (number : MsgNo) (d : Datagram) (o : Option Connid) → IsTrue (is_fair law_ops job) → PlainJob job lives → PlainWorld job lives w
+open_unheard : (job : Job) (lives : ℕ → Connid) (i : Life) (w : World) (port : ℕ) (number : MsgNo) (d : Datagram) (o : Option Connid) → IsTrue (is_fair law_ops job) → EagerJob job lives → EagerWorld job lives w
     → Member d (waiting_in w port) → HasMessage i number d → is_heard (of_open_life o (deeds_at job port (w.logs port))) i number.0 ≡ false
 unfolding of_open_life is_heard heard_head
 open_unheard job lives i w port number d None fair plain p m has = refl
@@ -56,10 +56,10 @@ has_message d from to bytes number tag opt form body packet = record {
   item_is = ap packet_item packet;
 }
 
--- a plain packet is built
+-- an eager packet is built
 packet_built : (job : Job) (lives : ℕ → Connid) (w : World) (port : ℕ) (d : Datagram) (from to : Connid) (bytes : List ℕ) (p : Packet) (o : Option Connid) → IsTrue (is_fair law_ops job)
-    → PlainJob job lives → PlainWorld job lives w → Member d (waiting_in w port) → d.body ≡ Between from to (PacketLoad bytes) → packet_in bytes ≡ Some p
-    → IsPlainPacket job.limits.first p → IsPlainItem (own_of job (life_at port o)) (of_open_life o (deeds_at job port (w.logs port))) (life d.src from) (Spelled p)
+    → EagerJob job lives → EagerWorld job lives w → Member d (waiting_in w port) → d.body ≡ Between from to (PacketLoad bytes) → packet_in bytes ≡ Some p
+    → IsEagerPacket job.limits.first p → IsEagerItem (own_of job (life_at port o)) (of_open_life o (deeds_at job port (w.logs port))) (life d.src from) (Spelled p)
 unfolding own_of
 packet_built job lives w port d from to bytes (Rtm number tag opt (Eager data')) o fair plain world m body packet h =
     (h, open_unheard job lives (life d.src from) w port number d o fair plain world m (has_message d from to bytes number tag opt (Eager data') body packet))
@@ -73,8 +73,8 @@ packet_built job lives w port d from to bytes (CtsData recv offset connid data')
 packet_built job lives w port d from to bytes (Eor send recv connid) o fair plain world m body packet h = h
 
 -- what waits is built
-body_built : (job : Job) (lives : ℕ → Connid) (w : World) (port : ℕ) (d : Datagram) (body : Body) (o : Option Connid) → IsTrue (is_fair law_ops job) → PlainJob job lives → PlainWorld job lives w
-    → Member d (waiting_in w port) → d.body ≡ body → IsPlainBody lives job.limits.first d body
+body_built : (job : Job) (lives : ℕ → Connid) (w : World) (port : ℕ) (d : Datagram) (body : Body) (o : Option Connid) → IsTrue (is_fair law_ops job) → EagerJob job lives → EagerWorld job lives w
+    → Member d (waiting_in w port) → d.body ≡ body → IsEagerBody lives job.limits.first d body
     → IsBuiltBody (own_of job (life_at port o)) (of_open_life o (deeds_at job port (w.logs port))) d body
 unfolding item_of packet_item
 body_built job lives w port d (Note note) o fair plain world m is h = tt
@@ -83,11 +83,11 @@ body_built job lives w port d (Between from to (Given g)) o fair plain world m i
 body_built job lives w port d (Between from to (PacketLoad bytes)) o fair plain world m is h =
     let own = own_of job (life_at port o) in
     let log = of_open_life o (deeds_at job port (w.logs port)) in
-    let P : Option Packet → Type 0 = λ x. IsPlainItem own log (life d.src from) (packet_item x) in
+    let P : Option Packet → Type 0 = λ x. IsEagerItem own log (life d.src from) (packet_item x) in
     subst P (sym h.2.1) (packet_built job lives w port d from to bytes h.2.0 o fair plain world m is h.2.1 h.2.2)
 
 -- each datagram in a queue or a stash is a note, or built for the open life of its port
-pub waiting_built : (job : Job) (lives : ℕ → Connid) (w : World) (port : ℕ) (d : Datagram) → IsTrue (is_fair law_ops job) → PlainJob job lives → PlainWorld job lives w
+pub waiting_built : (job : Job) (lives : ℕ → Connid) (w : World) (port : ℕ) (d : Datagram) → IsTrue (is_fair law_ops job) → EagerJob job lives → EagerWorld job lives w
     → Member d (w.stashes port ++ w.queues port) → IsBuiltBody (scene_in job w port).own (scene_in job w port).log d d.body
 unfolding scene_in own_scene scene
 waiting_built job lives w port d fair plain p m =

@@ -1,4 +1,4 @@
--- What goes out of a plain life: messages in one packet each, and handshakes, all to the one life of a port.
+-- What goes out of an eager life: messages in one packet each, and handshakes, all to the one life of a port.
 use Rattle.std.proofs.Common.{◌≡◌, ℕ, Bool, true, nat_le, ◌&&◌, List, [], ◌∷◌, length, is_some, unwrap_or, Option, Some, None, refl, inl, inr, sym, ◌∙◌, ap, subst}
 use Rattle.std.specs.Prelude.{◌==◌}
 use Rattle.rdm_lists.specs.Lists.{Member}
@@ -28,28 +28,28 @@ use Rattle.rdm_model.specs.Local.{heads_by}
 use Rattle.rdm_model.proofs.Numbers.{sends_keep}
 use Rattle.rdm_law.proofs.Replies.Owed.{NewReply, OwedIn, shape_in, recv_in}
 use Rattle.rdm_law.proofs.Fits.SentFits.{SentFits}
-use Rattle.rdm_law.proofs.Plain.PlainDeeds.{FitsOnePacket, IsPlainLoad, IsTheLife, IsPlainDeed, ArePlainDeeds, current_the}
+use Rattle.rdm_law.proofs.Eager.EagerDeeds.{FitsOnePacket, IsEagerLoad, IsTheLife, IsEagerDeed, AreEagerDeeds, current_the}
 use Rattle.rdm_lists.proofs.Options.{or_else_cases, then_some_parts}
 
--- a head that a plain packet tells is of one packet
-plain_head : (first : ℕ) (source : Life) (n : ℕ) (from : Life) (item : Item) (h : Head) → IsPlainLoad first item → head_by source n (Took from item) ≡ Some h → h.shape ≡ S.Eager
+-- a head that an eager packet tells is of one packet
+eager_head : (first : ℕ) (source : Life) (n : ℕ) (from : Life) (item : Item) (h : Head) → IsEagerLoad first item → head_by source n (Took from item) ≡ Some h → h.shape ≡ S.Eager
 unfolding head_by head_of shape_of
-plain_head first source n from (Spelled (Rtm number tag opt (F.Eager bytes))) h k is =
+eager_head first source n from (Spelled (Rtm number tag opt (F.Eager bytes))) h k is =
     sym (ap (λ (x : Head). x.shape) (then_some_parts (same_life from source && number.0 == n) (head_of tag opt (F.Eager bytes)) h is).1)
-plain_head first source n from (Spelled (Rtm number tag opt (F.Medium size offset bytes))) h k is = elim k [ ]
-plain_head first source n from (Spelled (Rtm number tag opt (F.LongCts size send credits bytes))) h k is = elim k [ ]
-plain_head first source n from (Spelled (Rtm number tag opt (F.LongRead size send iov))) h k is = elim k [ ]
-plain_head first source n from (Spelled (Rtm number tag opt (F.Runt size send iov runt offset bytes))) h k is = elim k [ ]
-plain_head first source n from _ h k is = cc
+eager_head first source n from (Spelled (Rtm number tag opt (F.Medium size offset bytes))) h k is = elim k [ ]
+eager_head first source n from (Spelled (Rtm number tag opt (F.LongCts size send credits bytes))) h k is = elim k [ ]
+eager_head first source n from (Spelled (Rtm number tag opt (F.LongRead size send iov))) h k is = elim k [ ]
+eager_head first source n from (Spelled (Rtm number tag opt (F.Runt size send iov runt offset bytes))) h k is = elim k [ ]
+eager_head first source n from _ h k is = cc
 
 -- so is one that a deed tells
-deed_head : (own : Own) (lives : ℕ → Connid) (source : Life) (n : ℕ) (d : Deed) (h : Head) → IsPlainDeed own.limits lives d → head_by source n d ≡ Some h → h.shape ≡ S.Eager
+deed_head : (own : Own) (lives : ℕ → Connid) (source : Life) (n : ℕ) (d : Deed) (h : Head) → IsEagerDeed own.limits lives d → head_by source n d ≡ Some h → h.shape ≡ S.Eager
 unfolding head_by
-deed_head own lives source n (Took from item) h k is = plain_head own.limits.first source n from item h k.1 is
+deed_head own lives source n (Took from item) h k is = eager_head own.limits.first source n from item h k.1 is
 deed_head own lives source n _ h k is = cc
 
 -- so is one that was heard
-heard_eager : (own : Own) (lives : ℕ → Connid) (source : Life) (n : ℕ) (log : List Deed) (h : Head) → ArePlainDeeds own.limits lives log → heard_head log source n ≡ Some h → h.shape ≡ S.Eager
+heard_eager : (own : Own) (lives : ℕ → Connid) (source : Life) (n : ℕ) (log : List Deed) (h : Head) → AreEagerDeeds own.limits lives log → heard_head log source n ≡ Some h → h.shape ≡ S.Eager
 unfolding heard_head
 heard_eager own lives source n [] h k is = cc
 heard_eager own lives source n (d ∷ before) h k is =
@@ -63,14 +63,14 @@ eager_or_none : (o : Option Head) → ((h : Head) → o ≡ Some h → h.shape �
 eager_or_none None f = refl
 eager_or_none (Some h) f = f h refl
 
--- each message that a plain life heard of goes in one packet
-pub all_eager : (own : Own) (lives : ℕ → Connid) (log : List Deed) → ArePlainDeeds own.limits lives log → (source : Life) (n : ℕ) → (heads_by log source n).shape ≡ S.Eager
+-- each message that an eager life heard of goes in one packet
+pub all_eager : (own : Own) (lives : ℕ → Connid) (log : List Deed) → AreEagerDeeds own.limits lives log → (source : Life) (n : ℕ) → (heads_by log source n).shape ≡ S.Eager
 unfolding heads_by
 all_eager own lives log k source n = eager_or_none (heard_head log source n) (λ h is. heard_eager own lives source n log h k is)
 
 -- what can be said of what goes out: to the one life of a port, a message in one packet, or a handshake
-abbrev pub IsPlainGoing : Own → (lives : ℕ → Connid) → (to : Life) → Item → Type 0
-IsPlainGoing own lives to item = IsTheLife lives to × IsPlainLoad own.limits.first item
+abbrev pub IsEagerGoing : Own → (lives : ℕ → Connid) → (to : Life) → Item → Type 0
+IsEagerGoing own lives to item = IsTheLife lives to × IsEagerLoad own.limits.first item
 
 -- a whole message owes no ask
 no_ask : (shape : Shape) (recv : OpId) (ask : ReadAsk) → shape ≡ S.Eager → Member ask (asks_for shape recv) → ⊥
@@ -94,53 +94,53 @@ no_end own (S.Runt s iov runt) recv send is h = cc
 no_long : (send : OpId) (credits : ℕ) → S.Eager ≡ S.LongCts send credits → ⊥
 no_long send credits h = cc
 
--- what a plain life owes is a handshake
-plain_reply : (own : Own) (lives : ℕ → Connid) (heads : Heads) (sents : List Sent) (d : Deed) (before : List Deed) (r : Reply) → ((source : Life) (n : ℕ) → (heads source n).shape ≡ S.Eager)
-    → IsPlainDeed own.limits lives d → NewReply own heads sents d before r → IsPlainGoing own lives r.to r.item
-plain_reply own lives heads sents d before r eager k (inl new) =
-    let took : IsPlainDeed own.limits lives (Took r.to new.item) = subst (IsPlainDeed own.limits lives) new.took k in
-    let P : Item → Type 0 = λ x. IsPlainLoad own.limits.first x in
+-- what an eager life owes is a handshake
+eager_reply : (own : Own) (lives : ℕ → Connid) (heads : Heads) (sents : List Sent) (d : Deed) (before : List Deed) (r : Reply) → ((source : Life) (n : ℕ) → (heads source n).shape ≡ S.Eager)
+    → IsEagerDeed own.limits lives d → NewReply own heads sents d before r → IsEagerGoing own lives r.to r.item
+eager_reply own lives heads sents d before r eager k (inl new) =
+    let took : IsEagerDeed own.limits lives (Took r.to new.item) = subst (IsEagerDeed own.limits lives) new.took k in
+    let P : Item → Type 0 = λ x. IsEagerLoad own.limits.first x in
     (took.0, subst P (sym new.is) tt)
-plain_reply own lives heads sents d before r eager k (inr (inl new)) =
+eager_reply own lives heads sents d before r eager k (inr (inl new)) =
     absurd (no_ask (shape_in heads new.pair) (recv_in new.pair) new.ask (eager new.pair.message.life new.pair.message.no.0) new.of)
-plain_reply own lives heads sents d before r eager k (inr (inr (inl new))) =
+eager_reply own lives heads sents d before r eager k (inr (inr (inl new))) =
     absurd (no_long new.send new.credits (sym (eager new.pair.message.life new.pair.message.no.0) ∙ new.shape_is))
-plain_reply own lives heads sents d before r eager k (inr (inr (inr (inl new)))) =
+eager_reply own lives heads sents d before r eager k (inr (inr (inr (inl new)))) =
     absurd (no_end own (shape_in heads new.pair) (recv_in new.pair) new.send (eager new.pair.message.life new.pair.message.no.0) new.shape_is)
-plain_reply own lives heads sents d before r eager k (inr (inr (inr (inr new)))) =
-    let took : IsPlainDeed own.limits lives (Took r.to (Asks new.ask)) = subst (IsPlainDeed own.limits lives) new.took k in
+eager_reply own lives heads sents d before r eager k (inr (inr (inr (inr new)))) =
+    let took : IsEagerDeed own.limits lives (Took r.to (Asks new.ask)) = subst (IsEagerDeed own.limits lives) new.took k in
     elim took.1 [ ]
 
 -- each reply that was owed is a handshake
-pub plain_owed : (own : Own) (lives : ℕ → Connid) (ms : Messages) (log : List Deed) (r : Reply) → ((source : Life) (n : ℕ) → (ms.head source n).shape ≡ S.Eager) → ArePlainDeeds own.limits lives log
-    → OwedIn own ms r log → IsPlainGoing own lives r.to r.item
-plain_owed own lives ms [] r eager k i = elim i [ ]
-plain_owed own lives ms (d ∷ before) r eager k (inl new) = plain_reply own lives ms.head (sends own ms before) d before r eager k.1 new
-plain_owed own lives ms (d ∷ before) r eager k (inr i) = plain_owed own lives ms before r eager k.0 i
+pub eager_owed : (own : Own) (lives : ℕ → Connid) (ms : Messages) (log : List Deed) (r : Reply) → ((source : Life) (n : ℕ) → (ms.head source n).shape ≡ S.Eager) → AreEagerDeeds own.limits lives log
+    → OwedIn own ms r log → IsEagerGoing own lives r.to r.item
+eager_owed own lives ms [] r eager k i = elim i [ ]
+eager_owed own lives ms (d ∷ before) r eager k (inl new) = eager_reply own lives ms.head (sends own ms before) d before r eager k.1 new
+eager_owed own lives ms (d ∷ before) r eager k (inr i) = eager_owed own lives ms before r eager k.0 i
 
--- a send of a plain life: to the one life of a port, and with room in one packet
-pub record PlainSent (own : Own) (lives : ℕ → Connid) (s : Sent) : Type 0 where
+-- a send of an eager life: to the one life of a port, and with room in one packet
+pub record EagerSent (own : Own) (lives : ℕ → Connid) (s : Sent) : Type 0 where
   pub to : IsTheLife lives s.to
   pub fits : FitsOnePacket own.limits s.req
 
--- a new send of such a request is plain
-new_plain : (own : Own) (lives : ℕ → Connid) (before : List Deed) (count messages : ℕ) (req : SendReq) (to : Life) (bytes : List ℕ) → IsTheLife lives to → FitsOnePacket own.limits req
-    → PlainSent own lives (new_sent own before count messages req to bytes)
+-- a new send of such a request is eager
+new_eager : (own : Own) (lives : ℕ → Connid) (before : List Deed) (count messages : ℕ) (req : SendReq) (to : Life) (bytes : List ℕ) → IsTheLife lives to → FitsOnePacket own.limits req
+    → EagerSent own lives (new_sent own before count messages req to bytes)
 unfolding new_sent
-new_plain own lives before count messages req to bytes is fits = record { to = is; fits = fits }
+new_eager own lives before count messages req to bytes is fits = record { to = is; fits = fits }
 
--- each send of a plain life is plain
-pub plain_sends : (own : Own) (lives : ℕ → Connid) (ms : Messages) (log : List Deed) → ArePlainDeeds own.limits lives log → (s : Sent) → Member s (sends own ms log) → PlainSent own lives s
+-- each send of an eager life is eager
+pub eager_sends : (own : Own) (lives : ℕ → Connid) (ms : Messages) (log : List Deed) → AreEagerDeeds own.limits lives log → (s : Sent) → Member s (sends own ms log) → EagerSent own lives s
 unfolding sends
-plain_sends own lives ms [] k s m = elim m [ ]
-plain_sends own lives ms (d ∷ before) k s m =
-    sends_keep own ms d before (λ xs x. PlainSent own lives x)
-    (λ x old. plain_sends own lives ms before k.0 x old)
+eager_sends own lives ms [] k s m = elim m [ ]
+eager_sends own lives ms (d ∷ before) k s m =
+    sends_keep own ms d before (λ xs x. EagerSent own lives x)
+    (λ x old. eager_sends own lives ms before k.0 x old)
     (λ x t old n was. was)
     (λ t n.
-    let did : IsPlainDeed own.limits lives (Did (Send n.req)) = subst (IsPlainDeed own.limits lives) n.by k.1 in
-    subst (PlainSent own lives) (sym n.is)
-    (new_plain own lives before (length (sends own ms before)) (length (sends_to (sends own ms before) n.to)) n.req n.to
+    let did : IsEagerDeed own.limits lives (Did (Send n.req)) = subst (IsEagerDeed own.limits lives) n.by k.1 in
+    subst (EagerSent own lives) (sym n.is)
+    (new_eager own lives before (length (sends own ms before)) (length (sends_to (sends own ms before) n.to)) n.req n.to
     (range_of (regions own.limits.first ms before) n.req.region.0 n.req.at n.req.len)
     (current_the own.limits lives n.req.to.0 before n.to k.0 n.current) did))
     s m
@@ -152,7 +152,7 @@ unfolding choose
 eager_chosen n tagged cq_data raw features known limits h = rw h refl
 
 -- its message goes in one packet
-pub plain_kind : (own : Own) (lives : ℕ → Connid) (s : Sent) → PlainSent own lives s → SentFits own s → s.kind ≡ Eager
-plain_kind own lives s p f =
+pub eager_kind : (own : Own) (lives : ℕ → Connid) (s : Sent) → EagerSent own lives s → SentFits own s → s.kind ≡ Eager
+eager_kind own lives s p f =
     f.kind_is ∙ eager_chosen (length s.message.bytes) (is_some s.req.tag) (is_some s.req.cq_data) f.raw own.features f.known own.limits
     (subst (λ (n : ℕ). nat_le n (eager_room (is_some s.req.tag) (is_some s.req.cq_data) f.raw own.limits) ≡ true) (sym f.size) (p.fits f.raw))

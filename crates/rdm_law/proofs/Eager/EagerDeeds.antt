@@ -1,4 +1,4 @@
--- Deeds of plain lives: each port has one life alone, and what goes between them is messages in one packet each, and handshakes.
+-- Deeds of eager lives: each port has one life alone, and what goes between them is messages in one packet each, and handshakes.
 use Rattle.std.proofs.Common.{◌≡◌, ◌≤◌, ℕ, Bool, true, false, nat_le, List, [], ◌∷◌, is_some, Some, inl, inr, subst}
 use Rattle.rdm_num.specs.declared.limits.EpLimits.{EpLimits}
 use Rattle.rdm_num.specs.declared.numbers.Connid.{Connid}
@@ -21,67 +21,67 @@ abbrev pub FitsOnePacket : EpLimits → SendReq → Type 0
 FitsOnePacket limits req = (raw : Bool) → nat_le req.len (eager_room (is_some req.tag) (is_some req.cq_data) raw limits) ≡ true
 
 -- a message in one packet that was not heard of, or a handshake
-abbrev pub IsPlainItem : Own → List Deed → Life → Item → Type 0
-IsPlainItem own before from (Spelled (Rtm number tag opt (Eager bytes))) = (own.limits.first ≤ number.0) × (is_heard before from number.0 ≡ false)
-IsPlainItem own before from (Spelled (Handshake words connid)) = Unit {0}
-IsPlainItem own before from _ = ⊥
+abbrev pub IsEagerItem : Own → List Deed → Life → Item → Type 0
+IsEagerItem own before from (Spelled (Rtm number tag opt (Eager bytes))) = (own.limits.first ≤ number.0) × (is_heard before from number.0 ≡ false)
+IsEagerItem own before from (Spelled (Handshake words connid)) = Unit {0}
+IsEagerItem own before from _ = ⊥
 
 -- a message of a life in one packet, or a handshake
-abbrev pub IsPlainPacket : (first : ℕ) → Packet → Type 0
-IsPlainPacket first (Rtm number tag opt (Eager bytes)) = first ≤ number.0
-IsPlainPacket first (Handshake words connid) = Unit {0}
-IsPlainPacket first _ = ⊥
+abbrev pub IsEagerPacket : (first : ℕ) → Packet → Type 0
+IsEagerPacket first (Rtm number tag opt (Eager bytes)) = first ≤ number.0
+IsEagerPacket first (Handshake words connid) = Unit {0}
+IsEagerPacket first _ = ⊥
 
 -- so of what a datagram is read as
-abbrev pub IsPlainLoad : (first : ℕ) → Item → Type 0
-IsPlainLoad first (Spelled p) = IsPlainPacket first p
-IsPlainLoad first _ = ⊥
+abbrev pub IsEagerLoad : (first : ℕ) → Item → Type 0
+IsEagerLoad first (Spelled p) = IsEagerPacket first p
+IsEagerLoad first _ = ⊥
 
 -- the life is the one that its port opens
 abbrev pub IsTheLife : (lives : ℕ → Connid) → Life → Type 0
 IsTheLife lives l = l.connid ≡ lives l.port.0
 
 -- an instruction of a program opens the one life of its port, and sends what has room in one packet
-abbrev pub IsPlainOp : EpLimits → Connid → Instr → Type 0
-IsPlainOp limits connid (OpenLife c) = c ≡ connid
-IsPlainOp limits connid (Send req) = FitsOnePacket limits req
-IsPlainOp limits connid _ = Unit {0}
+abbrev pub IsEagerOp : EpLimits → Connid → Instr → Type 0
+IsEagerOp limits connid (OpenLife c) = c ≡ connid
+IsEagerOp limits connid (Send req) = FitsOnePacket limits req
+IsEagerOp limits connid _ = Unit {0}
 
 -- an instruction that did names the one life of a port, and sends what has room in one packet
-abbrev pub IsPlainDid : EpLimits → (lives : ℕ → Connid) → Instr → Type 0
-IsPlainDid limits lives (Insert life) = IsTheLife lives life
-IsPlainDid limits lives (Send req) = FitsOnePacket limits req
-IsPlainDid limits lives _ = Unit {0}
+abbrev pub IsEagerDid : EpLimits → (lives : ℕ → Connid) → Instr → Type 0
+IsEagerDid limits lives (Insert life) = IsTheLife lives life
+IsEagerDid limits lives (Send req) = FitsOnePacket limits req
+IsEagerDid limits lives _ = Unit {0}
 
--- a deed has to do with the one life of a port, by plain instructions and packets
-abbrev pub IsPlainDeed : EpLimits → (lives : ℕ → Connid) → Deed → Type 0
-IsPlainDeed limits lives (Did instr) = IsPlainDid limits lives instr
-IsPlainDeed limits lives (Took from item) = IsTheLife lives from × IsPlainLoad limits.first item
-IsPlainDeed limits lives PushedNote = Unit {0}
-IsPlainDeed limits lives Pushed = Unit {0}
-IsPlainDeed limits lives (TookNote from note) = Unit {0}
-IsPlainDeed limits lives Polled = Unit {0}
-IsPlainDeed limits lives Nothing = Unit {0}
+-- a deed has to do with the one life of a port, by eager instructions and packets
+abbrev pub IsEagerDeed : EpLimits → (lives : ℕ → Connid) → Deed → Type 0
+IsEagerDeed limits lives (Did instr) = IsEagerDid limits lives instr
+IsEagerDeed limits lives (Took from item) = IsTheLife lives from × IsEagerLoad limits.first item
+IsEagerDeed limits lives PushedNote = Unit {0}
+IsEagerDeed limits lives Pushed = Unit {0}
+IsEagerDeed limits lives (TookNote from note) = Unit {0}
+IsEagerDeed limits lives Polled = Unit {0}
+IsEagerDeed limits lives Nothing = Unit {0}
 
 -- all deeds of a life have
-abbrev pub ArePlainDeeds : EpLimits → (lives : ℕ → Connid) → List Deed → Type 0
-ArePlainDeeds limits lives [] = Unit {0}
-ArePlainDeeds limits lives (d ∷ before) = ArePlainDeeds limits lives before × IsPlainDeed limits lives d
+abbrev pub AreEagerDeeds : EpLimits → (lives : ℕ → Connid) → List Deed → Type 0
+AreEagerDeeds limits lives [] = Unit {0}
+AreEagerDeeds limits lives (d ∷ before) = AreEagerDeeds limits lives before × IsEagerDeed limits lives d
 
 -- what a deed inserts is the one life of its port
-inserted_the : (limits : EpLimits) (lives : ℕ → Connid) (port : ℕ) (d : Deed) (l : Life) → IsPlainDeed limits lives d → inserted_by port d ≡ Some l → IsTheLife lives l
+inserted_the : (limits : EpLimits) (lives : ℕ → Connid) (port : ℕ) (d : Deed) (l : Life) → IsEagerDeed limits lives d → inserted_by port d ≡ Some l → IsTheLife lives l
 unfolding inserted_by
 inserted_the limits lives port (Did (Insert life)) l h is = subst (IsTheLife lives) (then_some_parts _ life l is).1 h
 inserted_the limits lives port _ l h is = cc
 
 -- so is what a deed takes from
-seen_the : (limits : EpLimits) (lives : ℕ → Connid) (port : ℕ) (d : Deed) (l : Life) → IsPlainDeed limits lives d → seen_by port d ≡ Some l → IsTheLife lives l
+seen_the : (limits : EpLimits) (lives : ℕ → Connid) (port : ℕ) (d : Deed) (l : Life) → IsEagerDeed limits lives d → seen_by port d ≡ Some l → IsTheLife lives l
 unfolding seen_by
 seen_the limits lives port (Took from item) l h is = subst (IsTheLife lives) (then_some_parts _ from l is).1 h.0
 seen_the limits lives port _ l h is = cc
 
 -- so is what was inserted last
-last_inserted_the : (limits : EpLimits) (lives : ℕ → Connid) (port : ℕ) (log : List Deed) (l : Life) → ArePlainDeeds limits lives log
+last_inserted_the : (limits : EpLimits) (lives : ℕ → Connid) (port : ℕ) (log : List Deed) (l : Life) → AreEagerDeeds limits lives log
     → last_inserted log port ≡ Some l → IsTheLife lives l
 unfolding last_inserted
 last_inserted_the limits lives port [] l h is = cc
@@ -92,7 +92,7 @@ last_inserted_the limits lives port (d ∷ before) l h is =
     ]
 
 -- so is what was taken from first
-first_seen_the : (limits : EpLimits) (lives : ℕ → Connid) (port : ℕ) (log : List Deed) (l : Life) → ArePlainDeeds limits lives log
+first_seen_the : (limits : EpLimits) (lives : ℕ → Connid) (port : ℕ) (log : List Deed) (l : Life) → AreEagerDeeds limits lives log
     → first_seen log port ≡ Some l → IsTheLife lives l
 unfolding first_seen
 first_seen_the limits lives port [] l h is = cc
@@ -103,7 +103,7 @@ first_seen_the limits lives port (d ∷ before) l h is =
     ]
 
 -- so is the current life of any port
-pub current_the : (limits : EpLimits) (lives : ℕ → Connid) (port : ℕ) (log : List Deed) (l : Life) → ArePlainDeeds limits lives log
+pub current_the : (limits : EpLimits) (lives : ℕ → Connid) (port : ℕ) (log : List Deed) (l : Life) → AreEagerDeeds limits lives log
     → current log port ≡ Some l → IsTheLife lives l
 unfolding current
 current_the limits lives port log l h is =
