@@ -21,3 +21,6 @@ pub mod Counted
 pub mod HandledApart
 pub mod MovedOnce
 pub mod PlaysRight
+pub mod JointWorlds
+pub mod Came
+pub mod Stopped
