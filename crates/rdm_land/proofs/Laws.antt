@@ -77,7 +77,7 @@ unlend_undoes_lend l off len part may is =
     let missing = set_back off len l.missing may.0 in
     let lent = without-with_span (span off len) l.lent some in
     let count : (t.out + 1) - 1 ≡ t.out = omega arith in
-    λ i. record { tiles = record { block = t.block; whole = t.whole; start = t.start; cells = cells i; out = count i }; missing = missing i; lent = lent i }
+    λ i. record { tiles = record { block = t.block; whole = t.whole; start = t.start; cells = cells i; out = count i }; missing = missing i; lent = lent i; room = l.room }
 
 pub land_is_unlend_and_place : LandIsUnlendAndPlace
 land_is_unlend_and_place l off bytes part is taken kept =
@@ -89,7 +89,7 @@ land_is_unlend_and_place l off bytes part is taken kept =
     let size : length lands ≡ length t.cells = length_landed in
     let again : laid off (map Some (take (length lands - off) bytes)) lands ≡ lands =
     ap (λ n. laid off (map Some (take (n - off) bytes)) lands) size ∙ ap (λ x. laid off (map Some x) lands) (sym kept) ∙ ap (λ k. laid off xs (laid k xs t.cells)) at ∙ landed_twice ∙ ap (λ k. laid k xs t.cells) (sym at) in
-    λ i. record { tiles = record { block = t.block; whole = t.whole; start = t.start; cells = sym again i; out = t.out - 1 }; missing = sym (set_again off (length bytes) l.missing taken) i; lent = without_span (span off (length bytes)) l.lent }
+    λ i. record { tiles = record { block = t.block; whole = t.whole; start = t.start; cells = sym again i; out = t.out - 1 }; missing = sym (set_again off (length bytes) l.missing taken) i; lent = without_span (span off (length bytes)) l.lent; room = l.room }
   where
     empty : length l.tiles.cells < off → map Some part.bytes ≡ []
     empty lt = ap (map Some) (nil_from_length part.bytes (omega (arith, is.3)))
