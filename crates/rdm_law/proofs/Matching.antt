@@ -9,3 +9,4 @@ pub mod MatchedOnce
 pub mod MatcherSizes
 pub mod Enters
 pub mod EntersInOrder
+pub mod ComesAsSent

@@ -3,3 +3,4 @@ pub mod StandsStill
 pub mod DroppedOnly
 pub mod OwesNothing
 pub mod AgainFull
+pub mod Counted

@@ -6,7 +6,8 @@ use Rattle.rdm_model.specs.Deeds.{log_of}
 use Rattle.rdm_model.specs.Jobs.{is_fair, law_ops}
 use Rattle.rdm_model.specs.Local.{Local}
 use Rattle.rdm_model.specs.Lawful.{Lawful}
-use Rattle.rdm_law.specs.Headline.{EnterInOrder, MatchedOnce, PolledWasSent}
+use Rattle.rdm_law.specs.Matched.{EnterInOrder, MatchedOnce}
+use Rattle.rdm_law.specs.Polled.{PolledWasSent}
 
 -- Each sender's messages come to a matcher in the order of their sending, with none left out.
 abbrev pub EnterInOrderAlways : Type 0

@@ -32,7 +32,7 @@ pub record Plays (left rest : Option (List ℕ)) (report : Report) : Type 0 wher
   pub is_job : job_in bytes ≡ Ok job
   pub played : IsPlayed job report
   pub right : RightReport job report
-  pub says : SaysRight job report.history
+  pub says : SaysRight job report
 
 -- a part of the text was given that is not the whole
 abbrev pub GavePart : Option (List ℕ) → Option (List ℕ) → List ℕ → Type 0

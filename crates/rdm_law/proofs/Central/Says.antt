@@ -1,23 +1,40 @@
 -- What a right report of a fair job says.
-use Rattle.std.proofs.Common.{List, [], ◌∷◌}
+use Rattle.std.proofs.Common.{◌≡◌, List, [], ◌∷◌, ap}
 use Rattle.std.specs.Prelude.{IsTrue}
+use Rattle.rdm_num.specs.declared.numbers.Life.{Life}
+use Rattle.rdm_match.specs.Matcher.{Matching}
 use Rattle.rdm_model.specs.declared.job.Job.{Job}
 use Rattle.rdm_model.specs.declared.entry.Entry.{Entry}
 use Rattle.rdm_model.specs.Jobs.{is_fair, law_ops}
-use Rattle.rdm_model.specs.Lawful.{Lawful}
+use Rattle.rdm_model.specs.Lawful.{Lawful, life_deeds, sent_to}
+use Rattle.rdm_model.specs.Standing.{pairs_in}
 use Rattle.rdm_model.specs.Wire.{Wire}
 use Rattle.rdm_law.specs.Law.{Completes}
+use Rattle.rdm_law.specs.Matched.{merge_in, plain_pairs, MatchesPlainly}
 use Rattle.rdm_law.specs.Headline.{Headline}
 use Rattle.rdm_law.proofs.Classes.ClassLives.{AllFree}
-use Rattle.rdm_law.proofs.Central.LawfulPlayed.{lawful_order}
+use Rattle.rdm_law.proofs.Central.LawfulPlayed.{lawful_order, lawful_played}
 use Rattle.rdm_law.proofs.Matching.MatchedOnce.{matched_once}
-use Rattle.rdm_law.proofs.Matching.EntersInOrder.{enter_in_order}
-use Rattle.rdm_law.proofs.Ends.PolledWas.{polled_was_sent}
+use Rattle.rdm_law.proofs.Matching.Merges.{runs_merge}
+use Rattle.rdm_law.proofs.Matching.ComesAsSent.{comes_as_sent}
+use Rattle.rdm_law.proofs.Accounts.SendsAre.{sends_are}
+use Rattle.rdm_law.proofs.Refusals.Counted.{drops_are_other, counts_drops, again_where_full}
 
 -- the wire of a lawful history delivers once
 pub lawful_wire : (job : Job) (history : List Entry) → Lawful job history → Wire history
 lawful_wire job [] l = tt
 lawful_wire job (e ∷ before) l = (lawful_wire job before l.0, l.2)
+
+-- the pairs of a life are the plain matcher's
+plainly_paired : (job : Job) (history : List Entry) (i : Life) → pairs_in job history i ≡ plain_pairs job history i
+unfolding pairs_in plain_pairs merge_in
+plainly_paired job history i = ap (λ (m : Matching). m.pairs) (runs_merge job.limits.first (sent_to job history i).head (life_deeds job history i))
+
+-- the plain matcher makes the pairs, of what was sent
+matches_plainly : (job : Job) (history : List Entry) → IsTrue (is_fair law_ops job) → AllFree job → Lawful job history → MatchesPlainly job history
+matches_plainly job history fair free lawful =
+    let played = lawful_played job history fair free lawful in
+    record { pairs_are = plainly_paired job history; come = comes_as_sent job history played (sends_are job history played); once = matched_once job history }
 
 -- the headline, where what settles is complete and what arrives passes each test
 pub headline_where : ((job : Job) → IsTrue (is_fair law_ops job) → AllFree job) → Completes → Headline
@@ -25,8 +42,9 @@ headline_where free completes job report fair right =
     record {
       in_order = lawful_order job report.history right.lawful;
       wire = lawful_wire job report.history right.lawful;
-      enter = enter_in_order job report.history;
-      once = matched_once job report.history;
-      polled = polled_was_sent job report.history fair (free job fair) right.lawful;
+      matched = matches_plainly job report.history fair (free job fair) right.lawful;
+      drops = drops_are_other job report.history fair right.lawful;
+      counted = counts_drops job report right;
+      again = again_where_full job report right;
       ends = completes job report.history fair right.lawful right.settled;
     }

@@ -32,7 +32,7 @@ use Rattle.rdm_model.specs.Steps.{Does}
 use Rattle.rdm_model.specs.Lawful.{port_deeds, life_deeds, deed_for, sends_in, sent_to, sent_scene, Lawful}
 use Rattle.rdm_model.proofs.Matches.{pair_still}
 use Rattle.rdm_model.proofs.SameMatches.{pairs_same}
-use Rattle.rdm_law.specs.Headline.{TookOf, PolledWasSent}
+use Rattle.rdm_law.specs.Polled.{TookOf, PolledWasSent}
 use Rattle.rdm_law.proofs.Lives.Lives.{life_of}
 use Rattle.rdm_law.proofs.Accounts.Wired.{Played}
 use Rattle.rdm_law.proofs.Accounts.Known.{account}

@@ -19,7 +19,7 @@ use Rattle.rdm_model.specs.Currents.{forgotten_by}
 use Rattle.rdm_model.specs.Heard.{head_by, heard_head, is_heard, entering}
 use Rattle.rdm_model.specs.Matches.{arrival, events_by, merge}
 use Rattle.rdm_model.specs.Lawful.{life_deeds, sent_to}
-use Rattle.rdm_law.specs.Headline.{numbers_from, numbers_in, EnterInOrder}
+use Rattle.rdm_law.specs.Matched.{numbers_from, numbers_in, EnterInOrder}
 use Rattle.rdm_law.proofs.Matching.Enters.{Reach, reach, entering_joins}
 use Rattle.rdm_lists.proofs.Below.{length-below}
 use Rattle.rdm_num.proofs.Lives.{same_life-true, same_life-refl}
@@ -120,7 +120,7 @@ enters first heads (Did (Insert life')) before source r s =
 enters first heads d before source r s = enters_none first d before source r s (λ item h. cc)
 
 -- the numbers of a life that came to a matcher are in a row from the first one on
-merged : (first : ℕ) (heads : Heads) (log : List Deed) (source : Life) (r : Reach first log source)
+pub merged : (first : ℕ) (heads : Heads) (log : List Deed) (source : Life) (r : Reach first log source)
     → numbers_from source (merge first heads log) ≡ map (λ k. first + k) (below r.count)
 unfolding merge numbers_from below
 merged first heads [] source r = let w = r.within in let z : r.count ≡ 0 = omega arith in ap (λ x. map (λ k. first + k) (below x)) (sym z)

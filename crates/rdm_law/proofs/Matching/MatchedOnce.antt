@@ -8,7 +8,7 @@ use Rattle.rdm_model.specs.declared.job.Job.{Job}
 use Rattle.rdm_model.specs.declared.entry.Entry.{Entry}
 use Rattle.rdm_model.specs.Lawful.{life_deeds, sent_to}
 use Rattle.rdm_model.specs.Standing.{pairs_in}
-use Rattle.rdm_law.specs.Headline.{MatchedOnce}
+use Rattle.rdm_law.specs.Matched.{MatchedOnce}
 use Rattle.rdm_law.proofs.Matching.Numbered.{LacksPair, PairsApart, matching_numbered}
 use Rattle.rdm_law.proofs.Matching.Distinct.{matching_distinct}
 use Rattle.rdm_lists.proofs.Places.{slice_get-member}

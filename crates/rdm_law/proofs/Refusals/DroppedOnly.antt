@@ -59,7 +59,7 @@ class_by_lives s d (Note note) class' h = cc
 class_by_lives s d (Between from to load) class' h = two_classes _ _ class' h
 
 -- the class of what is dropped
-dropped_class : (s : Scene) (d : Datagram) (o : Option Class) (class' : Class) → Dropped class' ≡ class_answer s d o → o ≡ Some class'
+pub dropped_class : (s : Scene) (d : Datagram) (o : Option Class) (class' : Class) → Dropped class' ≡ class_answer s d o → o ≡ Some class'
 unfolding class_answer
 dropped_class s d None class' h = dropped_none s d d.body class' h
 dropped_class s d (Some c) class' h = cc
