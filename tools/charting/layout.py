@@ -1,26 +1,70 @@
 """Where all that is drawn stands: a row for each entry, a lifeline for each rank.
 
-A row has one label, so no two labels meet. In the space between two lifelines stand the labels of both.
+A row has one entry and so one label. An arrow runs level in the row where it begins, up to the strip before the
+lifeline that it ends at; there it falls, beside the labels of the rows that it passes. So nothing meets a label.
 """
+from collections import defaultdict
+from dataclasses import dataclass
+
 from . import words
 
 ROW, TOP, CHAR, STUB = 22, 92, 6.7, 46
-SPACE, GAP = 24, 260
+SPACE, FALL, NARROWEST, LANE = 14, 70, 200, 7
 
 
+@dataclass
 class Label:
-    def __init__(self, x, y, text, style, anchor="start", title=None):
-        self.x, self.y, self.text, self.style, self.anchor, self.title = x, y, text, style, anchor, title
+    x: float
+    y: float
+    text: str
+    style: str
+    anchor: str = "start"
+    title: str | None = None
 
 
+@dataclass
 class Arrow:
-    """`end` is head, dropped, or open where the other end isn't drawn; `loop` is how far one to itself goes out."""
+    """A line through the points. `tip` is what it ends with: head, dropped or open; `open` tells that it begins so."""
 
-    def __init__(self, start, stop, style, end, title, loop=0):
-        self.start, self.stop, self.style, self.end, self.title, self.loop = start, stop, style, end, title, loop
+    points: list
+    style: str
+    tip: str
+    title: str
+    open: bool = False
+
+
+@dataclass
+class Bar:
+    style: str
+    x: float
+    y: float
+    high: float
+    wide: float
+    title: str
+
+
+@dataclass
+class Mark:
+    shape: str
+    style: str
+    x: float
+    y: float
+
+
+@dataclass
+class Fall:
+    """Between which rows an arrow falls, in which strip and to which side, and how wide the labels before and behind are."""
+
+    first: int
+    last: int
+    strip: int
+    side: int
+    before: float
+    behind: float
 
 
 def style_of(d):
+    """How an arrow is drawn: as bytes of messages, as what is told about them, or as a note."""
     if d.connid is None:
         return "note"
     if d.form == "data" or d.form == "packet" and (d.packet is None or d.packet.opens or d.packet.kind == "CTSDATA"):
@@ -39,130 +83,208 @@ def label_style(e):
     return "polled" if e.form == "took" or e.words[-1] == "ok" else "refused"
 
 
+def in_lanes(spans):
+    """For each span of rows a lane, so that none meets another one of its lane, and how many lanes that takes."""
+    ends, lanes = [], []
+    for first, last in spans:
+        lane = next((k for k, end in enumerate(ends) if end <= first), len(ends))
+        ends[lane:lane + 1] = [last]
+        lanes.append(lane)
+    return lanes, len(ends)
+
+
+class Widths:
+    """How wide the labels stand in each strip, row by row. Strip k is right of lifeline k, strip -1 left of all.
+
+    The labels of a strip begin at one of its two lifelines: at `edge` -1, its left one, or at 1.
+    """
+
+    def __init__(self, rows):
+        self.rows, self.of = rows, defaultdict(lambda: [0] * rows)
+
+    def add(self, row, column, side, width):
+        self.of[column if side > 0 else column - 1, -side][row] = width
+
+    def widest(self, strip, edge, first, last):
+        """The widest label there from one row to another one."""
+        if (strip, edge) not in self.of:
+            return 0
+        return max(self.of[strip, edge][first:last + 1], default=0)
+
+
 class Chart:
     def __init__(self, view):
         self.view, self.rows = view, view.entries()
         self.column = {rank: k for k, rank in enumerate(view.ranks)}
-        self.bars, self.labels, self.arrows, self.marks = [], [], [], []
         self.bottom = TOP + ROW * len(self.rows) + 6
-        self.held, self.lanes = self.held_spans()
+        self.waits, self.lanes = self.waiting()
         self.said = [words.label(e) + view.note_on(e) for e in self.rows]
         self.sides = [self.side(e) for e in self.rows]
         self.ends = {rank: words.end(view.report.ends[rank]) for rank in view.ranks}
-        self.place_columns()
-        self.place_lives()
+        self.widths = self.label_widths()
+        self.falls = {row: self.fall_of(row, e) for row, e in enumerate(self.rows)
+                      if e.act == "push" and e.datagram.dst != e.port and e.datagram.handled in view.row_of}
+        self.loops = self.loop_reaches()
+        self.stamp_x = 14 + CHAR * max([len(str(e.stamp)) for e in self.rows] + [5])
+        self.x, self.width = self.columns()
+        self.labels, self.marks, self.arrows = [], [], []
+        self.bars = self.life_bars() + self.waiting_bars()
         for row, e in enumerate(self.rows):
             self.place_label(row, e)
             self.place_arrow(row, e)
-        self.height = self.bottom + 18 + 16 * max(len(lines) for lines in self.ends.values()) + 58
+        self.height = self.bottom + 24 + 16 * max(len(lines) for lines in self.ends.values())
 
     def y(self, row):
         return TOP + ROW * row + ROW // 2
 
-    def side(self, e):
-        """On which side of its lifeline a label stands: -1 is left, 1 is right."""
-        k, last = self.column[e.port], len(self.column) - 1
-        outer = -1 if k == 0 and last else 1
-        if e.datagram is None:
-            return outer
+    def outer(self, rank):
+        """The side of a lifeline where its own doings are written: -1 is left, 1 is right."""
+        return -1 if self.column[rank] == 0 and len(self.column) > 1 else 1
+
+    def toward(self, e):
+        """The side of the lifeline where the arrow of this entry is; one from a rank to itself is at the inner side."""
         there = e.datagram.dst if e.act == "push" else e.datagram.src
-        if there == e.port:
-            return -self.loop_side(e.port)
-        toward = 1 if there > e.port else -1
-        return toward if e.act == "push" else -toward
+        return -self.outer(e.port) if there == e.port else 1 if there > e.port else -1
 
-    def loop_side(self, rank):
-        return 1 if self.column[rank] < len(self.column) - 1 else -1
+    def side(self, e):
+        """The side where the label stands: what is pushed over its arrow, all else away from it."""
+        if e.datagram is None:
+            return self.outer(e.port)
+        pushed_away = e.act == "push" and e.datagram.dst != e.port
+        return self.toward(e) if pushed_away else -self.toward(e)
 
-    def held_spans(self):
-        """For each message that waited for an earlier one its rank, its rows and its lane, and the lanes of each rank."""
-        spans, lanes, seen = [], {}, set()
+    def waiting(self):
+        """The spans in which messages waited for an earlier one, by rank, and for each rank the count of its lanes."""
+        spans, seen = {rank: [] for rank in self.view.ranks}, set()
         for d in self.view.report.datagrams:
             if d.held is None or d.dst not in self.column:
                 continue
             key = d.source, d.dst, d.connid, d.packet.message
             first, last = self.view.row(d.held), self.view.row(d.let_in)
-            if key in seen or first >= len(self.rows) or last <= 0 or first == last:
-                continue
-            seen.add(key)
-            free = 0
-            used = lanes.setdefault(d.dst, [])
-            while free < len(used) and used[free] > first:
-                free += 1
-            used[free:free + 1] = [last]
-            spans.append((d.dst, first, last, free, d))
-        return spans, {rank: len(used) for rank, used in lanes.items()}
+            if key not in seen and first < len(self.rows) and last > 0 and first < last:
+                seen.add(key)
+                spans[d.dst].append((first, last, d))
+        for one in spans.values():
+            one.sort(key=lambda span: span[:2])
+        return spans, {rank: in_lanes([span[:2] for span in one])[1] for rank, one in spans.items()}
 
-    def off(self, rank):
-        return 12 + 6 * self.lanes.get(rank, 0)
+    def off(self, rank, side):
+        """How far from its lifeline a label begins; the bars of what waits stand between."""
+        return 12 + (6 * self.lanes[rank] if side == self.outer(rank) else 0)
 
-    def place_columns(self):
-        ranks = self.view.ranks
-        left, right = {r: 0 for r in ranks}, {r: 0 for r in ranks}
-        for e, text, side in zip(self.rows, self.said, self.sides):
-            room = right if side > 0 else left
-            room[e.port] = max(room[e.port], len(text) * CHAR + self.off(e.port))
-        half = {r: max(len(line) for line in self.ends[r]) * CHAR / 2 for r in ranks}
-        stamps = max([len(str(e.stamp)) for e in self.rows] or [1]) * CHAR
-        self.stamp_x = 14 + max(stamps, 5 * CHAR)
-        x = self.stamp_x + 16 + max(left[ranks[0]], half[ranks[0]], 40)
-        self.x = {ranks[0]: round(x)}
-        for a, b in zip(ranks, ranks[1:]):
-            x += max(right[a] + SPACE, left[b] + SPACE, half[a] + half[b] + SPACE, GAP)
-            self.x[b] = round(x)
-        self.width = round(max(x + max(right[ranks[-1]], half[ranks[-1]], 40) + 14, 560))
+    def label_widths(self):
+        widths = Widths(len(self.rows))
+        for row, (e, said, side) in enumerate(zip(self.rows, self.said, self.sides)):
+            widths.add(row, self.column[e.port], side, self.off(e.port, side) + CHAR * len(said))
+        return widths
 
-    def place_lives(self):
+    def fall_of(self, row, e):
+        """Where the arrow of a push to another rank falls."""
+        last = self.view.row_of[e.datagram.handled]
+        side, end = self.toward(e), self.column[e.datagram.dst]
+        strip = end - 1 if side > 0 else end
+        before = max(self.widths.widest(strip, -side, row, last), 5)
+        behind = max(self.widths.widest(strip, side, row, last), 16)
+        return Fall(row, last, strip, side, before, behind)
+
+    def loop_reaches(self):
+        """How far the arrow of a rank to itself goes out, by the row of its push: past the labels beside it."""
+        reaches = {}
+        for rank in self.view.ranks:
+            spans = [(row, self.view.row_of[e.datagram.handled]) for row, e in enumerate(self.rows)
+                     if e.act == "push" and e.port == rank == e.datagram.dst
+                     and e.datagram.handled in self.view.row_of]
+            side = -self.outer(rank)
+            strip = self.column[rank] - (side < 0)
+            for (first, last), lane in zip(spans, in_lanes(spans)[0]):
+                reaches[first] = 28 + LANE * lane + self.widths.widest(strip, -side, first, last)
+        return reaches
+
+    def strips(self):
+        """How wide each strip is."""
+        ranks, needs = self.view.ranks, defaultdict(int)
+        for strip in range(-1, len(ranks)):
+            both = [self.widths.widest(strip, edge, 0, len(self.rows)) for edge in (-1, 1)]
+            needs[strip] = max(both) + SPACE
+        for f in self.falls.values():
+            needs[f.strip] = max(needs[f.strip], f.before + f.behind + FALL + min(3 * (f.last - f.first), 60))
+        for row, reach in self.loops.items():
+            strip = self.column[self.rows[row].port] - (self.outer(self.rows[row].port) > 0)
+            needs[strip] = max(needs[strip], reach + max(self.widths.of[strip, 1] + self.widths.of[strip, -1]) + SPACE)
+        half = [max(len(line) for line in self.ends[rank]) * CHAR / 2 for rank in ranks]
+        for k in range(len(ranks) - 1):
+            needs[k] = max(needs[k], half[k] + half[k + 1] + SPACE, NARROWEST)
+        needs[-1] = max(needs[-1], half[0], 40)
+        needs[len(ranks) - 1] = max(needs[len(ranks) - 1], half[-1], 40)
+        return needs
+
+    def columns(self):
+        """Where each lifeline stands, and how wide the chart is."""
+        needs = self.strips()
+        at, x = self.stamp_x + needs[-1], {}
+        for k, rank in enumerate(self.view.ranks):
+            x[rank] = round(at)
+            at += needs[k]
+        return x, round(at + SPACE)
+
+    def life_bars(self):
+        bars = []
         for life in self.view.report.lives:
             if life.port not in self.column:
                 continue
             first, last = self.view.row(life.opened), self.view.row(life.closed)
             if first < len(self.rows) and (last > 0 or life.closed is None):
-                top = self.y(first) if life.opened in self.view.row_of else TOP
-                end = self.y(last) if life.closed in self.view.row_of else self.bottom
-                self.bars.append(("life", self.x[life.port] - 4, top, 8, end - top, "life " + life.name))
-        for rank, first, last, lane, d in self.held:
-            x = self.x[rank] + self.outer(rank) * (9 + 6 * lane) - 2
-            end = self.y(last) if d.let_in in self.view.row_of else self.bottom
-            top = self.y(first) if d.held in self.view.row_of else TOP
-            self.bars.append(("waits", x, top, 4, end - top, "msg %d of %s waits for an earlier number" % (
-                d.packet.message, d.source.name)))
+                top, end = self.extent(life.opened, life.closed)
+                bars.append(Bar("lifebar", self.x[life.port] - 4, top, end - top, 8, "life " + life.name))
+        return bars
 
-    def outer(self, rank):
-        return -1 if self.column[rank] == 0 and len(self.column) > 1 else 1
+    def waiting_bars(self):
+        bars = []
+        for rank, spans in self.waits.items():
+            for (_, _, d), lane in zip(spans, in_lanes([span[:2] for span in spans])[0]):
+                top, end = self.extent(d.held, d.let_in)
+                x = self.x[rank] + self.outer(rank) * (9 + 6 * lane) - 2
+                bars.append(Bar("waits", x, top, end - top, 4, "msg %d of %s waits for an earlier one" % (
+                    d.packet.message, d.source.name)))
+        return bars
+
+    def extent(self, first, last):
+        """From where to where a bar reaches that begins and ends at these places in the history."""
+        top = self.y(self.view.row(first)) if first in self.view.row_of else TOP
+        return top, self.y(self.view.row(last)) if last in self.view.row_of else self.bottom
 
     def place_label(self, row, e):
         y, side, style = self.y(row), self.sides[row], label_style(e)
         if row == 0 or self.rows[row - 1].stamp != e.stamp:
             self.labels.append(Label(self.stamp_x, y + 4, str(e.stamp), "stamp", "end"))
-        x = self.x[e.port] + side * self.off(e.port)
-        above = e.act == "push" and e.datagram.dst != e.port
-        self.labels.append(Label(x, y - 3 if above else y + 4, self.said[row], style,
-                                 "start" if side > 0 else "end", "line %d: %s" % (e.line, e.text)))
+        over = e.act == "push" and e.datagram.dst != e.port
+        self.labels.append(Label(self.x[e.port] + side * self.off(e.port, side), y - 4 if over else y + 4,
+                                 self.said[row], style, "start" if side > 0 else "end", e.text))
         if e.act in ("next", "poll") or style == "held":
-            self.marks.append((e.act, style, self.x[e.port], y))
+            self.marks.append(Mark("square" if e.act == "next" else "disc", style, self.x[e.port], y))
 
     def place_arrow(self, row, e):
-        d, title = e.datagram, "line %d: %s" % (e.line, e.text)
+        d = e.datagram
         if d is None:
             return
-        x, y, side = self.x[e.port], self.y(row), 1
-        there = d.dst if e.act == "push" else d.src
-        side = (1 if there > e.port else -1) if there != e.port else self.loop_side(e.port)
-        style = "dropped" if d.dropped else style_of(d)
+        x, y, side = self.x[e.port], self.y(row), self.toward(e)
+        style, tip = ("dropped", "dropped") if d.dropped else (style_of(d), "head")
+        near, far = (x + 5 * side, y), (x + STUB * side, y)
         if e.act == "handle":
             if d.pushed not in self.view.row_of:
-                end = "dropped" if d.dropped else "head"
-                self.arrows.append(Arrow((x + side * STUB, y - 9), (x + side * 5, y), style, end, title))
-            return
-        other = self.view.row_of.get(d.handled)
-        if other is None:
-            self.arrows.append(Arrow((x + side * 5, y), (x + side * STUB, y + 9), style, "open", title))
-            return
-        end = "dropped" if d.dropped else "head"
-        if there == e.port:
-            loop = side * min(30 + 5 * (other - row), 90)
-            self.arrows.append(Arrow((x + side * 5, y), (x + side * 5, self.y(other)), style, end, title, loop))
+                self.arrows.append(Arrow([far, near], style, tip, e.text, open=True))
+        elif d.handled not in self.view.row_of:
+            self.arrows.append(Arrow([near, far], style, "open", e.text))
+        elif d.dst == e.port:
+            end = self.y(self.view.row_of[d.handled])
+            out = x + side * self.loops[row]
+            self.arrows.append(Arrow([near, (out, y), (out, end), (near[0], end)], style, tip, e.text))
         else:
-            start, stop = (x + side * 5, y), (self.x[there] - side * 5, self.y(other))
-            self.arrows.append(Arrow(start, stop, style, end, title))
+            self.arrows.append(Arrow([near, *self.path(self.falls[row])], style, tip, e.text))
+
+    def path(self, f):
+        """The points of an arrow to another rank, behind its first one."""
+        left, right = (self.x[rank] for rank in self.view.ranks[f.strip:f.strip + 2])
+        start, stop = (left, right) if f.side > 0 else (right, left)
+        return [(start + f.side * f.before, self.y(f.first)), (stop - f.side * f.behind, self.y(f.last)),
+                (stop - f.side * 5, self.y(f.last))]

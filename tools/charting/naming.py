@@ -3,34 +3,52 @@
 A report shows short packets byte for byte and longer ones by a digest. What a longer one carries is told from what
 stands around it, as far as that is certain; the job, where it is given, tells the rest.
 """
+from dataclasses import dataclass, field
+
 from .jobs import granted_piece
 from .ordering import deduce, hold, least_open
 from .packets import Packet
 from .reading import Bad
 
 
+@dataclass(eq=False)
 class Life:
-    def __init__(self, port, connid, opened):
-        self.port, self.connid, self.opened, self.closed = port, connid, opened, None
-        self.sends, self.openers, self.grants, self.told = {}, [], {}, {}
-        self.current, self.words = {}, {}        # by port; by life of a peer
-        self.polled, self.bounds = set(), []     # for each of the openers the sends that it can be of
+    port: int
+    connid: int | None
+    opened: int
+    closed: int | None = None
+    sends: dict = field(default_factory=dict)
+    openers: list = field(default_factory=list)     # the datagrams that opened messages
+    bounds: list = field(default_factory=list)      # for each of them the sends that it can be of
+    grants: dict = field(default_factory=dict)      # by send
+    told: dict = field(default_factory=dict)        # by send the kind that a reply told
+    current: dict = field(default_factory=dict)     # by port
+    words: dict = field(default_factory=dict)       # by life of a peer
+    polled: set = field(default_factory=set)
 
     @property
     def name(self):
         return "%d.%s" % (self.port, "?" if self.connid is None else self.connid)
 
 
+@dataclass
 class Send:
-    def __init__(self, message, to, packets):
-        self.message, self.to, self.packets, self.polled = message, to, packets, False
+    message: int
+    to: int | None
+    packets: list         # those that will open its message, where the job tells them
+    polled: bool = False
 
 
+@dataclass
 class Grant:
     """What a peer let a send's CTSDATA packets carry and they didn't carry yet."""
 
-    def __init__(self, send, recv, peer, offset):
-        self.send, self.recv, self.peer, self.offset, self.left, self.named = send, recv, peer, offset, 0, []
+    send: int
+    recv: int
+    peer: tuple
+    offset: int | None
+    left: int = 0
+    named: list = field(default_factory=list)
 
     def give(self, packet, count):
         """The packet is the next of these; a known offset tells those of all before it."""
@@ -48,6 +66,8 @@ class Grant:
 
 
 class Naming:
+    """One walk over the history; it writes what it tells into the entries and datagrams."""
+
     def __init__(self, report, job=None):
         self.report, self.job = report, job
         self.now = [None] * len(report.ends)     # the open life of each port

@@ -97,9 +97,11 @@ def push(e):
 
 
 def entering(first, count):
+    """The messages that enter at one packet; those after the first one waited for it."""
     if count == 1:
         return "msg %d enters" % first
-    return "msgs %d %s %d enter" % (first, "and" if count == 2 else "to", first + count - 1)
+    return "msg %d enters, and now msg%s too" % (
+        first, " %d" % (first + 1) if count == 2 else "s %d to %d" % (first + 1, first + count - 1))
 
 
 def handle(e):
@@ -110,7 +112,7 @@ def handle(e):
         return "took #%d: %s" % (d.number, entering(*d.enters))
     if d.held is not None:
         missing = "an earlier msg" if d.waits_for is None else "msg %d" % d.waits_for
-        return "took #%d: msg %d heard, waits for %s" % (d.number, d.packet.message, missing)
+        return "took #%d: msg %d waits, %s isn't here yet" % (d.number, d.packet.message, missing)
     return "took #%d" % d.number
 
 
