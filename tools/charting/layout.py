@@ -202,15 +202,15 @@ class Chart:
 
     def strips(self):
         """How wide each strip is."""
-        ranks, needs = self.view.ranks, defaultdict(int)
-        for strip in range(-1, len(ranks)):
-            both = [self.widths.widest(strip, edge, 0, len(self.rows)) for edge in (-1, 1)]
-            needs[strip] = max(both) + SPACE
+        ranks = self.view.ranks
+        widest = {strip: max(self.widths.widest(strip, edge, 0, len(self.rows)) for edge in (-1, 1)) + SPACE
+                  for strip in range(-1, len(ranks))}
+        needs = dict(widest)
         for f in self.falls.values():
             needs[f.strip] = max(needs[f.strip], f.before + f.behind + FALL + min(3 * (f.last - f.first), 60))
         for row, reach in self.loops.items():
             strip = self.column[self.rows[row].port] - (self.outer(self.rows[row].port) > 0)
-            needs[strip] = max(needs[strip], reach + max(self.widths.of[strip, 1] + self.widths.of[strip, -1]) + SPACE)
+            needs[strip] = max(needs[strip], reach + widest[strip])
         half = [max(len(line) for line in self.ends[rank]) * CHAR / 2 for rank in ranks]
         for k in range(len(ranks) - 1):
             needs[k] = max(needs[k], half[k] + half[k + 1] + SPACE, NARROWEST)

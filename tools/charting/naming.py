@@ -5,9 +5,8 @@ stands around it, as far as that is certain; the job, where it is given, tells t
 """
 from dataclasses import dataclass, field
 
-from .jobs import granted_piece
 from .ordering import deduce, hold, least_open
-from .packets import Packet
+from .packets import CTSDATA_HEAD, Packet
 from .reading import Bad
 
 
@@ -135,7 +134,7 @@ class Naming:
             if grants and (p is None or p.recv in [g.recv for g in grants]):
                 g = min(grants, key=lambda one: one.send) if p is None else \
                     next(one for one in grants if one.recv == p.recv)
-                p = d.packet = p or Packet("CTSDATA", recv=g.recv, count=granted_piece(d.length))
+                p = d.packet = p or Packet("CTSDATA", recv=g.recv, count=d.length - CTSDATA_HEAD)
                 p.message, p.send = life.sends[g.send].message if g.send in life.sends else None, g.send
                 g.give(p, p.count)
                 return

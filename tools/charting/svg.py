@@ -1,6 +1,7 @@
 """Writes a chart as one SVG that stands by itself."""
 from xml.sax.saxutils import escape
 
+from . import words
 from .layout import CHAR, Chart
 
 STYLE = """
@@ -40,12 +41,12 @@ def element(name, attributes, inner=None):
     return "<%s%s/>" % (name, written) if inner is None else "<%s%s>%s</%s>" % (name, written, inner, name)
 
 
-def title(words):
-    return element("title", {}, escape(words))
+def title(said):
+    return element("title", {}, escape(said))
 
 
-def text(x, y, words, style, anchor="start", tip=None):
-    inner = escape(words) + ("" if tip is None else title(tip))
+def text(x, y, said, style, anchor="start", tip=None):
+    inner = escape(said) + ("" if tip is None else title(tip))
     return element("text", {"x": x, "y": y, "class": style, "text_anchor": anchor}, inner)
 
 
@@ -131,15 +132,15 @@ def lifelines(c):
 def ends(c):
     for rank, x in c.x.items():
         style = "stuck" if c.view.report.ends[rank].left else "done"
-        for k, words in enumerate(c.ends[rank]):
-            yield text(x, c.bottom + 20 + 16 * k, words, style, "middle")
+        if style == "stuck":
+            yield rect(x - 9, c.bottom, 18, 4, style)
+        for k, said in enumerate(c.ends[rank]):
+            yield text(x, c.bottom + 20 + 16 * k, said, style, "middle")
 
 
 def draw(view):
-    c, report = Chart(view), view.report
-    heading = "rdm report: %s, %d entries, %d rank%s" % (
-        report.status, len(report.entries), len(report.ends), "" if len(report.ends) == 1 else "s")
-    styles = used(c)
+    c = Chart(view)
+    heading, styles = words.heading(view.report), used(c)
     width = max([c.width, 28 + round(8.5 * len(heading)), 28 + round(CHAR * len(view.cut or ""))]
                 + [60 + round(CHAR * len(KEYS[style])) for style in styles])
     keys, height = legend(styles, c.height + 8, width)

@@ -21,8 +21,12 @@ LEFT = {
 }
 
 
+def counted(number, one, more):
+    return "%s %s" % (number, one if int(number) == 1 else more)
+
+
 def count_of(number, what):
-    return "%s %s%s" % (number, what, "" if int(number) == 1 else "s")
+    return counted(number, what, what + "s")
 
 
 def shown(text):
@@ -156,7 +160,7 @@ def label(e):
 
 def end(n):
     """How a rank ended, in lines."""
-    lines = ["%s: %d of %s" % ("stuck" if n.left else "done", n.done, count_of(n.all, "instruction"))]
+    lines = ["%s %d of %s" % ("stuck after" if n.left else "done:", n.done, count_of(n.all, "instruction"))]
     if n.left:
         words = n.left.split()
         if words[:2] == ["NotYet", "Wait"]:
@@ -172,3 +176,8 @@ def end(n):
     if n.waiting:
         lines.append("%s in the stash" % count_of(n.waiting, "datagram"))
     return lines
+
+
+def heading(report):
+    return "rdm report: %s, %s, %s" % (report.status, counted(len(report.entries), "entry", "entries"),
+                                       count_of(len(report.ends), "rank"))
