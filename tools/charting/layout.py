@@ -8,7 +8,7 @@ from dataclasses import dataclass
 
 from . import words
 
-ROW, TOP, CHAR, STUB = 22, 92, 6.7, 46
+ROW, TOP, CHAR, STUB = 22, 92, 6.7, 30
 SPACE, FALL, NARROWEST, LANE = 14, 70, 200, 7
 
 
@@ -174,9 +174,14 @@ class Chart:
 
     def label_widths(self):
         widths = Widths(len(self.rows))
-        for row, (e, said, side) in enumerate(zip(self.rows, self.said, self.sides)):
-            widths.add(row, self.column[e.port], side, self.off(e.port, side) + CHAR * len(said))
+        for row, (e, side) in enumerate(zip(self.rows, self.sides)):
+            widths.add(row, self.column[e.port], side, self.reach(row, e, side))
         return widths
+
+    def reach(self, row, e, side):
+        """How far from its lifeline a label reaches; an arrow without an end goes on past it."""
+        lost = e.act == "push" and e.datagram.dst != e.port and e.datagram.handled not in self.view.row_of
+        return self.off(e.port, side) + CHAR * len(self.said[row]) + (STUB if lost else 0)
 
     def fall_of(self, row, e):
         """Where the arrow of a push to another rank falls."""
@@ -269,12 +274,13 @@ class Chart:
             return
         x, y, side = self.x[e.port], self.y(row), self.toward(e)
         style, tip = ("dropped", "dropped") if d.dropped else (style_of(d), "head")
-        near, far = (x + 5 * side, y), (x + STUB * side, y)
+        near = x + 5 * side, y
         if e.act == "handle":
             if d.pushed not in self.view.row_of:
-                self.arrows.append(Arrow([far, near], style, tip, e.text, open=True))
+                self.arrows.append(Arrow([(x + STUB * side, y), near], style, tip, e.text, open=True))
         elif d.handled not in self.view.row_of:
-            self.arrows.append(Arrow([near, far], style, "open", e.text))
+            far = STUB if d.dst == e.port else self.reach(row, e, side) - 6
+            self.arrows.append(Arrow([near, (x + far * side, y)], style, "open", e.text))
         elif d.dst == e.port:
             end = self.y(self.view.row_of[d.handled])
             out = x + side * self.loops[row]

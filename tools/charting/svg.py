@@ -97,7 +97,7 @@ def key(x, y, style):
     if style == "waits":
         return rect(x + 12, y - 7, 4, 14, style)
     end, drawn = {"open": "open", "dropped": "dropped"}.get(style, "head"), "bytes" if style == "open" else style
-    return line(x, y, x + 24, y, "way " + drawn) + tip(x + 26, y, 1, drawn, end)
+    return line(x, y, x + 20, y, "way " + drawn) + tip(x + (22 if end == "open" else 26), y, 1, drawn, end)
 
 
 def used(c):
