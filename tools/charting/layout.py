@@ -194,14 +194,14 @@ class Chart:
 
     def loop_reaches(self):
         """How far the arrow of a rank to itself goes out, by the row of its push: past the labels beside it."""
-        reaches = {}
-        for rank in self.view.ranks:
-            spans = [(row, self.view.row_of[e.datagram.handled]) for row, e in enumerate(self.rows)
-                     if e.act == "push" and e.port == rank == e.datagram.dst
-                     and e.datagram.handled in self.view.row_of]
+        spans, reaches = {rank: [] for rank in self.view.ranks}, {}
+        for row, e in enumerate(self.rows):
+            if e.act == "push" and e.datagram.dst == e.port and e.datagram.handled in self.view.row_of:
+                spans[e.port].append((row, self.view.row_of[e.datagram.handled]))
+        for rank, of_rank in spans.items():
             side = -self.outer(rank)
             strip = self.column[rank] - (side < 0)
-            for (first, last), lane in zip(spans, in_lanes(spans)[0]):
+            for (first, last), lane in zip(of_rank, in_lanes(of_rank)[0]):
                 reaches[first] = 28 + LANE * lane + self.widths.widest(strip, -side, first, last)
         return reaches
 

@@ -18,6 +18,7 @@ def pattern(text):
 OPS = "(open|insert|reg|send|recv|cancel|note|await|wait|close)"
 WHYS = "(NoRegion|Range|NoEntry|Busy|Numbers|NoConfirm|Superseded|NotPosted)"
 CLASSES = "(ToOther|FromOther|Malformed|Unknown|BadKey|NoOp|Mismatch|Overlap)"
+STRANGE = re.compile(rb"[^\x20-\x7e\n]")
 COUNT = pattern("entries N")
 ENTRY = re.compile(NUMBER + " " + NUMBER + " ((next|push|handle|poll) .*)")
 NEXT = pattern("next N %s (?:did(?: N)?(?: msg N)?|refused %s)" % (OPS, WHYS))
@@ -115,13 +116,13 @@ def short(text):
 def lines_of(data):
     if not data:
         raise Bad(1, "no report: the input is empty")
-    parts = data.split(b"\n")
-    for i, part in enumerate(parts):
-        if any(b < 32 or b > 126 for b in part):
-            raise Bad(i + 1, "a byte that is no printable ASCII")
-    if parts[-1]:
-        raise Bad(len(parts), "the report is cut: no line feed ends this line")
-    return [p.decode("ascii") for p in parts[:-1]]
+    strange = STRANGE.search(data)
+    if strange:
+        raise Bad(data.count(b"\n", 0, strange.start()) + 1, "a byte that is no printable ASCII")
+    lines = data.decode("ascii").split("\n")
+    if lines[-1]:
+        raise Bad(len(lines), "the report is cut: no line feed ends this line")
+    return lines[:-1]
 
 
 def read(data):

@@ -32,34 +32,30 @@ KEYS = {
 
 
 def number(value):
-    return ("%.1f" % value).removesuffix(".0")
-
-
-def element(name, attributes, inner=None):
-    written = "".join(' %s="%s"' % (key.replace("_", "-"), number(v) if isinstance(v, (int, float)) else v)
-                      for key, v in attributes.items())
-    return "<%s%s/>" % (name, written) if inner is None else "<%s%s>%s</%s>" % (name, written, inner, name)
+    return str(value) if isinstance(value, int) else ("%.1f" % value).removesuffix(".0")
 
 
 def title(said):
-    return element("title", {}, escape(said))
+    return "<title>%s</title>" % escape(said)
 
 
 def text(x, y, said, style, anchor="start", tip=None):
-    inner = escape(said) + ("" if tip is None else title(tip))
-    return element("text", {"x": x, "y": y, "class": style, "text_anchor": anchor}, inner)
+    return '<text x="%s" y="%s" class="%s" text-anchor="%s">%s%s</text>' % (
+        number(x), number(y), style, anchor, escape(said), "" if tip is None else title(tip))
 
 
 def line(x, y, to_x, to_y, style):
-    return element("line", {"x1": x, "y1": y, "x2": to_x, "y2": to_y, "class": style})
+    return '<line x1="%s" y1="%s" x2="%s" y2="%s" class="%s"/>' % (
+        number(x), number(y), number(to_x), number(to_y), style)
 
 
-def rect(x, y, wide, high, style, inner=None):
-    return element("rect", {"class": style, "x": x, "y": y, "width": wide, "height": high}, inner)
+def rect(x, y, wide, high, style, inner=""):
+    return '<rect x="%s" y="%s" width="%s" height="%s" class="%s">%s</rect>' % (
+        number(x), number(y), number(wide), number(high), style, inner)
 
 
-def dot(x, y, style):
-    return element("circle", {"cx": x, "cy": y, "r": 3.5, "class": "open " + style})
+def disc(x, y, radius, style):
+    return '<circle cx="%s" cy="%s" r="%s" class="%s"/>' % (number(x), number(y), radius, style)
 
 
 def points(of):
@@ -69,27 +65,25 @@ def points(of):
 def tip(x, y, side, style, end):
     """What stands where an arrow ends that comes from the left (side 1) or from the right (-1)."""
     if end == "open":
-        return dot(x, y, style)
+        return disc(x, y, 3.5, "open " + style)
     if end == "dropped":
-        return element("path", {"d": "M%s %sl10 10m-10 0l10 -10" % (number(x - 9 * side - 5), number(y - 5)),
-                                "class": "cross"})
-    return element("polygon", {"points": points([(x, y), (x - 9 * side, y - 4), (x - 9 * side, y + 4)]),
-                               "class": style})
+        return '<path d="M%s %sl10 10m-10 0l10 -10" class="cross"/>' % (number(x - 9 * side - 5), number(y - 5))
+    return '<polygon points="%s" class="%s"/>' % (
+        points([(x, y), (x - 9 * side, y - 4), (x - 9 * side, y + 4)]), style)
 
 
 def arrow(a):
     (x, y), (before, _) = a.points[-1], a.points[-2]
-    drawn = element("polyline", {"points": points(a.points), "class": "way " + a.style})
-    drawn += tip(x, y, 1 if x > before else -1, a.style, a.tip)
-    if a.open:
-        drawn += dot(*a.points[0], a.style)
-    return element("g", {}, title(a.title) + drawn)
+    end = tip(x, y, 1 if x > before else -1, a.style, a.tip)
+    begin = disc(*a.points[0], 3.5, "open " + a.style) if a.open else ""
+    return '<g>%s<polyline points="%s" class="way %s"/>%s%s</g>' % (
+        title(a.title), points(a.points), a.style, end, begin)
 
 
 def mark(m):
     if m.shape == "square":
         return rect(m.x - 4, m.y - 4, 8, 8, "mark " + m.style)
-    return element("circle", {"class": "mark " + m.style, "cx": m.x, "cy": m.y, "r": 4.5})
+    return disc(m.x, m.y, 4.5, "mark " + m.style)
 
 
 def key(x, y, style):
@@ -145,7 +139,7 @@ def draw(view):
                 + [60 + round(CHAR * len(KEYS[style])) for style in styles])
     keys, height = legend(styles, c.height + 8, width)
     out = ['<svg xmlns="http://www.w3.org/2000/svg" width="%d" height="%d" viewBox="0 0 %d %d">' % (
-        width, height, width, height), title(heading), element("style", {}, STYLE),
+        width, height, width, height), title(heading), "<style>%s</style>" % STYLE,
         rect(0, 0, width, height, "ground"), text(14, 24, heading, "big"), text(c.stamp_x, 65, "stamp", "stamp", "end")]
     if view.cut:
         out += [text(14, 42, view.cut, "cut"), line(14, c.bottom + 4, width - 14, c.bottom + 4, "edge")]

@@ -104,8 +104,9 @@ def entering(first, count):
     """The messages that enter at one packet; those after the first one waited for it."""
     if count == 1:
         return "msg %d enters" % first
-    return "msg %d enters, and now msg%s too" % (
-        first, " %d" % (first + 1) if count == 2 else "s %d to %d" % (first + 1, first + count - 1))
+    others = "msg %d" % (first + 1) if count == 2 else "msgs %d %s %d" % (
+        first + 1, "and" if count == 3 else "to", first + count - 1)
+    return "msg %d enters, and now %s too" % (first, others)
 
 
 def handle(e):
@@ -134,7 +135,7 @@ def next(e):
     tag = "tag %d" % op["tag"] if "tag" in op else ""
     if word == "send":
         size = sum(part[2] for part in op["parts"]) if "parts" in op else op.get("len")
-        return spoken("send %s: msg %s" % (number, message), "to %d," % op["to"] if op else "",
+        return spoken("send %s: msg %s" % (number, message), "to rank %d," % op["to"] if op else "",
                       "" if size is None else count_of(size, "byte"), tag)
     if word == "recv":
         return "recv %s" % number + (": " + spoken(count_of(op["len"], "byte"), tag) if op else "")
