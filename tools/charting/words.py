@@ -10,6 +10,8 @@ CLASSES = {
     "Mismatch": "it contradicts what came before",
     "Overlap": "these bytes have come already",
 }
+MORE = {"cancel": "recv {recv}", "note": "{what} to rank {to}", "await": "{what} from rank {from}",
+        "wait": "for {count}"}
 LEFT = {
     "NotYet Await": "waits for a note",
     "NotYet Opened": "waits until that life opens",
@@ -139,8 +141,8 @@ def next(e):
                       "" if size is None else count_of(size, "byte"), tag)
     if word == "recv":
         return "recv %s" % number + (": " + spoken(count_of(op["len"], "byte"), tag) if op else "")
-    more = {"cancel": ["recv"], "note": ["to", "what"], "await": ["from", "what"], "wait": ["count"]}.get(word, [])
-    return spoken(word, *[str(op[key]) for key in more if key in op], "" if word == "close" else "did")
+    more = MORE[word].format(**op) if op and word in MORE else ""
+    return spoken(word, more, "" if word == "close" else "did")
 
 
 def poll(e):
