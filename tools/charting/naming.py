@@ -98,6 +98,8 @@ class Naming:
         elif word == "insert" and op:
             insert(e.life, op["port"], op["connid"])
         elif word == "send":
+            if int(number) != len(e.life.sends):
+                raise Bad(e.line, "send %d of this life is expected" % len(e.life.sends))
             packets = []
             if op:
                 peer = (op["to"], e.life.current.get(op["to"]))
@@ -183,7 +185,7 @@ class Naming:
             p.message = d.enters[0]
 
     def tell(self, life, port, send, kind):
-        """A reply names a send; so the packets that opened its message are of this kind. Gives the first part's size."""
+        """A reply names a send: the packets that opened its message are of this kind. Gives the first part's size."""
         life.told[send] = kind
         message = life.sends[send].message if send in life.sends else None
         size = None

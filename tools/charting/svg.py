@@ -2,7 +2,8 @@
 from xml.sax.saxutils import escape
 
 from . import words
-from .layout import CHAR, Chart
+from .layout import Chart
+from .plan import CHAR, Plan
 
 STYLE = """
 text { font: 11px "DejaVu Sans Mono", Menlo, Consolas, "Liberation Mono", monospace; fill: #222; }
@@ -18,7 +19,8 @@ polygon.note { fill: #888; } circle.open { fill: #fff; stroke-width: 1.4; }
 circle.bytes { stroke: #0b4f9e; } circle.reply { stroke: #0d6b5e; } circle.note { stroke: #999; }
 circle.open.dropped { stroke: #b00020; }
 line.axis { stroke: #bbb; stroke-dasharray: 2 4; } line.edge { stroke: #bbb; }
-rect.ground { fill: #fff; } rect.head { fill: #eef2f7; stroke: #8795a8; } rect.lifebar { fill: #dfe6ef; stroke: #8795a8; }
+rect.ground { fill: #fff; }
+rect.head { fill: #eef2f7; stroke: #8795a8; } rect.lifebar { fill: #dfe6ef; stroke: #8795a8; }
 rect.waits { fill: #f0a030; } .mark { stroke: #fff; stroke-width: 1; } .mark.next, .mark.life { fill: #222; }
 """
 KEYS = {
@@ -128,19 +130,20 @@ def ends(c):
         style = "stuck" if c.view.report.ends[rank].left else "done"
         if style == "stuck":
             yield rect(x - 9, c.bottom, 18, 4, style)
-        for k, said in enumerate(c.ends[rank]):
+        for k, said in enumerate(c.plan.ends[rank]):
             yield text(x, c.bottom + 20 + 16 * k, said, style, "middle")
 
 
 def draw(view):
-    c = Chart(view)
+    c = Chart(Plan(view))
     heading, styles = words.heading(view.report), used(c)
-    width = max([c.width, 28 + round(8.5 * len(heading)), 28 + round(CHAR * len(view.cut or ""))]
+    width = max([c.plan.width, 28 + round(8.5 * len(heading)), 28 + round(CHAR * len(view.cut or ""))]
                 + [60 + round(CHAR * len(KEYS[style])) for style in styles])
     keys, height = legend(styles, c.height + 8, width)
     out = ['<svg xmlns="http://www.w3.org/2000/svg" width="%d" height="%d" viewBox="0 0 %d %d">' % (
         width, height, width, height), title(heading), "<style>%s</style>" % STYLE,
-        rect(0, 0, width, height, "ground"), text(14, 24, heading, "big"), text(c.stamp_x, 65, "stamp", "stamp", "end")]
+        rect(0, 0, width, height, "ground"), text(14, 24, heading, "big"),
+        text(c.plan.stamp_x, 65, "stamp", "stamp", "end")]
     if view.cut:
         out += [text(14, 42, view.cut, "cut"), line(14, c.bottom + 4, width - 14, c.bottom + 4, "edge")]
     out += lifelines(c)

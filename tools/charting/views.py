@@ -68,4 +68,6 @@ class View:
     def left_where(self, port):
         """Where a datagram to this port is that was never handled, as far as the report tells."""
         waiting, left = self.report.ends[port].waiting, self.report.left_to[port]
-        return "in flight at the end" if not waiting else "in the stash at the end" if waiting == left else "never handled"
+        if waiting:
+            return "in the stash at the end" if waiting == left else "never handled"
+        return "in flight at the end"
