@@ -13,7 +13,7 @@ CHAR, STUB, SPACE, FALL, NARROWEST, LANE = 6.7, 30, 14, 70, 200, 7
 
 @dataclass
 class Fall:
-    """Between which rows an arrow falls, in which strip and to which side, and how wide labels are on both sides of it."""
+    """Between which rows an arrow falls, in which strip and to which side, and how wide the labels beside it are."""
 
     first: int
     last: int
