@@ -9,3 +9,5 @@ pub mod CompletionsCounted
 pub mod EndsCounted
 pub mod PolledSent
 pub mod PolledWas
+pub mod EndKinds
+pub mod PolledEnded

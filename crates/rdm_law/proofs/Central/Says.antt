@@ -1,34 +1,27 @@
 -- What a right report of a fair job says.
-use Rattle.std.proofs.Common.{◌≡◌, List, [], ◌∷◌, ap}
+use Rattle.std.proofs.Common.{List, [], ◌∷◌}
 use Rattle.std.specs.Prelude.{IsTrue}
-use Rattle.rdm_num.specs.declared.numbers.Life.{Life}
-use Rattle.rdm_match.specs.Matcher.{Matching}
 use Rattle.rdm_model.specs.declared.job.Job.{Job}
 use Rattle.rdm_model.specs.declared.entry.Entry.{Entry}
 use Rattle.rdm_model.specs.Jobs.{is_fair, law_ops}
-use Rattle.rdm_model.specs.Lawful.{Lawful, life_deeds, sent_to}
-use Rattle.rdm_model.specs.Standing.{pairs_in}
+use Rattle.rdm_model.specs.Lawful.{Lawful}
 use Rattle.rdm_model.specs.Wire.{Wire}
 use Rattle.rdm_law.specs.Law.{Completes}
-use Rattle.rdm_law.specs.Matched.{merge_in, plain_pairs, MatchesPlainly}
+use Rattle.rdm_law.specs.Matched.{MatchesPlainly}
 use Rattle.rdm_law.specs.Headline.{Headline}
 use Rattle.rdm_law.proofs.Classes.ClassLives.{AllFree}
 use Rattle.rdm_law.proofs.Central.LawfulPlayed.{lawful_order, lawful_played}
 use Rattle.rdm_law.proofs.Matching.MatchedOnce.{matched_once}
-use Rattle.rdm_law.proofs.Matching.Merges.{runs_merge}
+use Rattle.rdm_law.proofs.Matching.Merges.{plainly_paired}
 use Rattle.rdm_law.proofs.Matching.ComesAsSent.{comes_as_sent}
 use Rattle.rdm_law.proofs.Accounts.SendsAre.{sends_are}
+use Rattle.rdm_law.proofs.Ends.PolledEnded.{polled_as_ended}
 use Rattle.rdm_law.proofs.Refusals.Counted.{drops_are_other, counts_drops, again_where_full}
 
 -- the wire of a lawful history delivers once
 pub lawful_wire : (job : Job) (history : List Entry) → Lawful job history → Wire history
 lawful_wire job [] l = tt
 lawful_wire job (e ∷ before) l = (lawful_wire job before l.0, l.2)
-
--- the pairs of a life are the plain matcher's
-plainly_paired : (job : Job) (history : List Entry) (i : Life) → pairs_in job history i ≡ plain_pairs job history i
-unfolding pairs_in plain_pairs merge_in
-plainly_paired job history i = ap (λ (m : Matching). m.pairs) (runs_merge job.limits.first (sent_to job history i).head (life_deeds job history i))
 
 -- the plain matcher makes the pairs, of what was sent
 matches_plainly : (job : Job) (history : List Entry) → IsTrue (is_fair law_ops job) → AllFree job → Lawful job history → MatchesPlainly job history
@@ -43,6 +36,7 @@ headline_where free completes job report fair right =
       in_order = lawful_order job report.history right.lawful;
       wire = lawful_wire job report.history right.lawful;
       matched = matches_plainly job report.history fair (free job fair) right.lawful;
+      polled = polled_as_ended job report.history fair (free job fair) right.lawful;
       drops = drops_are_other job report.history fair right.lawful;
       counted = counts_drops job report right;
       again = again_where_full job report right;

@@ -42,7 +42,7 @@ EndedBy first heads log n =
     EndFilled first heads log n ⊎ (((recv : RecvNo) × Member (Did (Cancel recv)) log × (recv.0 ≡ n)) ⊎ EndGone first heads log n)
 
 -- a receive that concerns a life still does
-concerns_still : (first : ℕ) (heads : Heads) (d : Deed) (before : List Deed) (life : Life) (r : Receive) → concerns (pairs first heads before) life r ≡ true
+pub concerns_still : (first : ℕ) (heads : Heads) (d : Deed) (before : List Deed) (life : Life) (r : Receive) → concerns (pairs first heads before) life r ≡ true
     → concerns (pairs first heads (d ∷ before)) life r ≡ true
 unfolding concerns
 concerns_still first heads d before life r h =
@@ -56,12 +56,12 @@ concerns_still first heads d before life r h =
     ]
 
 -- a life that was forgotten stays so
-forgotten_still : (d : Deed) (before : List Deed) (life : Life) → is_forgotten before life ≡ true → is_forgotten (d ∷ before) life ≡ true
+pub forgotten_still : (d : Deed) (before : List Deed) (life : Life) → is_forgotten before life ≡ true → is_forgotten (d ∷ before) life ≡ true
 unfolding is_forgotten
 forgotten_still d before life h = or_left (is_forgotten before life) (list_any (same_life life) (forgotten_by before d)) h
 
 -- a life that a deed forgets is forgotten
-forgotten_now : (d : Deed) (before : List Deed) (life : Life) → Member life (forgotten_by before d) → is_forgotten (d ∷ before) life ≡ true
+pub forgotten_now : (d : Deed) (before : List Deed) (life : Life) → Member life (forgotten_by before d) → is_forgotten (d ∷ before) life ≡ true
 unfolding is_forgotten
 forgotten_now d before life h =
     or_right (is_forgotten before life) (list_any (same_life life) (forgotten_by before d)) (member_list_any (same_life life) life (forgotten_by before d) h (same_life-refl life))
@@ -82,14 +82,14 @@ ended_still first heads d before n (inr (inr e)) =
     }))
 
 -- what a deed withdraws, it cancels
-withdrawn_from : (d : Deed) (e : RecvEnd) → Member e (withdrawn_by d) → (recv : RecvNo) × (d ≡ Did (Cancel recv)) × (e ≡ Withdrawn recv.0)
+pub withdrawn_from : (d : Deed) (e : RecvEnd) → Member e (withdrawn_by d) → (recv : RecvNo) × (d ≡ Did (Cancel recv)) × (e ≡ Withdrawn recv.0)
 unfolding withdrawn_by
 withdrawn_from (Did (Cancel recv)) e (inl is) = (recv, refl, sym is)
 withdrawn_from (Did (Cancel recv)) e (inr never) = elim never [ ]
 withdrawn_from _ e h = elim h [ ]
 
 -- what a deed fills is a pair that is filled
-filled_from : (first : ℕ) (heads : Heads) (d : Deed) (before : List Deed) (p : Pair) → Member p (filled_by first heads d before)
+pub filled_from : (first : ℕ) (heads : Heads) (d : Deed) (before : List Deed) (p : Pair) → Member p (filled_by first heads d before)
     → Member p (pairs first heads (d ∷ before)) × (is_filled first heads (d ∷ before) p ≡ true)
 unfolding filled_by
 filled_from first heads d before p h =
@@ -97,7 +97,7 @@ filled_from first heads d before p h =
     (m.0, (and_parts (is_filled first heads (d ∷ before) p) (not (is_filled first heads before p)) m.1).0)
 
 -- what goes with a life concerns it
-gone_from : (first : ℕ) (heads : Heads) (before : List Deed) (ends : List RecvEnd) (life : Life) (e : RecvEnd) → Member e (gone_with first heads before ends life)
+pub gone_from : (first : ℕ) (heads : Heads) (before : List Deed) (ends : List RecvEnd) (life : Life) (e : RecvEnd) → Member e (gone_with first heads before ends life)
     → (r : Receive) × Member r (receives before) × (concerns (pairs first heads before) life r ≡ true) × (e ≡ Gone r.number)
 unfolding gone_with
 gone_from first heads before ends life e h =

@@ -125,7 +125,7 @@ unfolding accepts
 from_accepted r m life a h = from_life r.from m.life life (and_parts (is_life_or_none r.from m.life) (tags_agree r.want m.tag) a).0 h
 
 -- the life that a pair's receive concerns is that of its message
-concerned : (first : ℕ) (heads : Heads) (log : List Deed) (p : Pair) (life : Life) (r : Receive) → Member p (pairs first heads log) → Member r (receives log) → r.number ≡ p.recv.id.0
+pub concerned : (first : ℕ) (heads : Heads) (log : List Deed) (p : Pair) (life : Life) (r : Receive) → Member p (pairs first heads log) → Member r (receives log) → r.number ≡ p.recv.id.0
     → concerns (pairs first heads log) life r ≡ true → p.message.life ≡ life
 unfolding concerns is_recv
 concerned first heads log p life r h m n c =

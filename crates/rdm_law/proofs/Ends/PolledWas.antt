@@ -112,7 +112,7 @@ took_still job e before port from tag cq_data bytes excess t =
     }
 
 -- the parts of a head
-head_parts : (limits : EpLimits) (m : Message) (kind : Kind)
+pub head_parts : (limits : EpLimits) (m : Message) (kind : Kind)
     → ((message_head limits m kind).tag ≡ m.tag) × ((message_head limits m kind).cq_data ≡ m.opt.cq_data) × ((message_head limits m kind).length ≡ length m.bytes)
 unfolding message_head
 head_parts limits m kind = (refl, refl, refl)
@@ -158,7 +158,7 @@ poll_at job before port (Some c) recv from tag cq_data bytes excess played m =
     (completed_took (own_of job life') (sent_to job before life') (life_deeds job before life') recv from tag cq_data bytes excess m)
 
 -- the completions of a port, by its open life
-scene_completions : (job : Job) (port : ℕ) (before : List Entry) → completions (sent_scene job port before).own (sent_scene job port before).ms (sent_scene job port before).log
+pub scene_completions : (job : Job) (port : ℕ) (before : List Entry) → completions (sent_scene job port before).own (sent_scene job port before).ms (sent_scene job port before).log
     ≡ completions (own_of job (life_at port (open_life (port_deeds job port before)))) (sent_to job before (life_at port (open_life (port_deeds job port before))))
     (of_open_life (open_life (port_deeds job port before)) (port_deeds job port before))
 unfolding sent_scene scene
