@@ -88,8 +88,7 @@ module _ (l : Landed) (off len : ℕ) (part : Piece) (loan : IsLoan l off len pa
   pub stays : (missing : List Bool) (cells : List (Option ℕ)) (lent : List Span) (out room : ℕ) → Contains lent (span off len) → length cells ≡ capacity l → AreTaken off len missing → ((k : ℕ) → off ≤ k → k < off + len → get_or cells k None ≡ get_or l.tiles.cells k None)
       → IsLoan (record { tiles = record { block = l.tiles.block; whole = l.tiles.whole; start = l.tiles.start; cells = cells; out = out }; missing = missing; lent = lent; room = room }) off len part
   stays missing cells lent out room there size taken same =
-      let gone : length (replicate {A = Option ℕ} (below l off len) None) ≡ below l off len = length-replicate (below l off len) None in
-      (
+      let gone : length (replicate {A = Option ℕ} (below l off len) None) ≡ below l off len = length-replicate (below l off len) None in (
         (there, loan.0.1, loan.0.2, loan.0.3 ∙ ap (λ k. min len (k - off)) (sym size)),
         subst (λ k. 0 < min len (k - off)) (sym size) loan.1,
         taken,
@@ -177,14 +176,13 @@ lend_gives_loan l off len part may is =
     let begins : part.start - t.start ≡ off = omega (arith, is.1) in
     let fits : (part.start - t.start) + length nones ≤ length t.cells = omega (arith, begins, gone, all, is.3.0) in
     let size : length (laid (part.start - t.start) nones t.cells) ≡ length t.cells = length-new (part.start - t.start) nones t.cells None fits in
-    let tests = length-set false off len l.missing m.0 in
-    (
+    let tests = length-set false off len l.missing m.0 in (
       lend_lends l off len part may is,
       subst (λ k. 0 < min len (k - off)) (sym size) may.1,
       all_from_each false off len (with_range false off len l.missing) (omega (arith, tests, m.0)) (λ k p q. set_in false off len l.missing m.0 k p q),
       subst (λ k. AreOut off (min len (k - off)) (laid (part.start - t.start) nones t.cells)) (sym size)
-      (out_from_each off (below l off len) (laid (part.start - t.start) nones t.cells) (omega (arith, size, all, is.2, is.3.0))
-      (λ k p q. ap is_none (new_in (part.start - t.start) nones t.cells None fits k (omega (arith, begins)) (omega (arith, begins, gone, is.2))) ∙ ap is_none (get_or-replicate (length part.bytes) (k - (part.start - t.start)) None None (omega (arith, begins, is.2))))),
+          (out_from_each off (below l off len) (laid (part.start - t.start) nones t.cells) (omega (arith, size, all, is.2, is.3.0))
+          (λ k p q. ap is_none (new_in (part.start - t.start) nones t.cells None fits k (omega (arith, begins)) (omega (arith, begins, gone, is.2))) ∙ ap is_none (get_or-replicate (length part.bytes) (k - (part.start - t.start)) None None (omega (arith, begins, is.2))))),
     )
 
 -- two of the ranges in order are one, or share no place

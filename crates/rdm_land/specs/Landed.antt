@@ -63,9 +63,20 @@ abbrev pub after_fill : Landed → ℕ → List ℕ → Answer → Landed
 after_fill l off bytes Placed = record (with_bytes l off bytes) { room = l.room - 1 }
 after_fill l off bytes Overlap = l
 
+-- what calls that only bring bytes keep: the block, how many bytes there is room for, and what is lent
+pub record Keeps (before after : Landed) : Type 0 where
+  pub start : after.tiles.start ≡ before.tiles.start
+  pub whole : after.tiles.whole ≡ before.tiles.whole
+  pub places : capacity after ≡ capacity before
+  pub lent : after.lent ≡ before.lent
+
+-- how many places are missing
+abbrev pub missing_places : Landed → ℕ
+missing_places l = count_by (λ b. b) l.missing
+
 -- nothing is missing, and nothing is lent
 abbrev pub is_finished : Landed → Bool
-is_finished l = (count_by (λ b. b) l.missing == 0) && (length l.lent == 0)
+is_finished l = (missing_places l == 0) && (length l.lent == 0)
 
 -- how many bytes of the message lie past the capacity
 abbrev pub excess : Landed → ℕ

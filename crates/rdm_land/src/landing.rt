@@ -1,7 +1,7 @@
 //! What came of a message.
 ghost use Rattle.std.specs.Prelude.{◌≡◌, ◌↔◌, ◌+◌, ◌-◌, ◌<◌, ◌≤◌, ◌^◌, ◌||◌, ℕ, [], true, false, min, length, take, get_or, vec_len, vec_capacity, IfOk, OnOk, OnErr, IsTrue, MatchOption, MatchResult};
 ghost use Rattle.rdm_gaps.specs.Places.{AreMissing, AreTaken, after_take, with_untaken};
-ghost use Rattle.rdm_mr.specs.Tiles.{AreHome, IsAll, IsWhole, IsPartAt, overwritten, without};
+ghost use Rattle.rdm_mr.specs.Tiles.{AreBytes, AreHome, IsAll, IsWhole, IsPartAt, overwritten, without};
 ghost use Rattle.rdm_land.specs.Spans.{AreInOrder, have};
 ghost use Rattle.rdm_land.specs.Landed.{Says, MayLend, IsPartOf, IsLent, OnlyLent, awaiting, resumed, with_room, after_place, after_fill, is_finished, after_lend, landed, unlent};
 ghost use Rattle.rdm_land.specs.Loans.{LentAreLoans, LoansAreApart};
@@ -217,6 +217,28 @@ impl Landing {
         ensures { result ≡ is_finished self.now }
     {
         self.gaps.is_empty() && self.lent.is_empty()
+    }
+
+    /// How many places of the message are missing.
+    pub fn missing(&self) -> u64
+        ensures { result ≡ Landed.missing_places self.now }
+    {
+        self.gaps.missing()
+    }
+
+    /// How many ranges are lent.
+    pub fn lent(&self) -> usize
+        ensures { result ≡ length self.now.lent }
+    {
+        self.lent.len()
+    }
+
+    /// The bytes of a range below the capacity, if all of it is at home. They aren't copied.
+    pub fn bytes(&self, at: usize, len: usize) -> Option<&[u8]>
+        requires { at + len ≤ Landed.capacity self.now }
+        ensures { MatchOption result (AreHome at len self.now.tiles.cells → ⊥) (λ bytes. (length bytes.now ≡ len) × AreBytes at bytes.now self.now.tiles.cells) }
+    {
+        self.home.get(at, len)
     }
 
     /// How many bytes of the message lie past the capacity.
