@@ -1,4 +1,4 @@
--- What is played is lawful and right: each choice keeps a world sound, and rounds end.
+-- What is played is lawful and right: each choice keeps a world sound, and rounds end. So is what ports made that stopped by themselves.
 pub mod Apart
 pub mod Delivers
 pub mod DeliverSteps
