@@ -11,3 +11,6 @@ pub mod PolledSent
 pub mod PolledWas
 pub mod EndKinds
 pub mod PolledEnded
+pub mod ApartEnds
+pub mod EndsOnce
+pub mod PolledOnce

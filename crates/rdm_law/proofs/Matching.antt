@@ -10,3 +10,4 @@ pub mod MatcherSizes
 pub mod Enters
 pub mod EntersInOrder
 pub mod ComesAsSent
+pub mod Forgotten

@@ -90,7 +90,7 @@ PolledAsEnded job history =
 abbrev pub PolledOnce : Job → List Entry → Type 0
 PolledOnce job history =
     (newer : List Entry) (e : Entry) (between : List Entry) (f : Entry) (before : List Entry) (recv : RecvNo) (later earlier : Outcome)
-    → history ≡ newer ++ e ∷ between ++ f ∷ before
+    → history ≡ newer ++ e ∷ (between ++ f ∷ before)
     → e.port ≡ f.port
     → open_life (port_deeds job e.port.0 (between ++ f ∷ before)) ≡ open_life (port_deeds job f.port.0 before)
     → e.act ≡ Poll (Recv recv later)

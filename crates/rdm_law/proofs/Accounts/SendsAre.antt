@@ -20,7 +20,7 @@ use Rattle.rdm_law.proofs.Accounts.Wired.{Played, played_before}
 use Rattle.rdm_law.proofs.Accounts.Sent.{SendsAre, agree_sent}
 
 -- an entry of the port while the life is open is a deed of the life
-deed_mine : (job : Job) (e : Entry) (before : List Entry) (life' : Life) → e.port.0 ≡ life'.port.0 → open_life (port_deeds job life'.port.0 before) ≡ Some life'.connid
+pub deed_mine : (job : Job) (e : Entry) (before : List Entry) (life' : Life) → e.port.0 ≡ life'.port.0 → open_life (port_deeds job life'.port.0 before) ≡ Some life'.connid
     → deed_for job e before life' ≡ deed_of (rank_of job life'.port.0).ops e.act
 unfolding deed_for
 deed_mine job e before life' s o =

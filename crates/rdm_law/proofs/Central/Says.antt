@@ -16,6 +16,7 @@ use Rattle.rdm_law.proofs.Matching.Merges.{plainly_paired}
 use Rattle.rdm_law.proofs.Matching.ComesAsSent.{comes_as_sent}
 use Rattle.rdm_law.proofs.Accounts.SendsAre.{sends_are}
 use Rattle.rdm_law.proofs.Ends.PolledEnded.{polled_as_ended}
+use Rattle.rdm_law.proofs.Ends.PolledOnce.{polled_once}
 use Rattle.rdm_law.proofs.Refusals.Counted.{drops_are_other, counts_drops, again_where_full}
 
 -- the wire of a lawful history delivers once
@@ -37,6 +38,7 @@ headline_where free completes job report fair right =
       wire = lawful_wire job report.history right.lawful;
       matched = matches_plainly job report.history fair (free job fair) right.lawful;
       polled = polled_as_ended job report.history fair (free job fair) right.lawful;
+      polled_once = polled_once job report.history fair (free job fair) right.lawful;
       drops = drops_are_other job report.history fair right.lawful;
       counted = counts_drops job report right;
       again = again_where_full job report right;

@@ -1,5 +1,5 @@
 -- How each end of a receive came about, and which completion it makes.
-use Rattle.std.proofs.Common.{◌≡◌, ℕ, true, List, [], ◌∷◌, ◌++◌, map, Option, Some, refl, inl, inr, sym, ◌∙◌, ap, subst}
+use Rattle.std.proofs.Common.{◌≡◌, ℕ, List, [], ◌∷◌, ◌++◌, map, Some, refl, inl, inr, sym, ◌∙◌, ap, subst}
 use Rattle.std.specs.Prelude.{◌==◌, flat_map, option_to_list}
 use Rattle.std.proofs.lemmas.Bool.{eqb-true, eq-eqb}
 use Rattle.rdm_lists.specs.Lists.{Member}
@@ -7,7 +7,6 @@ use Rattle.rdm_num.specs.declared.numbers.RecvNo.{RecvNo}
 use Rattle.rdm_num.specs.declared.completion.Completion.{Completion}
 use Rattle.rdm_num.specs.declared.completion.Completion.TheVariants.{Recv}
 use Rattle.rdm_num.specs.declared.completion.Outcome.{Outcome}
-use Rattle.rdm_match.specs.Matcher.{Pair}
 use Rattle.rdm_model.specs.declared.job.Instr.TheVariants.{Cancel}
 use Rattle.rdm_model.specs.Deeds.{Deed, Did}
 use Rattle.rdm_model.specs.Owns.{Own, Messages, Heads}

@@ -35,7 +35,7 @@ other_most life None = omega arith
 other_most life (Some old) = elim (same_life old life) as (λ b. length (cond b [] (old ∷ [])) ≤ 1) [ true ↦ omega arith | false ↦ omega arith ]
 
 -- so a deed forgets one life at most
-forgotten_most : (before : List Deed) (d : Deed) → length (forgotten_by before d) ≤ 1
+pub forgotten_most : (before : List Deed) (d : Deed) → length (forgotten_by before d) ≤ 1
 unfolding forgotten_by
 forgotten_most before (Did (Insert life)) = other_most life (current before life.port.0)
 forgotten_most before _ = omega arith

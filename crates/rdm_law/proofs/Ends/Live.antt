@@ -69,7 +69,7 @@ unfolding matching events_by run
 cancel_run first heads recv before = refl
 
 -- the same of an equal matching
-absent_at : (n : ℕ) (m k : Matching) → m ≡ k → Absent n m → Absent n k
+pub absent_at : (n : ℕ) (m k : Matching) → m ≡ k → Absent n m → Absent n k
 absent_at n m k e a = subst (λ (x : Matching). Absent n x) e a
 
 -- the matcher by what was heard before is that by what is heard now

@@ -1,14 +1,13 @@
 -- Each polled receive of a lawful history ended as was polled.
-use Rattle.std.proofs.Common.{◌≡◌, ℕ, ◌-◌, Bool, true, List, [], ◌∷◌, ◌++◌, length, take, Option, Some, None, refl, inl, inr, sym, ◌∙◌, ap, subst, ◌⊎◌}
+use Rattle.std.proofs.Common.{◌≡◌, ℕ, ◌-◌, Bool, true, List, take, Option, Some, None, refl, inl, inr, sym, ◌∙◌, ap, subst}
 use Rattle.std.specs.Prelude.{IsTrue, ◌==◌, ◌&&◌}
 use Rattle.std.specs.List.{list_any}
 use Rattle.std.proofs.lemmas.Bool.{eqb-true, and_parts, or_cases}
 use Rattle.rdm_lists.specs.Lists.{Member}
-use Rattle.rdm_num.specs.Lives.{life, same_life, is_life}
+use Rattle.rdm_num.specs.Lives.{same_life, is_life}
 use Rattle.rdm_num.specs.declared.numbers.RecvNo.{RecvNo}
 use Rattle.rdm_num.specs.declared.numbers.PortNo.{PortNo}
 use Rattle.rdm_num.specs.declared.numbers.Connid.{Connid}
-use Rattle.rdm_num.specs.declared.numbers.MsgNo.{MsgNo}
 use Rattle.rdm_num.specs.declared.numbers.Life.{Life}
 use Rattle.rdm_num.specs.declared.head.Head.{Head}
 use Rattle.rdm_num.specs.declared.completion.Completion.{Completion}
@@ -17,7 +16,7 @@ use Rattle.rdm_num.specs.declared.completion.Outcome.{Outcome}
 use Rattle.rdm_num.specs.declared.completion.Outcome.TheVariants.{Took, Cancelled, Gone as GoneOutcome}
 use Rattle.rdm_match.specs.declared.PostedRecv.{PostedRecv}
 use Rattle.rdm_match.specs.declared.Arrived.{Arrived}
-use Rattle.rdm_match.specs.Matcher.{Pair, Matching, accepts, is_recv}
+use Rattle.rdm_match.specs.Matcher.{Pair, accepts, is_recv}
 use Rattle.rdm_model.specs.declared.job.Job.{Job}
 use Rattle.rdm_model.specs.declared.job.Instr.TheVariants.{Cancel}
 use Rattle.rdm_model.specs.declared.entry.Entry.{Entry}
@@ -26,7 +25,7 @@ use Rattle.rdm_model.specs.declared.entry.Act.TheVariants.{Poll}
 use Rattle.rdm_model.specs.Deeds.{Deed, Did, open_life, of_open_life, log_of}
 use Rattle.rdm_model.specs.Owns.{Heads, Messages, own_of, life_at}
 use Rattle.rdm_model.specs.Matches.{Receive, receives, pairs}
-use Rattle.rdm_model.specs.Receives.{RecvEnd, Filled, Withdrawn, Gone, ended_recv, concerns, recv_ends}
+use Rattle.rdm_model.specs.Receives.{RecvEnd, Filled, Withdrawn, Gone, ended_recv, concerns}
 use Rattle.rdm_model.specs.Regions.{kept_bytes}
 use Rattle.rdm_model.specs.Sends.{Sent, sends_to}
 use Rattle.rdm_model.specs.Completions.{took_outcome, outcome, completions, poll_count}
@@ -43,7 +42,7 @@ use Rattle.rdm_law.proofs.Lives.Lives.{life_of}
 use Rattle.rdm_law.proofs.Accounts.Wired.{Played}
 use Rattle.rdm_law.proofs.Accounts.Known.{account}
 use Rattle.rdm_law.proofs.Accounts.Named.{pair_known}
-use Rattle.rdm_law.proofs.Accounts.Sent.{SendsAre, known_placed, agree_sent}
+use Rattle.rdm_law.proofs.Accounts.Sent.{known_placed, agree_sent}
 use Rattle.rdm_law.proofs.Accounts.SendsAre.{sends_are}
 use Rattle.rdm_law.proofs.Matching.Accepts.{pair_accepts}
 use Rattle.rdm_law.proofs.Matching.Merges.{plainly_paired}
@@ -53,7 +52,7 @@ use Rattle.rdm_law.proofs.Central.LawfulPlayed.{lawful_played}
 use Rattle.rdm_law.proofs.Refusals.DroppedOnly.{lawful_at}
 use Rattle.rdm_law.proofs.Ends.Live.{pair_recv}
 use Rattle.rdm_law.proofs.Ends.Ends.{EndGone}
-use Rattle.rdm_law.proofs.Ends.EndKinds.{EndIs, end_is, Completes, completes, found_receive}
+use Rattle.rdm_law.proofs.Ends.EndKinds.{EndIs, end_is, completes, found_receive}
 use Rattle.rdm_law.proofs.Ends.PolledWas.{head_parts, scene_completions}
 use Rattle.rdm_lists.proofs.Members.{filter-member, list_any_member}
 use Rattle.rdm_lists.proofs.Places.{slice_get-member}

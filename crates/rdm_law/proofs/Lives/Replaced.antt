@@ -42,7 +42,7 @@ unfolding was_current
 once_still d before l h = or_left (was_current before l) (is_current (d ∷ before) l) h
 
 -- whether a life is current, by the current life of its port
-life_at : (log : List Deed) (l : Life) (o : Option Life) → current log l.port.0 ≡ o → is_current log l ≡ is_life o l
+pub life_at : (log : List Deed) (l : Life) (o : Option Life) → current log l.port.0 ≡ o → is_current log l ≡ is_life o l
 unfolding is_current
 life_at log l o h = ap (λ (x : Option Life). is_life x l) h
 
@@ -92,7 +92,7 @@ forgets_other x (Some old) l h =
     ]) refl h
 
 -- a life that a deed forgets was current, and another one is now
-forgets_now : (before : List Deed) (d : Deed) (l : Life) → list_any (same_life l) (forgotten_by before d) ≡ true
+pub forgets_now : (before : List Deed) (d : Deed) (l : Life) → list_any (same_life l) (forgotten_by before d) ≡ true
     → (x : Life) × (d ≡ Did (Insert x)) × (current before x.port.0 ≡ Some l) × (same_life l x ≡ false)
 unfolding forgotten_by
 forgets_now before (Did (Insert x)) l h = let r = forgets_other x (current before x.port.0) l h in (x, refl, r.0, r.1)
