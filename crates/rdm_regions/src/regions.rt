@@ -4,6 +4,7 @@ ghost use Rattle.std.specs.FinMap as finite;
 ghost use denote.RawPtr.{Ptr};
 ghost use Rattle.rdm_regions.specs.Ranges.{range};
 ghost use Rattle.rdm_regions.specs.Registry.{Answers, IsLeased, IsLeaseOf, nothing, with_region, with_hold, without_hold, with_lease, bytes_at, after_hold, after_lease, after_lease_back};
+ghost use Rattle.rdm_regions.specs.Survival.{IsSound};
 ghost use Rattle.rdm_regions.specs.Tallies.{IsRegionOf, LacksRegion};
 ghost use Rattle.rdm_regions.specs.Registry as Registry;
 ghost use Rattle.rdm_regions.specs.Tallies as Tallies;
@@ -191,6 +192,13 @@ impl Regions {
             len,
         };
         self.lease_refusal(&range).is_none()
+    }
+
+    /// What is true at all times.
+    pub fn sound_law(&self)
+        ensures { IsSound self.now }
+    {
+        let _alloc = self.alloc;
     }
 
     /// Gives all blocks back, once nothing is leased.
