@@ -61,7 +61,7 @@ found_weighs f (e ∷ es) key x is =
       | false ↦ λ h. let rest = found_weighs f es key x h in omega (arith, sum, rest)
     ] is
 
-key_is : (a k : ℕ) → is_at (nat_cmp a) k ≡ true → a ≡ k
+pub key_is : (a k : ℕ) → is_at (nat_cmp a) k ≡ true → a ≡ k
 key_is a k h = eqb-true a k (sym (unsigned_tied a k) ∙ h)
 
 -- so do two under different numbers together

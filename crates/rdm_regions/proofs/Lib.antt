@@ -28,3 +28,5 @@ pub mod Registering
 mod Emptied
 -- what is true of the regions at all times, as a clause sees them
 pub mod Sound
+-- what the holds and leases of others leave as it was
+mod Survive

@@ -7,19 +7,21 @@ use Rattle.std.specs.BTreeMap.{is_at}
 use Rattle.std.specs.Ordering.{nat_cmp}
 use Rattle.std.specs.FinMap as finite
 use Rattle.std.proofs.lemmas.Bool.{cases_lt}
+use Rattle.std.proofs.lemmas.Bool.Decides.{nat_tests}
 use Rattle.std.proofs.lemmas.Option.{slice_get_cases, slice_get-map, slice_get-get_or, slice_get_past}
 use Rattle.rdm_mr.specs.Tiles.{AreHome}
+use Rattle.rdm_num.specs.Pieces.{overlaps}
 use Rattle.rdm_regions.specs.declared.range.RegionRange.{RegionRange}
 use Rattle.rdm_regions.specs.declared.region.Region.{Region}
 use Rattle.rdm_regions.specs.Ranges.{range, meets, meets_one}
-use Rattle.rdm_regions.specs.Registry.{Registry, Area}
+use Rattle.rdm_regions.specs.Registry.{Registry, Area, refusal_in}
 use Rattle.rdm_regions.specs.Weights.{has}
-use Rattle.rdm_regions.specs.Tallies.{area_of, Lies, Tiled, Keeps}
-use Rattle.rdm_regions.specs.Survival.{LiesIn, IsSound}
-use Rattle.rdm_regions.proofs.Apart.{found_has, two_weigh, none_each}
+use Rattle.rdm_regions.specs.Tallies.{area_of, busy_if, Lies, Tiled, Keeps}
+use Rattle.rdm_regions.specs.Survival.{LiesIn, IsWithin, IsSound}
+use Rattle.rdm_regions.proofs.Apart.{found_has, two_weigh, none_each, each_none}
 use Rattle.rdm_regions.proofs.Busy.{weighs_none}
 use Rattle.rdm_regions.proofs.Changes.{at_index}
-use Rattle.rdm_regions.proofs.Entries.{Entries, map_of, get_is_lookup}
+use Rattle.rdm_regions.proofs.Entries.{Entries, map_of, get_is_lookup, values_are}
 use Rattle.rdm_regions.proofs.Meets.{meets_shares, has_one}
 use Rattle.rdm_regions.proofs.Places.{out_at, home_at, home_from}
 use Rattle.rdm_regions.proofs.Refusals.{registry_of, is_region_of, meets_leased}
@@ -50,6 +52,22 @@ module _ (regions : List Region) where
             subst (λ (q : Region). x.at + x.len ≤ length q.home.cells) there.3 (lies.1 there.0),
           )
       ]
+
+-- a part of a range meets what the range meets
+meets_within : (x y z : RegionRange) → IsWithin y x → meets x z ≡ false → meets y z ≡ false
+unfolding meets overlaps
+meets_within x y z (same, low, high) h = grind (arith, nat_tests)
+
+-- a range that lies in its region, and overlaps nothing that it must not, is not refused
+not_refused_is : (regions : List Region) (x : RegionRange) → x.region < length regions → ((d : Region) → x.at + x.len ≤ length ((get_or regions x.region d).home.cells)) → (busy : Bool) → busy ≡ false → refusal_in (slice_get (each area_of regions) x.region) x busy ≡ None
+not_refused_is regions x lt fits busy free =
+    elim (slice_get_cases regions x.region).1 [
+      | inr past ↦ absurd (let le = past.0 in omega (arith, lt, le))
+      | inl there ↦
+          let r = there.0 in
+          let o = is_region_of x regions r there.1 (at_index regions x.region r there.1 (sym there.3)) (subst (λ (q : Region). x.at + x.len ≤ length q.home.cells) there.3 (fits r)) in
+          o.refusal busy ∙ ap busy_if free
+    ]
 
 module _ (regions : List Region) (held leased : Entries) (k : Keeps regions held leased) where
   found_held : (send : ℕ) (x : RegionRange) → finite.get (map_of held) send ≡ Some x → lookup (is_at (nat_cmp send)) held ≡ Some x
@@ -115,6 +133,12 @@ module _ (regions : List Region) (held leased : Entries) (k : Keeps regions held
     holds_apart = λ send recv x y p q.
         let none = found_has (λ z. list_any (meets z) (values_of leased) ≡ false) held send x k.apart (found_held send x p) in
         found_has (λ z. meets x z ≡ false) leased recv y (none_each (meets x) (values_of leased) none) (found_leased recv y q);
+    held_is_read = λ send x y is within.
+        let found = found_held send x is in
+        let lx = found_has (Lies regions) held send x k.held_lie found in
+        let none = found_has (λ z. list_any (meets z) (values_of leased) ≡ false) held send x k.apart found in
+        let free : meets_one y (map_of leased) ≡ false = ap (list_any (meets y)) (values_are leased k.leased_order) ∙ each_none (meets y) (values_of leased) (λ n d lt. meets_within x y (get_or (values_of leased) n d) within (none_each (meets x) (values_of leased) none n d lt)) in
+        not_refused_is regions y (subst (λ n. n < length regions) (sym within.0) lx.0) (λ d. let fits = lx.1 d in let cells = ap (λ n. length ((get_or regions n d).home.cells)) within.0 in omega (arith, fits, cells, within.2)) (meets_one y (map_of leased)) free;
     away = λ region place area is lt.
         let a = area_is regions region area is in
         let r = a.0 in

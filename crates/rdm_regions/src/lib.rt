@@ -5,8 +5,10 @@ mod range;
 mod region;
 mod regions;
 mod rising;
+mod survival;
 #[cfg(test)]
 mod tests;
 
 pub use range::RegionRefused;
 pub use regions::Regions;
+pub use survival::survival_law;

@@ -1,5 +1,5 @@
 //! All regions, and the ranges of them that are held and leased.
-ghost use Rattle.std.specs.Prelude.{◌≡◌, ◌<◌, ◌++◌, length, is_none, None, IfOk, OnOk, OnErr, MatchResult};
+ghost use Rattle.std.specs.Prelude.{◌≡◌, ◌<◌, ◌++◌, length, is_none, None, Some, IfOk, OnOk, OnErr, MatchResult};
 ghost use Rattle.std.specs.FinMap as finite;
 ghost use denote.RawPtr.{Ptr};
 ghost use Rattle.rdm_regions.specs.Ranges.{range};
@@ -145,6 +145,21 @@ impl Regions {
         }
     }
 
+    /// The bytes of the range, unless it overlaps a leased one. They aren't copied.
+    pub fn bytes(&self, region: RegionNo, at: u64, len: u64) -> Result<&[u8], RegionRefused>
+        ensures { MatchResult result (λ bytes. (Registry.hold_refusal self.now (range region.0 at len) ≡ None) × (bytes.now ≡ bytes_at self.now (range region.0 at len))) (λ why. Registry.hold_refusal self.now (range region.0 at len) ≡ Some why) }
+    {
+        let range = RegionRange {
+            region: region.0,
+            at,
+            len,
+        };
+        match self.hold_refusal(&range) {
+            Some(why) => Err(why),
+            None => Ok(self.regions[range.region as usize].bytes(at, len)),
+        }
+    }
+
     /// Appends the bytes of the range, unless it overlaps a leased one.
     pub fn read_range(
         &self,
@@ -156,17 +171,12 @@ impl Regions {
         ensures answer { Answers (Registry.hold_refusal self.now (range region.0 at len)) (λ _. to.new.items ≡ to.old.items ++ bytes_at self.now (range region.0 at len)) result }
         ensures err { OnErr result (to.new.items ≡ to.old.items) }
     {
-        let range = RegionRange {
-            region: region.0,
-            at,
-            len,
-        };
-        match self.hold_refusal(&range) {
-            Some(why) => Err(why),
-            None => {
-                self.regions[range.region as usize].read(at, len, to)?;
+        match self.bytes(region, at, len) {
+            Ok(bytes) => {
+                to.extend_from_slice(bytes)?;
                 Ok(())
             }
+            Err(why) => Err(why),
         }
     }
 
