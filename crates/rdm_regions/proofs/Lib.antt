@@ -28,5 +28,7 @@ pub mod Registering
 mod Emptied
 -- what is true of the regions at all times, as a clause sees them
 pub mod Sound
+-- holds of several ranges, one after another
+mod Several
 -- what the holds and leases of others leave as it was
 mod Survive

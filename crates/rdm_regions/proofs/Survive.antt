@@ -3,8 +3,6 @@ use Rattle.std.proofs.Common.{◌≡◌, refl, sym, ap, subst, ◌∙◌, ℕ, z
 use Rattle.std.specs.Prelude.{slice_get, ◌||◌, nat_lt, if◌then◌else◌}
 use Rattle.std.specs.List.{All, filter_map, list_any}
 use Rattle.std.specs.Map.{values_of}
-use Rattle.std.specs.Ordering.{nat_cmp, eq_by_cmp}
-use Rattle.std.specs.Cmp.{nat_cmp_total, tied_itself}
 use Rattle.std.specs.FinMap as finite
 use Rattle.std.proofs.lemmas.Bool.{cases_lt, cases_eq, or_parts, ltb-false}
 use Rattle.std.proofs.lemmas.Bool.Decides.{nat_tests}
@@ -17,29 +15,14 @@ use Rattle.rdm_regions.specs.declared.range.RegionRange.{RegionRange}
 use Rattle.rdm_regions.specs.declared.range.RegionRefused.{RegionRefused}
 use Rattle.rdm_regions.specs.declared.range.RegionRefused.TheVariants.{NoRegion, Range, Busy}
 use Rattle.rdm_regions.specs.Ranges.{Ranges, meets, meets_one}
-use Rattle.rdm_regions.specs.Registry.{Registry, Area, IsPartOf, IsLeaseOf, refusal_in, lease_refusal, returned, after_lease_back, with_hold, without_hold, with_lease, with_region, laid_in, cells_at, bytes_at}
+use Rattle.rdm_regions.specs.Registry.{Registry, Area, IsPartOf, IsLeaseOf, refusal_in, lease_refusal, returned, after_lease_back, with_lease, with_region, laid_in, cells_at, bytes_at}
+use Rattle.rdm_regions.specs.Holds.{with_holds, without_holds}
 use Rattle.rdm_regions.specs.Survival.{LiesIn, IsSound, HoldStays, LeaseStays, StayRegistered, StayHeld, StayDropped, StayLeased, StayReturned}
-use Rattle.rdm_regions.proofs.Apart.{key_is, found_has, none_each, meets_back}
+use Rattle.rdm_regions.proofs.Apart.{found_has, none_each, meets_back}
 use Rattle.rdm_regions.proofs.Entries.{find_is_lookup}
 use Rattle.rdm_regions.proofs.Meets.{shares_meet}
+use Rattle.rdm_regions.proofs.Several.{get_beside, get_without, other_number, Outside, get_all, get_but}
 use Rattle.rdm_regions.proofs.Places.{length-laid, laid_before, laid_after}
-
--- another number than the one that is put in or taken out
-not_tied : (q k : ℕ) → (q ≡ k → ⊥) → eq_by_cmp nat_cmp q k ≡ false
-not_tied q k ne = elim (eq_by_cmp nat_cmp q k) as (λ b. eq_by_cmp nat_cmp q k ≡ b → b ≡ false) [ true ↦ λ e. absurd (ne (key_is q k e)) | false ↦ λ e. refl ] refl
-
-pub get_beside : (m : Ranges) (k q : ℕ) (x : RegionRange) → (q ≡ k → ⊥) → finite.get (finite.insert m k x) q ≡ finite.get m q
-get_beside m k q x ne = finite.get-insert nat_cmp_total m k x q ∙ ap (λ b. cond b (Some x) (finite.get m q)) (not_tied q k ne)
-
-pub get_without : (m : Ranges) (k q : ℕ) → (q ≡ k → ⊥) → finite.get (finite.remove m k) q ≡ finite.get m q
-get_without m k q ne = finite.get-remove nat_cmp_total m k q ∙ ap (λ b. cond b None (finite.get m q)) (not_tied q k ne)
-
--- a number that has a range is not one that has none
-other_number : (m : Ranges) (k q : ℕ) (x : RegionRange) → finite.get m k ≡ None → finite.get m q ≡ Some x → q ≡ k → ⊥
-other_number m k q x none some e = no (sym none ∙ ap (finite.get m) (sym e) ∙ some)
-  where
-    no : None ≡ Some x → ⊥
-    no h = cc
 
 -- the bytes of a range whose cells are as they were
 same_bytes : (at len : ℕ) (cells others : List (Option ℕ)) → length others ≡ length cells → at + len ≤ length cells → ((k : ℕ) → at ≤ k → k < at + len → get_or others k None ≡ get_or cells k None) → take len (drop at others) ≡ take len (drop at cells)
@@ -166,10 +149,24 @@ lease_kept r s areas leased recv part lease =
     (lease.0, ap (λ (m : Ranges). finite.get m recv) leased ∙ lease.1, part_stays r s lease.0 part (λ b is. (b, ap (λ l. slice_get l lease.0.region) (sym areas) ∙ is, refl, refl)) lease.2)
 
 pub stay_held : StayHeld
-stay_held r send x none = (λ other y is. (get_beside r.held send other x (other_number r.held send other y none is) ∙ is, refl), λ recv. lease_kept r (with_hold r send x) refl refl recv)
+stay_held r n xs free = (λ other y is. (get_all r.held n xs other (outside other y is) ∙ is, refl), λ recv. lease_kept r (with_holds r n xs) refl refl recv)
+  where
+    no : (y : RegionRange) → None ≡ Some y → ⊥
+    no y h = cc
+
+    outside : (other : ℕ) (y : RegionRange) → finite.get r.held other ≡ Some y → Outside n (length xs) other
+    outside other y is =
+        elim (cases_lt other n) [
+          | inl lt ↦ inl lt
+          | inr le ↦
+              elim (cases_lt other (n + length xs)) [
+                | inl below ↦ absurd (let at : n + (other - n) ≡ other = omega arith in no y (sym (ap (finite.get r.held) (sym at) ∙ free (other - n) (omega arith)) ∙ is))
+                | inr past ↦ inr past
+              ]
+        ]
 
 pub stay_dropped : StayDropped
-stay_dropped r send = (λ other ne y is. (get_without r.held send other ne ∙ is, refl), λ recv. lease_kept r (without_hold r send) refl refl recv)
+stay_dropped r n k = (λ other o y is. (get_but r.held n k other o ∙ is, refl), λ recv. lease_kept r (without_holds r n k) refl refl recv)
 
 -- what a finite map has at a number has what all its values have
 get_has : (P : RegionRange → Type 0) (m : Ranges) (q : ℕ) (y : RegionRange) → All P (finite.values m) → finite.get m q ≡ Some y → P y

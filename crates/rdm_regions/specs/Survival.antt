@@ -1,11 +1,12 @@
 -- What is true of regions at all times, and what the holds and leases of others leave as it was.
-use Rattle.std.specs.Prelude.{◌≡◌, ℕ, ◌+◌, ◌<◌, ◌≤◌, false, is_none, List, length, slice_get, get_or, Option, Some, None}
+use Rattle.std.specs.Prelude.{◌≡◌, ℕ, ◌+◌, ◌<◌, ◌≤◌, ◌⊎◌, false, is_none, List, length, slice_get, get_or, Option, Some, None}
 use Rattle.std.specs.FinMap as map
 use denote.RawPtr.{Ptr}
 use Rattle.rdm_mr.specs.Part.{Piece}
 use Rattle.rdm_regions.specs.declared.range.RegionRange.{RegionRange}
 use Rattle.rdm_regions.specs.Ranges.{range, meets, meets_one}
-use Rattle.rdm_regions.specs.Registry.{Registry, Area, IsLeaseOf, hold_refusal, lease_refusal, bytes_at, with_region, with_hold, without_hold, with_lease, after_lease_back}
+use Rattle.rdm_regions.specs.Registry.{Registry, Area, IsLeaseOf, hold_refusal, lease_refusal, bytes_at, with_region, with_lease, after_lease_back}
+use Rattle.rdm_regions.specs.Holds.{with_holds, without_holds}
 
 -- the range lies in its region
 abbrev pub LiesIn : Registry → RegionRange → Type 0
@@ -28,9 +29,9 @@ pub record IsSound (r : Registry) : Type 0 where
   -- a place is away exactly where a lease has it
   pub away : (region place : ℕ) (area : Area) → slice_get r.areas region ≡ Some area → place < length area.cells → is_none (get_or area.cells place None) ≡ meets_one (range region place 1) r.leased
 
--- the send holds the same range, whose bytes are the same
+-- the same range is held under the number, and its bytes are the same
 abbrev pub HoldStays : Registry → Registry → ℕ → Type 0
-HoldStays before after send = (x : RegionRange) → map.get before.held send ≡ Some x → (map.get after.held send ≡ Some x) × (bytes_at after x ≡ bytes_at before x)
+HoldStays before after n = (x : RegionRange) → map.get before.held n ≡ Some x → (map.get after.held n ≡ Some x) × (bytes_at after x ≡ bytes_at before x)
 
 -- the part of the receive's lease is still that
 abbrev pub LeaseStays : Registry → Registry → ℕ → Type 0
@@ -44,13 +45,13 @@ AllStay before after = ((send : ℕ) → HoldStays before after send) × ((recv 
 abbrev pub StayRegistered : Type 0
 StayRegistered = (r : Registry) (block : Ptr) (bytes : List ℕ) → IsSound r → AllStay r (with_region r block bytes)
 
--- where another send comes to hold a range
+-- where ranges come to be held under the numbers from n on, of which none holds one
 abbrev pub StayHeld : Type 0
-StayHeld = (r : Registry) (send : ℕ) (x : RegionRange) → map.get r.held send ≡ None → AllStay r (with_hold r send x)
+StayHeld = (r : Registry) (n : ℕ) (xs : List RegionRange) → ((i : ℕ) → i < length xs → map.get r.held (n + i) ≡ None) → AllStay r (with_holds r n xs)
 
--- where another send drops its hold
+-- where what is held under the k numbers from n on is dropped
 abbrev pub StayDropped : Type 0
-StayDropped = (r : Registry) (send : ℕ) → ((other : ℕ) → (other ≡ send → ⊥) → HoldStays r (without_hold r send) other) × ((recv : ℕ) → LeaseStays r (without_hold r send) recv)
+StayDropped = (r : Registry) (n k : ℕ) → ((other : ℕ) → (other < n) ⊎ (n + k ≤ other) → HoldStays r (without_holds r n k) other) × ((recv : ℕ) → LeaseStays r (without_holds r n k) recv)
 
 -- where a range goes out for another receive
 abbrev pub StayLeased : Type 0
