@@ -47,10 +47,10 @@ module _ (regions : List Region) where
       elim (slice_get_cases regions x.region).1 [
         | inr past ↦ absurd (let le = past.0 in omega (arith, lies.0, le))
         | inl there ↦ (
-            area_of there.0,
-            slice_get-map area_of regions x.region ∙ ap (option_map area_of) (slice_get-get_or regions x.region there.0 there.1 ∙ ap Some there.3),
-            subst (λ (q : Region). x.at + x.len ≤ length q.home.cells) there.3 (lies.1 there.0),
-          )
+          area_of there.0,
+          slice_get-map area_of regions x.region ∙ ap (option_map area_of) (slice_get-get_or regions x.region there.0 there.1 ∙ ap Some there.3),
+          subst (λ (q : Region). x.at + x.len ≤ length q.home.cells) there.3 (lies.1 there.0),
+        )
       ]
 
 -- a part of a range meets what the range meets
