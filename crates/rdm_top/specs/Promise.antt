@@ -21,9 +21,11 @@ is_replay (word ∷ []) = bytes_eq (string_bytes word) (codes "replay")
 is_replay (word ∷ _ ∷ _) = false
 
 -- the input was read to its end, and is the script of a job whose report is this: the one that is played. It is right: its
--- history is lawful and settled, and it says of each rank what the history says. So each sender's messages enter in the order
--- of their sending, each receive and each message is matched once at most, each completed receive has what was sent, or its
--- first bytes and the count of the others, and what was matched between standing lives is complete
+-- history is lawful and settled, and it says of each rank what the history says. What this means is said in words of messages,
+-- receives and lives: the plain matcher makes the pairs, of each sender's messages in the order of their sending; each polled
+-- receive has the message that it was matched to, was cancelled, or is gone with a life, and is polled once; each drop is of
+-- another life, changes nothing and is counted; an instruction is to be tried again only where a pool is full; and what was
+-- matched between standing lives is complete
 pub record Plays (left rest : Option (List ℕ)) (report : Report) : Type 0 where
   pub bytes : List ℕ
   pub job : Job
