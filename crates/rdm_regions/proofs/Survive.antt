@@ -1,23 +1,18 @@
 -- What the holds and leases of others leave as it was.
-use Rattle.std.proofs.Common.{◌≡◌, refl, sym, ap, subst, ◌∙◌, ℕ, zero, suc, ◌+◌, ◌-◌, ◌<◌, ◌≤◌, ◌⊎◌, inl, inr, Bool, true, false, cond, List, [], ◌∷◌, ◌++◌, length, get_or, take, drop, map as each, replicate, Option, Some, None, arith}
+use Rattle.std.proofs.Common.{◌≡◌, refl, sym, ap, subst, ◌∙◌, ℕ, zero, suc, ◌+◌, ◌-◌, ◌<◌, ◌≤◌, ◌⊎◌, inl, inr, Bool, true, false, List, [], ◌∷◌, ◌++◌, length, get_or, take, drop, map as each, replicate, Option, Some, None, arith}
 use Rattle.std.specs.Prelude.{slice_get, ◌||◌, nat_lt, if◌then◌else◌}
-use Rattle.std.specs.List.{All, filter_map, list_any}
-use Rattle.std.specs.Map.{values_of}
+use Rattle.std.specs.List.{All, filter_map}
 use Rattle.std.specs.FinMap as finite
 use Rattle.std.proofs.lemmas.Bool.{cases_lt, cases_eq, or_parts, ltb-false}
-use Rattle.std.proofs.lemmas.Bool.Decides.{nat_tests}
 use Rattle.std.proofs.lemmas.List.{length-map, length-replicate, length-take-le, length-drop, get_or-take, get_or-drop, ext_get_or}
-use Rattle.std.proofs.lemmas.Option.{slice_get_within}
-use Rattle.rdm_num.specs.Pieces.{overlaps}
 use Rattle.rdm_mr.specs.Part.{Piece}
 use Rattle.rdm_mr.specs.Tiles.{laid}
 use Rattle.rdm_regions.specs.declared.range.RegionRange.{RegionRange}
-use Rattle.rdm_regions.specs.declared.range.RegionRefused.{RegionRefused}
-use Rattle.rdm_regions.specs.declared.range.RegionRefused.TheVariants.{NoRegion, Range, Busy}
+use Rattle.rdm_regions.specs.declared.range.RegionRefused.TheVariants.{Range, Busy}
 use Rattle.rdm_regions.specs.Ranges.{Ranges, meets, meets_one}
-use Rattle.rdm_regions.specs.Registry.{Registry, Area, IsPartOf, IsLeaseOf, refusal_in, lease_refusal, returned, after_lease_back, with_lease, with_region, laid_in, cells_at, bytes_at}
+use Rattle.rdm_regions.specs.Registry.{Registry, Area, IsPartOf, refusal_in, returned, with_lease, with_region, laid_in, cells_at}
 use Rattle.rdm_regions.specs.Holds.{with_holds, without_holds}
-use Rattle.rdm_regions.specs.Survival.{LiesIn, IsSound, HoldStays, LeaseStays, StayRegistered, StayHeld, StayDropped, StayLeased, StayReturned}
+use Rattle.rdm_regions.specs.Survival.{HoldStays, LeaseStays, StayRegistered, StayHeld, StayDropped, StayLeased, StayReturned}
 use Rattle.rdm_regions.proofs.Apart.{found_has, none_each, meets_back}
 use Rattle.rdm_regions.proofs.Entries.{find_is_lookup}
 use Rattle.rdm_regions.proofs.Meets.{shares_meet}
@@ -134,10 +129,10 @@ pub stay_registered : StayRegistered
 stay_registered r block bytes sound = (
   λ send x is. let in_it = sound.held_lie send x is in (is, ap (λ cs. filter_map (λ (c : Option ℕ). c) (take x.len (drop x.at cs))) (cells_push r.areas (record { block = block; cells = each Some bytes }) x.region in_it.0 in_it.1)),
   λ recv part lease.
-  let x = lease.0 in
-  let in_it = sound.leased_lie recv x lease.1 in
-  let new : Area = record { block = block; cells = each Some bytes } in
-  (x, lease.1, part_stays r (with_region r block bytes) x part (λ b is. let same = some_same (sym (slice_push r.areas new x.region in_it.0 in_it.1) ∙ is) in (in_it.0, in_it.1, ap (λ (c : Area). c.block) same, ap (λ (c : Area). length c.cells) same)) lease.2),
+      let x = lease.0 in
+      let in_it = sound.leased_lie recv x lease.1 in
+      let new : Area = record { block = block; cells = each Some bytes } in
+      (x, lease.1, part_stays r (with_region r block bytes) x part (λ b is. let same = some_same (sym (slice_push r.areas new x.region in_it.0 in_it.1) ∙ is) in (in_it.0, in_it.1, ap (λ (c : Area). c.block) same, ap (λ (c : Area). length c.cells) same)) lease.2),
 )
   where
     some_same : {c d : Area} → Some c ≡ Some d → c ≡ d
@@ -190,15 +185,16 @@ pub stay_leased : StayLeased
 stay_leased r recv y sound none allowed =
     let free = not_refused (slice_get r.areas y.region) y (meets_one y r.leased || meets_one y r.held) allowed in
     let gone : length (replicate {A = Option ℕ} y.len None) ≡ y.len = length-replicate y.len None in
-    let clear = (or_parts (meets_one y r.leased) (meets_one y r.held) free.3).1 in
-    (
+    let clear = (or_parts (meets_one y r.leased) (meets_one y r.held) free.3).1 in (
       λ send x is.
-      let in_it = sound.held_lie send x is in
-      let apart = meets_back y x (get_has (λ z. meets y z ≡ false) r.held send x (none_each (meets y) (finite.values r.held) clear) is) in
-      (is, ap (filter_map (λ (c : Option ℕ). c)) (bytes_beside r.areas x y (replicate y.len None) in_it.0 free.0 gone in_it.1 in_it.2 free.1 free.2 apart)),
-      λ other part lease.
-      (lease.0, get_beside r.leased recv other y (other_number r.leased recv other lease.0 none lease.1) ∙ lease.1,
-        part_stays r (with_lease r recv y) lease.0 part (λ b is. alike_laid r.areas y.region y.at (replicate y.len None) (λ a there. fits_area y free.0 free.2 (replicate y.len None) gone a (sym free.1 ∙ there)) lease.0.region b is) lease.2),
+          let in_it = sound.held_lie send x is in
+          let apart = meets_back y x (get_has (λ z. meets y z ≡ false) r.held send x (none_each (meets y) (finite.values r.held) clear) is) in
+          (is, ap (filter_map (λ (c : Option ℕ). c)) (bytes_beside r.areas x y (replicate y.len None) in_it.0 free.0 gone in_it.1 in_it.2 free.1 free.2 apart)),
+      λ other part lease. (
+        lease.0,
+        get_beside r.leased recv other y (other_number r.leased recv other lease.0 none lease.1) ∙ lease.1,
+        part_stays r (with_lease r recv y) lease.0 part (λ b is. alike_laid r.areas y.region y.at (replicate y.len None) (λ a there. fits_area y free.0 free.2 (replicate y.len None) gone a (sym free.1 ∙ there)) lease.0.region b is) lease.2,
+      ),
     )
 
 -- what comes back where a range was leased
@@ -212,9 +208,11 @@ stay_returned r recv part sound lease =
     let long : length (each {A = ℕ} {B = Option ℕ} Some part.bytes) ≡ y.len = length-map part.bytes Some ∙ lease.2.len in
     subst (StayBeside r recv) (ap (λ o. returned o r recv part.bytes) (sym lease.1)) (
       λ send x is.
-      let held_in = sound.held_lie send x is in
-      (is, ap (filter_map (λ (c : Option ℕ). c)) (bytes_beside r.areas x y (each Some part.bytes) held_in.0 in_it.0 long held_in.1 held_in.2 in_it.1 in_it.2 (sound.holds_apart send recv x y is lease.1))),
-      λ other ne p l.
-      (l.0, get_without r.leased recv other ne ∙ l.1,
-        part_stays r (returned (Some y) r recv part.bytes) l.0 p (λ b is. alike_laid r.areas y.region y.at (each Some part.bytes) (λ a there. fits_area y in_it.0 in_it.2 (each Some part.bytes) long a (sym in_it.1 ∙ there)) l.0.region b is) l.2),
+          let held_in = sound.held_lie send x is in
+          (is, ap (filter_map (λ (c : Option ℕ). c)) (bytes_beside r.areas x y (each Some part.bytes) held_in.0 in_it.0 long held_in.1 held_in.2 in_it.1 in_it.2 (sound.holds_apart send recv x y is lease.1))),
+      λ other ne p l. (
+        l.0,
+        get_without r.leased recv other ne ∙ l.1,
+        part_stays r (returned (Some y) r recv part.bytes) l.0 p (λ b is. alike_laid r.areas y.region y.at (each Some part.bytes) (λ a there. fits_area y in_it.0 in_it.2 (each Some part.bytes) long a (sym in_it.1 ∙ there)) l.0.region b is) l.2,
+      ),
     )
