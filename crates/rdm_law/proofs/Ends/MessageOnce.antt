@@ -1,35 +1,29 @@
 -- No message that came to a life is polled twice.
-use Rattle.std.proofs.Common.{◌≡◌, ℕ, List, [], ◌∷◌, ◌++◌, Option, Some, refl, sym, ◌∙◌, ap, subst}
+use Rattle.std.proofs.Common.{◌≡◌, ℕ, List, [], ◌∷◌, ◌++◌, Some, refl, sym, ◌∙◌, ap, subst}
 use Rattle.std.specs.Prelude.{IsTrue, ◌==◌}
 use Rattle.std.proofs.lemmas.Bool.{eqb-true}
 use Rattle.std.proofs.lemmas.List.{append_assoc}
 use Rattle.rdm_lists.specs.Lists.{Member}
 use Rattle.rdm_num.specs.Lives.{life}
-use Rattle.rdm_num.specs.declared.numbers.Connid.{Connid}
-use Rattle.rdm_num.specs.declared.numbers.MsgNo.{MsgNo}
 use Rattle.rdm_num.specs.declared.numbers.PortNo.{PortNo}
 use Rattle.rdm_num.specs.declared.numbers.RecvNo.{RecvNo}
 use Rattle.rdm_num.specs.declared.numbers.Life.{Life}
 use Rattle.rdm_num.specs.declared.completion.Completion.TheVariants.{Recv}
-use Rattle.rdm_num.specs.declared.completion.Outcome.{Outcome}
-use Rattle.rdm_match.specs.declared.PostedRecv.{PostedRecv}
 use Rattle.rdm_match.specs.declared.Arrived.{Arrived}
 use Rattle.rdm_match.specs.Matcher.{Pair, Matching}
 use Rattle.rdm_model.specs.declared.job.Job.{Job}
 use Rattle.rdm_model.specs.declared.entry.Entry.{Entry}
-use Rattle.rdm_model.specs.declared.entry.Act.{Act}
 use Rattle.rdm_model.specs.declared.entry.Act.TheVariants.{Poll}
-use Rattle.rdm_model.specs.Deeds.{Deed, deed_of, open_life}
+use Rattle.rdm_model.specs.Deeds.{Deed, deed_of}
 use Rattle.rdm_model.specs.Owns.{own_of, rank_of}
 use Rattle.rdm_model.specs.Local.{heard_by}
 use Rattle.rdm_model.specs.Matches.{Receive, receives, pairs}
 use Rattle.rdm_model.specs.Receives.{receive_numbered}
 use Rattle.rdm_model.specs.Jobs.{is_fair, law_ops}
-use Rattle.rdm_model.specs.Lawful.{port_deeds, life_deeds, sent_to, Lawful}
+use Rattle.rdm_model.specs.Lawful.{life_deeds, sent_to, Lawful}
 use Rattle.rdm_model.proofs.Matches.{pair_still}
 use Rattle.rdm_model.proofs.SameMatches.{pairs_same}
-use Rattle.rdm_law.specs.Matched.{plain_pairs}
-use Rattle.rdm_law.specs.Polled.{IsMatched, PollsMatched, MessagePolledOnce}
+use Rattle.rdm_law.specs.Polled.{IsMatched, MessagePolledOnce}
 use Rattle.rdm_law.proofs.Accounts.Wired.{Played}
 use Rattle.rdm_law.proofs.Accounts.Known.{account}
 use Rattle.rdm_law.proofs.Accounts.Named.{pairs_of}
@@ -41,7 +35,7 @@ use Rattle.rdm_law.proofs.Refusals.DroppedOnly.{lawful_at}
 use Rattle.rdm_law.proofs.Matching.Distinct.{matching_distinct}
 use Rattle.rdm_law.proofs.Matching.Received.{receive_stands}
 use Rattle.rdm_law.proofs.Ends.Live.{earlier_matching}
-use Rattle.rdm_law.proofs.Ends.PolledEnded.{pairs_at, pairs_plain}
+use Rattle.rdm_law.proofs.Ends.PolledEnded.{pairs_plain}
 use Rattle.rdm_law.proofs.Ends.PolledOnce.{polled_once}
 use Rattle.rdm_lists.proofs.Members.{find_member}
 
