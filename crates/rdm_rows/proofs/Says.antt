@@ -28,8 +28,11 @@ use Rattle.rdm_model.specs.Lawful.{port_deeds, life_deeds}
 use Rattle.rdm_law.specs.Matched.{merge_in, plain_pairs}
 use Rattle.rdm_law.specs.Polled.{IsMatched, PollsMatched}
 use Rattle.rdm_law.specs.Headline.{SaysRight}
+use Rattle.rdm_law.proofs.Central.TheLaw.{the_headline}
 use Rattle.rdm_rows.proofs.Greeting as Greeting
 use Rattle.rdm_rows.proofs.Greeting.{datagram_0_0, datagram_0_1, datagram_0_2, datagram_1_0, datagram_1_1}
+use Rattle.rdm_rows.proofs.Greeted as Greeted
+use Rattle.rdm_rows.proofs.Fairness.{greeting_is_fair}
 use Rattle.rdm_rows.proofs.Refused.{before_poll}
 use Rattle.rdm_rows.specs.Words.{every_word}
 
@@ -65,6 +68,10 @@ greeting o = after_poll ++ polls 9 0 o ∷ before_poll
 -- with `hello` it is the greeting
 greeting_is : greeting hello ≡ Greeting.history
 greeting_is = refl
+
+-- and the report of the greeting says all of it
+greeting_says : SaysRight Greeting.job Greeted.report
+greeting_says = the_headline Greeting.job Greeted.report greeting_is_fair Greeted.report_is_right
 
 -- the identifier that rank 1 has open
 seven : (c : Connid) → Some (record { 0 = 7 }) ≡ Some c → record { 0 = 7 } ≡ c
