@@ -14,3 +14,4 @@ pub mod PolledEnded
 pub mod ApartEnds
 pub mod EndsOnce
 pub mod PolledOnce
+pub mod MessageOnce

@@ -76,9 +76,7 @@ MatchedOnce job history =
     → Share p q
     → k ≡ l
 
--- the pairs of every life are the plain matcher's on all that came to it, of each sender what it sent and in that order;
--- so each receive and each message is matched once at most
+-- the pairs of every life are the plain matcher's on all that came to it, and that is of each sender what it sent, in that order
 pub record MatchesPlainly (job : Job) (history : List Entry) : Type 0 where
   pub pairs_are : (i : Life) → pairs_in job history i ≡ plain_pairs job history i
   pub come : ComeAsSent job history
-  pub once : MatchedOnce job history

@@ -96,3 +96,23 @@ PolledOnce job history =
     → e.act ≡ Poll (Recv recv later)
     → f.act ≡ Poll (Recv recv earlier)
     → ⊥
+
+-- the entry polls a receive of the life with that identifier, which is open, and the receive was matched to that message
+pub record PollsMatched (job : Job) (before : List Entry) (e : Entry) (connid : Connid) (message : Arrived) : Type 0 where
+  pub recv : RecvNo
+  pub outcome : Outcome
+  pub act_is : e.act ≡ Poll (Recv recv outcome)
+  pub is_open : open_life (port_deeds job e.port.0 before) ≡ Some connid
+  pub receive : Receive
+  pub is_receive : receive_numbered (receives (life_deeds job before (life e.port connid))) recv.0 ≡ Some receive
+  pub matched : IsMatched job before (life e.port connid) receive message
+
+-- no message that came to a life is polled twice
+abbrev pub MessagePolledOnce : Job → List Entry → Type 0
+MessagePolledOnce job history =
+    (newer : List Entry) (e : Entry) (between : List Entry) (f : Entry) (before : List Entry) (connid : Connid) (message : Arrived)
+    → history ≡ newer ++ e ∷ (between ++ f ∷ before)
+    → e.port ≡ f.port
+    → PollsMatched job (between ++ f ∷ before) e connid message
+    → PollsMatched job before f connid message
+    → ⊥

@@ -26,10 +26,13 @@ use Rattle.rdm_model.specs.Matches.{Receive, receives}
 use Rattle.rdm_model.specs.Receives.{receive_numbered}
 use Rattle.rdm_model.specs.Lawful.{port_deeds, life_deeds}
 use Rattle.rdm_law.specs.Matched.{merge_in, plain_pairs}
-use Rattle.rdm_law.specs.Polled.{IsMatched}
+use Rattle.rdm_law.specs.Polled.{IsMatched, PollsMatched}
 use Rattle.rdm_law.specs.Headline.{SaysRight}
+use Rattle.rdm_law.proofs.Central.TheLaw.{the_headline}
 use Rattle.rdm_rows.proofs.Greeting as Greeting
 use Rattle.rdm_rows.proofs.Greeting.{datagram_0_0, datagram_0_1, datagram_0_2, datagram_1_0, datagram_1_1}
+use Rattle.rdm_rows.proofs.Greeted as Greeted
+use Rattle.rdm_rows.proofs.Fairness.{greeting_is_fair}
 use Rattle.rdm_rows.proofs.Refused.{before_poll}
 use Rattle.rdm_rows.specs.Words.{every_word}
 
@@ -65,6 +68,10 @@ greeting o = after_poll ++ polls 9 0 o ∷ before_poll
 -- with `hello` it is the greeting
 greeting_is : greeting hello ≡ Greeting.history
 greeting_is = refl
+
+-- and the report of the greeting says all of it
+greeting_says : SaysRight Greeting.job Greeted.report
+greeting_says = the_headline Greeting.job Greeted.report greeting_is_fair Greeted.report_is_right
 
 -- the identifier that rank 1 has open
 seven : (c : Connid) → Some (record { 0 = 7 }) ≡ Some c → record { 0 = 7 } ≡ c
@@ -113,6 +120,33 @@ gone_is_refused ends s =
 second_poll_is_refused : (o : Outcome) (ends : List End) → SaysRight Greeting.job (told (polls 10 0 o ∷ polls 9 0 hello ∷ before_poll) ends) → ⊥
 unfolding every_word
 second_poll_is_refused o ends s = s.polled_once [] (polls 10 0 o) [] (polls 9 0 hello) before_poll (record { 0 = 0 }) o hello refl refl refl refl refl
+
+-- the receive of the greeting, as it was accepted
+abbrev greeting_receive : Receive
+greeting_receive =
+    record {
+      number = 0;
+      req = record { from = None; region = record { 0 = 0 }; at = 0; len = 8; want = Some (record { tag = 7; ignore = 0 }) };
+      posted = record { id = record { 0 = 0 }; from = None; want = Some (record { tag = 7; ignore = 0 }) };
+    }
+
+-- the first message of rank 0, as it comes to rank 1
+abbrev greeting_message : Arrived
+greeting_message = record { life = sender; no = record { 0 = 0 }; tag = Some 7 }
+
+-- it was matched to that receive, before and after the poll
+first_polls : PollsMatched Greeting.job before_poll (polls 9 0 hello) (record { 0 = 7 }) greeting_message
+unfolding every_word merge_in plain_pairs
+first_polls = record { recv = record { 0 = 0 }; outcome = hello; act_is = refl; is_open = refl; receive = greeting_receive; is_receive = refl; matched = inl refl }
+
+second_polls : (o : Outcome) → PollsMatched Greeting.job (polls 9 0 hello ∷ before_poll) (polls 10 0 o) (record { 0 = 7 }) greeting_message
+unfolding every_word merge_in plain_pairs
+second_polls o = record { recv = record { 0 = 0 }; outcome = o; act_is = refl; is_open = refl; receive = greeting_receive; is_receive = refl; matched = inl refl }
+
+-- a message that is polled once more
+message_again_is_refused : (o : Outcome) (ends : List End) → SaysRight Greeting.job (told (polls 10 0 o ∷ polls 9 0 hello ∷ before_poll) ends) → ⊥
+message_again_is_refused o ends s =
+    s.message_once [] (polls 10 0 o) [] (polls 9 0 hello) before_poll (record { 0 = 7 }) greeting_message refl refl (second_polls o) first_polls
 
 abbrev twice_ops : List Instr
 twice_ops =

@@ -11,12 +11,12 @@ use Rattle.rdm_law.specs.Matched.{MatchesPlainly}
 use Rattle.rdm_law.specs.Headline.{Headline}
 use Rattle.rdm_law.proofs.Classes.ClassLives.{AllFree}
 use Rattle.rdm_law.proofs.Central.LawfulPlayed.{lawful_order, lawful_played}
-use Rattle.rdm_law.proofs.Matching.MatchedOnce.{matched_once}
 use Rattle.rdm_law.proofs.Matching.Merges.{plainly_paired}
 use Rattle.rdm_law.proofs.Matching.ComesAsSent.{comes_as_sent}
 use Rattle.rdm_law.proofs.Accounts.SendsAre.{sends_are}
 use Rattle.rdm_law.proofs.Ends.PolledEnded.{polled_as_ended}
 use Rattle.rdm_law.proofs.Ends.PolledOnce.{polled_once}
+use Rattle.rdm_law.proofs.Ends.MessageOnce.{message_once}
 use Rattle.rdm_law.proofs.Refusals.Counted.{drops_are_other, counts_drops, again_where_full}
 
 -- the wire of a lawful history delivers once
@@ -28,7 +28,7 @@ lawful_wire job (e ∷ before) l = (lawful_wire job before l.0, l.2)
 matches_plainly : (job : Job) (history : List Entry) → IsTrue (is_fair law_ops job) → AllFree job → Lawful job history → MatchesPlainly job history
 matches_plainly job history fair free lawful =
     let played = lawful_played job history fair free lawful in
-    record { pairs_are = plainly_paired job history; come = comes_as_sent job history played (sends_are job history played); once = matched_once job history }
+    record { pairs_are = plainly_paired job history; come = comes_as_sent job history played (sends_are job history played) }
 
 -- the headline, where what settles is complete and what arrives passes each test
 pub headline_where : ((job : Job) → IsTrue (is_fair law_ops job) → AllFree job) → Completes → Headline
@@ -39,6 +39,7 @@ headline_where free completes job report fair right =
       matched = matches_plainly job report.history fair (free job fair) right.lawful;
       polled = polled_as_ended job report.history fair (free job fair) right.lawful;
       polled_once = polled_once job report.history fair (free job fair) right.lawful;
+      message_once = message_once job report.history fair (free job fair) right.lawful;
       drops = drops_are_other job report.history fair right.lawful;
       counted = counts_drops job report right;
       again = again_where_full job report right;

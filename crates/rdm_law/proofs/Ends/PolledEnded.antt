@@ -59,16 +59,16 @@ use Rattle.rdm_lists.proofs.Places.{slice_get-member}
 use Rattle.rdm_num.proofs.Lives.{same_life-true, same_life-refl}
 
 -- the pairs of a life, by what was sent to it
-abbrev pairs_at : Job → List Entry → Life → List Pair
+abbrev pub pairs_at : Job → List Entry → Life → List Pair
 pairs_at job history i = pairs (own_of job i).limits.first (sent_to job history i).head (life_deeds job history i)
 
 -- they are the plain matcher's
-pairs_plain : (job : Job) (history : List Entry) (i : Life) → pairs_at job history i ≡ plain_pairs job history i
+pub pairs_plain : (job : Job) (history : List Entry) (i : Life) → pairs_at job history i ≡ plain_pairs job history i
 unfolding own_of pairs_in
 pairs_plain job history i = plainly_paired job history i
 
 -- the receive of a pair is the accepted one of its number
-pair_receive : (first : ℕ) (heads : Heads) (log : List Deed) (r : Receive) (p : Pair) → Member p (pairs first heads log) → Member r (receives log) → r.number ≡ p.recv.id.0 → r.posted ≡ p.recv
+pub pair_receive : (first : ℕ) (heads : Heads) (log : List Deed) (r : Receive) (p : Pair) → Member p (pairs first heads log) → Member r (receives log) → r.number ≡ p.recv.id.0 → r.posted ≡ p.recv
 pair_receive first heads log r p m accepted is =
     let mine = pair_recv first heads log p m in
     ap (λ (x : Receive). x.posted) (receive_once log r mine.recv accepted mine.accepted (is ∙ sym mine.number_is)) ∙ mine.posted_is
