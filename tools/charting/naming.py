@@ -3,34 +3,51 @@
 A report shows short packets byte for byte and longer ones by a digest. What a longer one carries is told from what
 stands around it, as far as that is certain; the job, where it is given, tells the rest.
 """
-from .jobs import granted_piece
+from dataclasses import dataclass, field
+
 from .ordering import deduce, hold, least_open
-from .packets import Packet
+from .packets import CTSDATA_HEAD, Packet
 from .reading import Bad
 
 
+@dataclass(eq=False)
 class Life:
-    def __init__(self, port, connid, opened):
-        self.port, self.connid, self.opened, self.closed = port, connid, opened, None
-        self.sends, self.openers, self.grants, self.told = {}, [], {}, {}
-        self.current, self.words = {}, {}        # by port; by life of a peer
-        self.polled, self.bounds = set(), []     # for each of the openers the sends that it can be of
+    port: int
+    connid: int | None
+    opened: int
+    closed: int | None = None
+    sends: dict = field(default_factory=dict)
+    openers: list = field(default_factory=list)     # the datagrams that opened messages
+    bounds: list = field(default_factory=list)      # for each of them the sends that it can be of
+    grants: dict = field(default_factory=dict)      # by send
+    told: dict = field(default_factory=dict)        # by send the kind that a reply told
+    current: dict = field(default_factory=dict)     # by port
+    words: dict = field(default_factory=dict)       # by life of a peer
+    polled: set = field(default_factory=set)
 
     @property
     def name(self):
         return "%d.%s" % (self.port, "?" if self.connid is None else self.connid)
 
 
+@dataclass
 class Send:
-    def __init__(self, message, to, packets):
-        self.message, self.to, self.packets, self.polled = message, to, packets, False
+    message: int
+    to: int | None
+    packets: list         # those that will open its message, where the job tells them
+    polled: bool = False
 
 
+@dataclass
 class Grant:
     """What a peer let a send's CTSDATA packets carry and they didn't carry yet."""
 
-    def __init__(self, send, recv, peer, offset):
-        self.send, self.recv, self.peer, self.offset, self.left, self.named = send, recv, peer, offset, 0, []
+    send: int
+    recv: int
+    peer: tuple
+    offset: int | None
+    left: int = 0
+    named: list = field(default_factory=list)
 
     def give(self, packet, count):
         """The packet is the next of these; a known offset tells those of all before it."""
@@ -48,6 +65,8 @@ class Grant:
 
 
 class Naming:
+    """One walk over the history; it writes what it tells into the entries and datagrams."""
+
     def __init__(self, report, job=None):
         self.report, self.job = report, job
         self.now = [None] * len(report.ends)     # the open life of each port
@@ -79,6 +98,8 @@ class Naming:
         elif word == "insert" and op:
             insert(e.life, op["port"], op["connid"])
         elif word == "send":
+            if int(number) != len(e.life.sends):
+                raise Bad(e.line, "send %d of this life is expected" % len(e.life.sends))
             packets = []
             if op:
                 peer = (op["to"], e.life.current.get(op["to"]))
@@ -115,7 +136,7 @@ class Naming:
             if grants and (p is None or p.recv in [g.recv for g in grants]):
                 g = min(grants, key=lambda one: one.send) if p is None else \
                     next(one for one in grants if one.recv == p.recv)
-                p = d.packet = p or Packet("CTSDATA", recv=g.recv, count=granted_piece(d.length))
+                p = d.packet = p or Packet("CTSDATA", recv=g.recv, count=d.length - CTSDATA_HEAD)
                 p.message, p.send = life.sends[g.send].message if g.send in life.sends else None, g.send
                 g.give(p, p.count)
                 return
@@ -164,7 +185,7 @@ class Naming:
             p.message = d.enters[0]
 
     def tell(self, life, port, send, kind):
-        """A reply names a send; so the packets that opened its message are of this kind. Gives the first part's size."""
+        """A reply names a send: the packets that opened its message are of this kind. Gives the first part's size."""
         life.told[send] = kind
         message = life.sends[send].message if send in life.sends else None
         size = None

@@ -17,7 +17,7 @@ def deduce(life):
 
     So where every send was polled as ok, a packet can only be of a few sends, and often of one alone.
     """
-    if not life.bounds or not all(s.polled for s in life.sends.values()):
+    if not life.bounds or not life.sends or not all(s.polled for s in life.sends.values()):
         return
     packets = [d.packet for d in life.openers]
     low, high = [b[0] for b in life.bounds], [b[1] for b in life.bounds]
@@ -42,7 +42,7 @@ def one_of(life, message, low, high):
     """The sends of this message number between the bounds, but where they are many."""
     if message is None or high - low > 64:
         return []
-    return [n for n in range(low, high + 1) if life.sends[n].message == message]
+    return [n for n in range(low, high + 1) if n in life.sends and life.sends[n].message == message]
 
 
 def tell_sends(life, packets, low, high):

@@ -4,6 +4,7 @@ Receipts (type 10), the confirmed kinds (types 200 to 205) and a HANDSHAKE with 
 no program of this repository pushes them yet.
 """
 import struct
+from dataclasses import dataclass
 
 RAW, CQ_DATA, TAGGED, CONNID = 1, 2, 8, 1 << 15
 OPENERS = {64: "eager", 66: "medium", 68: "long-CTS", 128: "long-read", 192: "runt"}
@@ -13,15 +14,24 @@ RANGE = 24
 CTSDATA_HEAD = 28
 
 
+@dataclass(eq=False, slots=True)
 class Packet:
     """A packet as far as it is known; what isn't known is None."""
 
-    def __init__(self, kind, **known):
-        self.kind = kind          # a word of OPENERS, or CTS, CTSDATA, EOR, HANDSHAKE, RECEIPT, opener
-        self.message = self.tag = self.data = self.whole = self.offset = self.count = None
-        self.send = self.recv = self.grant = self.word = self.runt = self.connid = None
-        self.confirmed = False
-        self.__dict__.update(known)
+    kind: str                     # a word of OPENERS, or CTS, CTSDATA, EOR, HANDSHAKE, RECEIPT, opener
+    message: int | None = None
+    tag: int | None = None
+    data: int | None = None       # the CQ data
+    whole: int | None = None      # the length of the message
+    offset: int | None = None
+    count: int | None = None      # how many bytes of the message are in it
+    runt: int | None = None
+    send: int | None = None
+    recv: int | None = None
+    grant: int | None = None
+    word: int | None = None       # the features
+    connid: int | None = None
+    confirmed: bool = False
 
     @property
     def opens(self):
@@ -29,6 +39,8 @@ class Packet:
 
 
 class Fields:
+    """Bytes that are read from front to back."""
+
     def __init__(self, data):
         self.data, self.at = data, 0
 

@@ -1,11 +1,12 @@
 """Reads a report, line by line. docs/FORMATS.md has the grammar."""
 import re
+from dataclasses import dataclass, field
 
 from .packets import decode
 
-NUMBER = r"(0|[1-9][0-9]*)"
+NUMBER = r"(0|[1-9][0-9]{0,19})"
 SHOWN = r"(-|[0-9a-f]{2,128}|sha256:[0-9a-f]{64})"
-MAYBE = r"(-|0|[1-9][0-9]*)"
+MAYBE = r"(-|0|[1-9][0-9]{0,19})"
 
 
 def pattern(text):
@@ -17,6 +18,8 @@ def pattern(text):
 OPS = "(open|insert|reg|send|recv|cancel|note|await|wait|close)"
 WHYS = "(NoRegion|Range|NoEntry|Busy|Numbers|NoConfirm|Superseded|NotPosted)"
 CLASSES = "(ToOther|FromOther|Malformed|Unknown|BadKey|NoOp|Mismatch|Overlap)"
+STRANGE = re.compile(rb"[^\x20-\x7e\n]")
+COUNT = pattern("entries N")
 ENTRY = re.compile(NUMBER + " " + NUMBER + " ((next|push|handle|poll) .*)")
 NEXT = pattern("next N %s (?:did(?: N)?(?: msg N)?|refused %s)" % (OPS, WHYS))
 PUSHES = [("opened", pattern("push N to N note opened N")), ("note", pattern("push N to N note N")),
@@ -39,40 +42,71 @@ class Bad(Exception):
         super().__init__("line %d: %s" % (line, what))
 
 
+@dataclass(eq=False, slots=True)
+class Datagram:
+    """What one push pushed. `pushed`, `handled`, `held` and `let_in` are places in the history."""
+
+    form: str                       # opened, note, packet, ask or data
+    src: int
+    number: int
+    dst: int
+    connid: int | None              # of the life that it is for; a note is for none
+    pushed: int
+    handled: int | None = None
+    dropped: str | None = None      # its class
+    enters: tuple | None = None     # the first number that it lets enter, and how many
+    length: int | None = None
+    packet: object = None
+    source: object = None           # the life that pushed it
+    held: int | None = None         # where its message was heard before an earlier one
+    waits_for: int | None = None    # the least number that was missing then
+    let_in: int | None = None
+    least: int | None = None        # told by ordering
+
+
+@dataclass(eq=False, slots=True)
 class Entry:
     """An entry of the history. `words` are the fields of its act in the order of its text."""
 
-    def __init__(self, line, text, stamp, port, act):
-        self.line, self.text, self.stamp, self.port, self.act = line, text, stamp, port, act
-        self.form, self.words, self.datagram = None, (), None
-        self.life = self.op = None            # told by naming
+    line: int
+    text: str
+    stamp: int
+    port: int
+    act: str                        # next, push, handle or poll
+    form: str | None = None
+    words: tuple = ()
+    datagram: Datagram | None = None
+    life: object = None             # this and the next are told by naming
+    op: dict | None = None
 
 
-class Datagram:
-    """What one push pushed; `pushed` and `handled` are places in the history."""
+@dataclass
+class End:
+    """How a rank ended: what it did of all, what its next instruction answers, its drops, its stash."""
 
-    def __init__(self, form, src, number, dst, connid, pushed):
-        self.form, self.src, self.number, self.dst, self.connid = form, src, number, dst, connid
-        self.pushed, self.handled, self.dropped, self.enters = pushed, None, None, None
-        self.length = self.packet = self.source = None
-        self.held = self.waits_for = self.let_in = self.least = None
+    done: int
+    all: int
+    left: str | None
+    to_other: int
+    from_other: int
+    waiting: int
 
 
+@dataclass
 class Report:
-    def __init__(self, status, entries, ends):
-        self.status, self.entries, self.ends = status, entries, ends
-        self.datagrams = [e.datagram for e in entries if e.act == "push"]
-        self.left_to = [0] * len(ends)         # for each port, how many datagrams to it were never handled
+    status: str
+    entries: list
+    ends: list
+    datagrams: list = field(init=False)
+    left_to: list = field(init=False)   # for each port, how many datagrams to it were never handled
+    first: int | None = None            # this and the next are told by naming
+    lives: list = field(default_factory=list)
+
+    def __post_init__(self):
+        self.datagrams = [e.datagram for e in self.entries if e.act == "push"]
+        self.left_to = [0] * len(self.ends)
         for d in self.datagrams:
             self.left_to[d.dst] += d.handled is None
-        self.first, self.lives = None, []      # told by naming
-
-
-class End:
-    def __init__(self, fields):
-        done, all_done, stuck, all_stuck, self.left, _, _, _, other, other_from, waiting = fields[1:]
-        self.done, self.all = int(done or stuck), int(all_done or all_stuck)
-        self.to_other, self.from_other, self.waiting = int(other), int(other_from), int(waiting)
 
 
 def short(text):
@@ -82,48 +116,58 @@ def short(text):
 def lines_of(data):
     if not data:
         raise Bad(1, "no report: the input is empty")
-    parts = data.split(b"\n")
-    for i, part in enumerate(parts):
-        if any(b < 32 or b > 126 for b in part):
-            raise Bad(i + 1, "a byte that is no printable ASCII")
-    if parts[-1]:
-        raise Bad(len(parts), "the report is cut: no line feed ends this line")
-    return [p.decode("ascii") for p in parts[:-1]]
+    strange = STRANGE.search(data)
+    if strange:
+        raise Bad(data.count(b"\n", 0, strange.start()) + 1, "a byte that is no printable ASCII")
+    lines = data.decode("ascii").split("\n")
+    if lines[-1]:
+        raise Bad(len(lines), "the report is cut: no line feed ends this line")
+    return lines[:-1]
 
 
 def read(data):
     """The report that these bytes are."""
     lines = lines_of(data)
-
-    def line(i):
-        if i >= len(lines):
-            raise Bad(len(lines) + 1, "the report is cut: it ends before its line \"end\"")
-        return lines[i]
-
-    if line(0) != "rdm report 1":
-        raise Bad(1, "no report: \"rdm report 1\" is expected, not \"%s\"" % short(lines[0]))
-    if line(1) not in ("status done", "status stuck"):
-        raise Bad(2, "\"status done\" or \"status stuck\" is expected, not \"%s\"" % short(lines[1]))
-    count = pattern("entries N").fullmatch(line(2))
-    if not count:
-        raise Bad(3, "\"entries\" and their count is expected, not \"%s\"" % short(lines[2]))
-    count = int(count.group(1))
+    status, count = head_of(lines)
     history = History()
     for i in range(3, 3 + count):
-        history.add(i + 1, line(i))
+        history.add(i + 1, line_at(lines, i))
+    ends = ends_of(lines, 3 + count)
+    if any(e.left for e in ends) != (status == "stuck"):
+        raise Bad(2, "\"%s\", but the ranks' lines say otherwise" % lines[1])
+    history.check_ports(len(ends))
+    return Report(status, history.entries, ends)
+
+
+def line_at(lines, i):
+    if i >= len(lines):
+        raise Bad(len(lines) + 1, "the report is cut: it ends before its line \"end\"")
+    return lines[i]
+
+
+def head_of(lines):
+    """The status and the count of entries, from the first three lines."""
+    if line_at(lines, 0) != "rdm report 1":
+        raise Bad(1, "no report: \"rdm report 1\" is expected, not \"%s\"" % short(lines[0]))
+    if line_at(lines, 1) not in ("status done", "status stuck"):
+        raise Bad(2, "\"status done\" or \"status stuck\" is expected, not \"%s\"" % short(lines[1]))
+    count = COUNT.fullmatch(line_at(lines, 2))
+    if not count:
+        raise Bad(3, "\"entries\" and their count is expected, not \"%s\"" % short(lines[2]))
+    return lines[1][7:], int(count.group(1))
+
+
+def ends_of(lines, at):
+    """How each rank ended, from the lines from this one on up to the end."""
     ends = []
-    at = 3 + count
-    while line(at) != "end":
-        ends.append(end_of(at + 1, line(at), len(ends)))
+    while line_at(lines, at) != "end":
+        ends.append(end_of(at + 1, lines[at], len(ends)))
         at += 1
     if at + 1 < len(lines):
         raise Bad(at + 2, "a line after the end")
     if not ends:
         raise Bad(at + 1, "a report has a line for each rank; here is none")
-    if any(e.left for e in ends) != (line(1) == "status stuck"):
-        raise Bad(2, "\"%s\", but the ranks' lines say otherwise" % lines[1])
-    history.check_ports(len(ends))
-    return Report(line(1)[7:], history.entries, ends)
+    return ends
 
 
 def end_of(number, text, rank):
@@ -132,10 +176,13 @@ def end_of(number, text, rank):
         raise Bad(number, "neither an entry that was counted, nor a rank, nor the end: \"%s\"" % short(text))
     if int(found.group(1)) != rank:
         raise Bad(number, "the line of rank %d is expected" % rank)
-    return End(found.groups())
+    _, done, every, stuck, all_stuck, left, _, _, _, to_other, from_other, waiting = found.groups()
+    return End(int(done or stuck), int(every or all_stuck), left, int(to_other), int(from_other), int(waiting))
 
 
 class History:
+    """The entries so far, and which datagrams were pushed."""
+
     def __init__(self):
         self.entries, self.last, self.pushed, self.counts = [], (-1, -1), {}, {}
 

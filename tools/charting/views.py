@@ -10,7 +10,7 @@ class NoView(Exception):
 class View:
     """`places` are the places in the history that have a row, `ranks` the ranks that have a lifeline."""
 
-    def __init__(self, report, first=None, last=None, ranks=None, most=None):
+    def __init__(self, report, first=None, last=None, ranks=None, most=MOST):
         entries = report.entries
         self.report, self.ranks = report, sorted(set(ranks)) if ranks else list(range(len(report.ends)))
         if self.ranks[-1] >= len(report.ends):
@@ -20,7 +20,7 @@ class View:
                   and (first is None or e.stamp >= first) and (last is None or e.stamp <= last)]
         if entries and not wanted:
             raise NoView("no entry of these stamps and ranks")
-        self.places = wanted[:most or MOST]
+        self.places = wanted[:most]
         self.row_of = {place: row for row, place in enumerate(self.places)}
         self.cut = None
         if len(self.places) < len(entries):
@@ -68,4 +68,6 @@ class View:
     def left_where(self, port):
         """Where a datagram to this port is that was never handled, as far as the report tells."""
         waiting, left = self.report.ends[port].waiting, self.report.left_to[port]
-        return "in flight at the end" if not waiting else "in the stash at the end" if waiting == left else "never handled"
+        if waiting:
+            return "in the stash at the end" if waiting == left else "never handled"
+        return "in flight at the end"

@@ -10,6 +10,8 @@ CLASSES = {
     "Mismatch": "it contradicts what came before",
     "Overlap": "these bytes have come already",
 }
+MORE = {"cancel": "recv {recv}", "note": "{what} to rank {to}", "await": "{what} from rank {from}",
+        "wait": "for {count}"}
 LEFT = {
     "NotYet Await": "waits for a note",
     "NotYet Opened": "waits until that life opens",
@@ -21,8 +23,12 @@ LEFT = {
 }
 
 
+def counted(number, one, more):
+    return "%s %s" % (number, one if int(number) == 1 else more)
+
+
 def count_of(number, what):
-    return "%s %s%s" % (number, what, "" if int(number) == 1 else "s")
+    return counted(number, what, what + "s")
 
 
 def shown(text):
@@ -97,9 +103,12 @@ def push(e):
 
 
 def entering(first, count):
+    """The messages that enter at one packet; those after the first one waited for it."""
     if count == 1:
         return "msg %d enters" % first
-    return "msgs %d %s %d enter" % (first, "and" if count == 2 else "to", first + count - 1)
+    others = "msg %d" % (first + 1) if count == 2 else "msgs %d %s %d" % (
+        first + 1, "and" if count == 3 else "to", first + count - 1)
+    return "msg %d enters, and now %s too" % (first, others)
 
 
 def handle(e):
@@ -110,7 +119,7 @@ def handle(e):
         return "took #%d: %s" % (d.number, entering(*d.enters))
     if d.held is not None:
         missing = "an earlier msg" if d.waits_for is None else "msg %d" % d.waits_for
-        return "took #%d: msg %d heard, waits for %s" % (d.number, d.packet.message, missing)
+        return "took #%d: msg %d waits, %s isn't here yet" % (d.number, d.packet.message, missing)
     return "took #%d" % d.number
 
 
@@ -128,12 +137,12 @@ def next(e):
     tag = "tag %d" % op["tag"] if "tag" in op else ""
     if word == "send":
         size = sum(part[2] for part in op["parts"]) if "parts" in op else op.get("len")
-        return spoken("send %s: msg %s" % (number, message), "to %d," % op["to"] if op else "",
+        return spoken("send %s: msg %s" % (number, message), "to rank %d," % op["to"] if op else "",
                       "" if size is None else count_of(size, "byte"), tag)
     if word == "recv":
         return "recv %s" % number + (": " + spoken(count_of(op["len"], "byte"), tag) if op else "")
-    more = {"cancel": ["recv"], "note": ["to", "what"], "await": ["from", "what"], "wait": ["count"]}.get(word, [])
-    return spoken(word, *[str(op[key]) for key in more if key in op], "" if word == "close" else "did")
+    more = MORE[word].format(**op) if op and word in MORE else ""
+    return spoken(word, more, "" if word == "close" else "did")
 
 
 def poll(e):
@@ -154,7 +163,7 @@ def label(e):
 
 def end(n):
     """How a rank ended, in lines."""
-    lines = ["%s: %d of %s" % ("stuck" if n.left else "done", n.done, count_of(n.all, "instruction"))]
+    lines = ["%s %d of %s" % ("stuck after" if n.left else "done:", n.done, count_of(n.all, "instruction"))]
     if n.left:
         words = n.left.split()
         if words[:2] == ["NotYet", "Wait"]:
@@ -170,3 +179,8 @@ def end(n):
     if n.waiting:
         lines.append("%s in the stash" % count_of(n.waiting, "datagram"))
     return lines
+
+
+def heading(report):
+    return "rdm report: %s, %s, %s" % (report.status, counted(len(report.entries), "entry", "entries"),
+                                       count_of(len(report.ends), "rank"))

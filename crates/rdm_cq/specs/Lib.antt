@@ -1,3 +1,3 @@
--- Completions and reserved places.
+-- Items that wait, and reserved places.
 pub mod Queue
 pub mod Runs

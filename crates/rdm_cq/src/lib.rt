@@ -1,4 +1,4 @@
-//! The completions of an endpoint, in a ring with reserved places.
+//! Items that wait in a ring with reserved places, as the completions of an endpoint.
 #![tactic(auto)]
 
 ghost use Rattle.std.specs.Prelude.{◌≡◌, false, ◌<◌, ◌^◌, IfOk};
@@ -7,45 +7,46 @@ ghost use Rattle.rdm_cq.specs.Queue as Queue;
 ghost use Rattle.rdm_cq.specs.Runs.{ComesAsWritten};
 
 use circular_buffer::HeapCircularBuffer;
-use rdm_num::{Completion, NoMemory};
+use rdm_num::NoMemory;
 use std::alloc::Global;
 use std::marker::Model;
 
 #[cfg(test)]
 mod tests;
 
-/// Each place is reserved or holds a completion.
+/// Each place is reserved or holds an item.
 #[derive(Clone, Copy, Debug, PartialEq, Eq)]
 pub struct CqFull;
 
-/// Completions that wait to be polled, and places that are reserved for more.
+/// Items that wait to be polled, and places that are reserved for more. An endpoint's completions
+/// stand in a `Cq<Completion>`.
 #[derive(Drop)]
-pub struct Cq {
-    ring: HeapCircularBuffer<Completion>,
+pub struct Cq<T> {
+    ring: HeapCircularBuffer<T>,
     reserved: usize,
 }
 
-impl Model for Cq {
+impl<T> Model for Cq<T> {
     ghost use Rattle.std.specs.Prelude.{◌≤◌, ◌+◌, length};
     ghost use Rattle.rdm_cq.specs.Queue.{Queue};
 
-    ghost Value = { Queue };
+    ghost Value = { Queue T };
 
     ghost view = { λ q. record { reserved = q.reserved; list = q.ring.items; size = q.ring.capacity } };
 
     ghost invariant = { λ q. q.reserved + length q.ring.items ≤ q.ring.capacity };
 }
 
-impl Cq {
-    /// Takes the memory for so many completions. With size 0 each reserve is refused.
-    pub fn new(alloc: Global, size: usize) -> Result<Cq, NoMemory>
+impl<T> Cq<T> {
+    /// Takes the memory for so many items. With size 0 each reserve is refused.
+    pub fn new(alloc: Global, size: usize) -> Result<Cq<T>, NoMemory>
         ensures { IfOk result (λ q. q ≡ no_completions size) }
     {
         let ring = HeapCircularBuffer::with_capacity(alloc, size)?;
         Ok(Cq { ring, reserved: 0 })
     }
 
-    /// Reserves a place for a completion that is still to come.
+    /// Reserves a place for an item that is still to come.
     pub fn reserve(&mut self) -> Result<(), CqFull>
         ensures answer { result ≡ reserve_answer self.old }
         ensures after { self.new ≡ after_reserve self.old }
@@ -66,18 +67,21 @@ impl Cq {
         self.reserved -= 1;
     }
 
-    /// Puts a completion last, into a reserved place.
-    pub fn write(&mut self, completion: Completion)
+    /// Puts an item last, into a reserved place.
+    pub fn write(&mut self, item: T)
         requires { 0 < self.old.reserved }
-        ensures { self.new ≡ written self.old completion }
+        ensures { self.new ≡ written self.old item }
     {
         self.unreserve();
-        // The place is free now, so this overwrites nothing.
-        self.ring.push_back(completion);
+        // The place is free now, so nothing is overwritten.
+        match self.ring.push_back(item) {
+            None => (),
+            Some(_) => unreachable!(),
+        }
     }
 
-    /// Takes the first completion out.
-    pub fn poll(&mut self) -> Option<Completion>
+    /// Takes the first item out.
+    pub fn poll(&mut self) -> Option<T>
         ensures answer { result ≡ poll_answer self.old }
         ensures after { self.new ≡ polled self.old }
     {
@@ -93,7 +97,7 @@ impl Cq {
         self.reserved + self.ring.len() == self.ring.capacity()
     }
 
-    /// No completion waits.
+    /// No item waits.
     pub fn is_empty(&self) -> bool
         ensures { result ≡ Queue.is_empty self.now }
     {
@@ -101,8 +105,8 @@ impl Cq {
     }
 }
 
-/// Over any calls, reserved places and completions together are no more than the size, and
-/// completions come out as they were written: in their order, each once.
-pub fn completions_law()
-    ensures { ComesAsWritten }
+/// Over any calls, reserved places and items together are no more than the size, and items come
+/// out as they were written: in their order, each once.
+pub fn completions_law<T>()
+    ensures { ComesAsWritten T }
 {}

@@ -38,22 +38,22 @@ fn completion(what: What) -> Completion {
     }
 }
 
-/// Reserves a place and writes the completion into it.
-fn note(cq: &mut Cq, completion: Completion) -> Result<(), CqFull> {
+/// Reserves a place and writes the item into it.
+fn note<T: Drop>(cq: &mut Cq<T>, item: T) -> Result<(), CqFull> {
     cq.reserve()?;
-    cq.write(completion);
+    cq.write(item);
     Ok(())
 }
 
 /// Reserves a place and gives it back.
-fn reserve(cq: &mut Cq) -> Result<(), CqFull> {
+fn reserve<T>(cq: &mut Cq<T>) -> Result<(), CqFull> {
     cq.reserve()?;
     cq.unreserve();
     Ok(())
 }
 
 /// The queue answers each call as it says.
-fn run(rt: &impl Abort, cq: &mut Cq, calls: &[Call]) {
+fn run(rt: &impl Abort, cq: &mut Cq<Completion>, calls: &[Call]) {
     for call in calls {
         match call {
             Note(what, answer) => assert!(rt; note(cq, completion(*what)) == *answer),
@@ -99,5 +99,19 @@ fn reserved_places_are_taken(rt: HostRuntime) -> Result<(), Fail> {
         &mut without_a_place,
         &[Reserve(Err(CqFull)), Poll(None)],
     );
+    Ok(())
+}
+
+#[test]
+fn items_of_another_type_come_in_order(rt: HostRuntime) -> Result<(), Fail> {
+    let words = ["first", "second"];
+    let mut cq = Cq::new(rt.alloc(), 2)?;
+    for word in words {
+        assert!(rt; note(&mut cq, word) == Ok(()));
+    }
+    assert!(rt; note(&mut cq, "third") == Err(CqFull));
+    for word in words {
+        assert!(rt; cq.poll() == Some(word));
+    }
     Ok(())
 }

@@ -123,31 +123,6 @@ class_agrees ports port_log log v from to item h keeps =
     let rest = expected_agrees ports port_log log v from item h keeps in
     class_is (life_scene ports v.own port_log log) from to item ∙ (rw (cur, rest) refl) ∙ sym (class_in_is v from to item)
 
--- a class by lives alone is the class by the source
-by_lives : (a b c d : Bool) (rest : Option Class) (class' : Class) → first_case ((a, Some ToOther) ∷ (b, Some FromOther) ∷ []) None ≡ Some class'
-    → by_source a b c d rest ≡ Some class'
-unfolding by_source first_case
-by_lives true b c d rest class' h = h
-by_lives false true c d rest class' h = h
-by_lives false false c d rest class' h = cc
-
 -- the class by lives alone, of what comes from one life to another
 abbrev pub class_by_lives : Scene → Life → Connid → Option Class
 class_by_lives s from to = first_case ((not (is_connid s.now to), Some ToOther) ∷ (is_other (current s.log from.port.0) from, Some FromOther) ∷ []) None
-
--- whatever comes to another life or from another one has the same class
-pub lives_class_agrees : (ports : ℕ) (port_log log : List Deed) (v : EndpointView) (from : Life) (to : Connid) (item : Item) (class' : Class) → Keeps log v
-    → class_by_lives (life_scene ports v.own port_log log) from to ≡ Some class'
-    → (item_class (life_scene ports v.own port_log log) from to item ≡ Some class') × (item_class_in v from to item ≡ Some class')
-unfolding is_connid
-lives_class_agrees ports port_log log v from to item class' keeps h =
-    let s = life_scene ports v.own port_log log in
-    let cur : current log from.port.0 ≡ current_in v from.port.0 = sym (keeps.currents_are from.port.0) in (
-      class_is s from to item
-          ∙ by_lives (not (v.own.life.connid.0 == to.0)) (is_other (current log from.port.0) from) (is_malformed from item)
-          (is_none (current log from.port.0) && not (has_raw item)) (expected_class s from item) class' h,
-      class_in_is v from to item
-          ∙ by_lives (not (v.own.life.connid.0 == to.0)) (is_other (current_in v from.port.0) from) (is_malformed from item)
-          (is_none (current_in v from.port.0) && not (has_raw item)) (load_class v from item) class'
-          (ap (λ (o : Option Life). first_case ((not (v.own.life.connid.0 == to.0), Some ToOther) ∷ (is_other o from, Some FromOther) ∷ []) None) (sym cur) ∙ h),
-    )

@@ -72,11 +72,6 @@ greeted_keeps g from peers life same =
       | false ↦ peer_kept g greeted_peer from peers life (λ p. refl) same
     ]
 
--- what holds is not changed by another test
-or_true_by : (a b : Bool) → b ≡ true → b ≡ (a || b)
-or_true_by true b h = h
-or_true_by false b h = refl
-
 -- a life was greeted before, or is the one that is now
 greeted_is : (from : Life) (peers : List Peer) (life : Life)
     → (peer_in (greeted_peers from peers) life).greeted ≡ (same_life from life || (peer_in peers life).greeted)

@@ -1,5 +1,5 @@
 -- What an endpoint answers to a datagram is what the definitions say.
-use Rattle.std.proofs.Common.{◌≡◌, ℕ, suc, ◌+◌, inl, inr, Bool, true, false, cond, List, [], ◌∷◌, map, length, Option, Some, None, refl, arith, ap, ◌∙◌, sym, subst}
+use Rattle.std.proofs.Common.{◌≡◌, ℕ, suc, ◌+◌, inl, inr, Bool, true, false, cond, List, [], ◌∷◌, map, length, Option, Some, None, refl, ap, ◌∙◌, sym}
 use Rattle.std.proofs.lemmas.Bool.{cases_eq, eq-eqb, ne_eqb}
 use Rattle.std.proofs.lemmas.List.{length-map}
 use Rattle.std.proofs.Math.Bool.{and_assoc}
@@ -25,7 +25,7 @@ use Rattle.rdm_model.specs.Deeds.{Deed, Took, Item, Spelled, item_of}
 use Rattle.rdm_model.specs.Heard.{head_by, entering, entered_of}
 use Rattle.rdm_model.specs.Matches.{Receive, receives}
 use Rattle.rdm_model.specs.Completions.{early_count}
-use Rattle.rdm_model.specs.Classes.{body_class, class_of, body_lives_class, lives_class}
+use Rattle.rdm_model.specs.Classes.{body_class, class_of}
 use Rattle.rdm_model.specs.Takes.{taken_answer, class_answer, handled_answer, is_met, needs_place, body_needs_place, is_again_early}
 use Rattle.rdm_model.specs.Local.{heard_by}
 use Rattle.rdm_ep.specs.declared.answer.HandleAnswer.TheVariants as HandleA
@@ -46,7 +46,7 @@ use Rattle.rdm_ep.proofs.Still.{none_enter}
 use Rattle.rdm_ep.proofs.KeepsMessage.{live_among}
 use Rattle.rdm_ep.proofs.Groups.{kept_of}
 use Rattle.rdm_ep.proofs.Counts.{early_agrees}
-use Rattle.rdm_ep.proofs.Classed.{class_agrees, lives_class_agrees}
+use Rattle.rdm_ep.proofs.Classed.{class_agrees}
 use Rattle.rdm_lists.proofs.Below.{length-below}
 
 -- some element passes where one is found
@@ -191,30 +191,3 @@ body_handles ports port_log log v d (Between from to load) e h p k =
 pub handle_agrees : (ports : ℕ) (port_log log : List Deed) (v : EndpointView) (d : Datagram) → IsEager v.own log → IsEagerBody v.own log d d.body → Keeps log v
     → IsAnswerTo (life_scene ports v.own port_log log) d (body_answer v d d.body)
 handle_agrees ports port_log log v d h p k = body_handles ports port_log log v d d.body refl h p k
-
--- the same, by what the datagram has in it
-drop_handles : (ports : ℕ) (port_log log : List Deed) (v : EndpointView) (d : Datagram) (body : Body) (class' : Class) → d.body ≡ body → Keeps log v
-    → body_lives_class (life_scene ports v.own port_log log) d body ≡ Some class'
-    → IsAnswerTo (life_scene ports v.own port_log log) d (body_answer v d body) × (body_answer v d body ≡ HandleA.Dropped class')
-unfolding is_again_early handled_answer class_of body_class body_lives_class body_needs_place class_answer body_answer item_answer class_answer_in is_early handled_of
-drop_handles ports port_log log v d (Note note) class' e k c = cc
-drop_handles ports port_log log v d (Between from to load) class' e k c =
-    let s = life_scene ports v.own port_log log in
-    let source = life d.src from in
-    let item = item_of load in
-    let r = lives_class_agrees ports port_log log v source to item class' k c in
-    let a : item_answer v source to item ≡ HandleA.Dropped class' = ap (class_answer_in v source item) r.1 in
-    let b : body_class s d d.body ≡ Some class' = ap (body_class s d) e ∙ r.0 in (
-      subst (IsAnswerTo s d) (sym a) (record {
-        early = ap (λ (o : Option Class). is_none o && body_needs_place s d d.body && nat_le v.own.limits.early (early_count v.own (heard_by v.own.limits.first log).head log)) b;
-        handled = λ x. ap (class_answer s d) b;
-      }),
-      a,
-    )
-
--- whatever comes to another life or from another one is dropped the same
-pub drop_agrees : (ports : ℕ) (port_log log : List Deed) (v : EndpointView) (d : Datagram) (class' : Class) → Keeps log v
-    → lives_class (life_scene ports v.own port_log log) d ≡ Some class'
-    → IsAnswerTo (life_scene ports v.own port_log log) d (body_answer v d d.body) × (body_answer v d d.body ≡ HandleA.Dropped class')
-unfolding lives_class
-drop_agrees ports port_log log v d class' k c = drop_handles ports port_log log v d d.body class' refl k c

@@ -1,8 +1,7 @@
 -- What an instruction that registers, inserts, cancels or waits answers, by what the endpoint keeps.
-use Rattle.std.proofs.Common.{◌≡◌, ℕ, Bool, true, false, cond, List, [], ◌∷◌, length, Option, Some, None, Ok, Err, refl, ap, ◌∙◌, sym, subst}
+use Rattle.std.proofs.Common.{◌≡◌, ℕ, Bool, true, false, cond, List, [], length, refl, ap, ◌∙◌, sym}
 use Rattle.std.specs.Prelude.{◌==◌, not, nat_lt, find, is_some, option_map}
 use Rattle.rdm_lists.specs.Lists.{first_case}
-use Rattle.rdm_num.specs.Lives.{same_life}
 use Rattle.rdm_num.specs.declared.numbers.RecvNo.{RecvNo}
 use Rattle.rdm_num.specs.declared.numbers.Life.{Life}
 use Rattle.rdm_match.specs.Matcher.{is_recv}
@@ -11,18 +10,13 @@ use Rattle.rdm_model.specs.declared.answer.Next.TheVariants.{Did, Refused, NotYe
 use Rattle.rdm_model.specs.declared.answer.DidWhat.TheVariants.{Plain, Region}
 use Rattle.rdm_model.specs.declared.answer.Why.TheVariants.{Superseded, NotPosted}
 use Rattle.rdm_model.specs.declared.answer.Yet.TheVariants as Yet
-use Rattle.rdm_model.specs.Deeds.{Deed, Did as DidDeed}
-use Rattle.rdm_model.specs.Currents.{other_life, forgotten_by}
+use Rattle.rdm_model.specs.Deeds.{Deed}
 use Rattle.rdm_model.specs.Notes.{knows_open}
 use Rattle.rdm_model.specs.Matches.{Receive}
 use Rattle.rdm_model.specs.Answers as A
 use Rattle.rdm_model.specs.Local.{heard_by}
 use Rattle.rdm_model.specs.Answers.{regions_of, answer_of}
-use Rattle.rdm_ep.specs.declared.answer.Inserted.{Inserted as InsertedAnswer}
-use Rattle.rdm_ep.specs.declared.answer.Inserted.TheVariants.{Inserted, Same}
-use Rattle.rdm_ep.specs.declared.answer.InsertRefused.TheVariants.{Superseded as TakesPlace}
-use Rattle.rdm_ep.specs.View.{EndpointView, current_in}
-use Rattle.rdm_ep.specs.Sending.{insert_answer}
+use Rattle.rdm_ep.specs.View.{EndpointView}
 use Rattle.rdm_ep.specs.Cancelling as Ec
 use Rattle.rdm_ep.specs.Answers.{life_scene}
 use Rattle.rdm_ep.specs.Eager.{IsEager}
@@ -77,19 +71,3 @@ insert_agrees ports port_log log v life h =
       | true ↦ refl
       | false ↦ refl
     ]
-
--- the same, by the current life of the port
-does_insert : (life : Life) (now : Option Life) → other_life life now ≡ [] → (answer : InsertedAnswer) × (insert_answer life now ≡ Ok answer)
-unfolding insert_answer other_life
-does_insert life None h = (Inserted, refl)
-does_insert life (Some old) h =
-    (elim (same_life old life) as (λ b. cond b [] (old ∷ []) ≡ [] → (answer : InsertedAnswer) × (cond b (Ok Same) (Err TakesPlace) ≡ Ok answer)) [
-      | true ↦ λ e. (Same, refl)
-      | false ↦ λ e. cc
-    ]) h
-
--- an insert that takes the place of no other life does
-pub insert_does : (log : List Deed) (v : EndpointView) (life : Life) → forgotten_by log (DidDeed (Insert life)) ≡ [] → Keeps log v
-    → (answer : InsertedAnswer) × (insert_answer life (current_in v life.port.0) ≡ Ok answer)
-unfolding forgotten_by
-insert_does log v life h k = does_insert life (current_in v life.port.0) (subst (λ (o : Option Life). other_life life o ≡ []) (sym (k.currents_are life.port.0)) h)

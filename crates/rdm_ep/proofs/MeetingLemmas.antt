@@ -82,12 +82,6 @@ places_landed posted left completions done at c h l d =
     let b : length done ≡ length completions + 1 = ap length d ∙ length-append completions (c ∷ []) in
     omega arith
 
--- one message after others
-pub arrivals_push : (mt : Meeting) (is : List Inbound) (i : Inbound) → after_arrivals mt (is ++ i ∷ []) ≡ after_arrival (after_arrivals mt is) i
-unfolding after_arrivals
-arrivals_push mt [] i = refl
-arrivals_push mt (j ∷ is) i = arrivals_push (after_arrival mt j) is i
-
 -- the first of the messages that are left arrives
 pub arrivals_first : (mt now : Meeting) (i : Inbound) (is left : List Inbound) → left ≡ i ∷ is → now ≡ after_arrival mt i → after_arrivals now is ≡ after_arrivals mt left
 unfolding after_arrivals

@@ -110,10 +110,6 @@ after_meets m (Arrive a) = arrive_meets m a (find (λ r. accepts r a) m.posted)
 after_meets m (Cancel n) = sym (append-nil m.pairs)
 after_meets m (Forget l) = sym (append-nil m.pairs)
 
--- the pairs after an arrival, by the receive that is found
-pub after_meets_arrive : (m : Matching) (a : Arrived) → (after_arrive m a (find (λ r. accepts r a) m.posted)).pairs ≡ m.pairs ++ met_by_arrive a (find (λ r. accepts r a) m.posted)
-after_meets_arrive m a = arrive_meets m a (find (λ r. accepts r a) m.posted)
-
 -- the pairs after events
 pub run_meets : (es : List Event) (m : Matching) → (run m es).pairs ≡ m.pairs ++ met_by_all m es
 unfolding run met_by_all

@@ -38,11 +38,6 @@ packets_more os ps o e h f q m =
       | inr m' ↦ elim m' [ inl is ↦ subst (λ (x : Outbound). IsTrue (packet_fits x.packet)) is f | inr none ↦ elim none [ ] ]
     ]
 
--- packets fit without the first
-pub packets_fewer : (os : List Outbound) → PacketsFit os → PacketsFit (remove os 0)
-packets_fewer [] h q m = h q m
-packets_fewer (o ∷ os) h q m = h q (inr m)
-
 -- the first packet fits
 pub first_fits : (o : Outbound) (os ps : List Outbound) → ps ≡ o ∷ os → PacketsFit ps → IsTrue (packet_fits o.packet)
 first_fits o os ps e h = h o (subst (λ (xs : List Outbound). Member o xs) (sym e) (inl refl))

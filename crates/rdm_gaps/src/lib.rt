@@ -1,7 +1,7 @@
 //! The missing places of a message.
 #![tactic(auto)]
 
-ghost use Rattle.std.specs.Prelude.{◌≡◌, ◌+◌, ◌<◌, ◌≤◌, ◌↔◌, ◌==◌, IfOk, IsTrue, OnOk, OnErr};
+ghost use Rattle.std.specs.Prelude.{◌≡◌, ◌+◌, ◌<◌, ◌≤◌, ◌↔◌, ◌==◌, length, IfOk, IsTrue, OnOk, OnErr};
 ghost use Rattle.rdm_gaps.specs.Places.{AreMissing, AreTaken, all_missing, count_missing, with_spare, with_untaken, after_take, after_reserved_take};
 ghost use Rattle.rdm_gaps.specs.Places as Places;
 
@@ -72,6 +72,20 @@ impl Gaps {
         ensures { result ≡ (count_missing self.now == 0) }
     {
         self.left == 0
+    }
+
+    /// How many places the message has, missing or not.
+    pub fn places(&self) -> u64
+        ensures { result ≡ length self.now.places }
+    {
+        self.size
+    }
+
+    /// For how many ranges there is room to be taken or put back.
+    pub fn spare(&self) -> u64
+        ensures { result ≡ self.now.spare }
+    {
+        self.spare as u64
     }
 
     /// How many places are missing.

@@ -20,9 +20,6 @@ pub record AreFresh (ports size count : ℕ) (inboxes : List InboxState) (all : 
   pub inboxes_count : length inboxes ≡ count
   pub all_count : length all ≡ count
 
-pub none_fresh : (ports size : ℕ) → AreFresh ports size 0 [] []
-none_fresh ports size = record { each = λ i inbox v e f. absurd (cc); inboxes_count = refl; all_count = refl }
-
 -- the last element, and those before it
 pub last_or_before : {A : Type 0} (xs : List A) (a b : A) (i : ℕ) → slice_get (xs ++ a ∷ []) i ≡ Some b → ((i < length xs) × (slice_get xs i ≡ Some b)) ⊎ ((i ≡ length xs) × (a ≡ b))
 last_or_before [] a b zero e = inr (refl, cc)

@@ -100,9 +100,13 @@ module _ (v w : PassesState) (d : Datagram) (X : Type 0) where
   fulls_more : d.dst.0 < length v.senders → fulls_of (after_found_full v d.dst.0) ≡ fulls_of v + 1
   fulls_more low = sum_by-changed (learnt with_full) (λ s. s.post.fulls) 1 (λ s. refl) v.senders d.dst.0 low
 
-  pub push_counts : (result : Result (Unit {0}) Datagram) → Told result → d.dst.0 < length v.senders → (fulls_of v ≤ fulls_of w) × (empties_of v ≤ empties_of w)
-  push_counts (Ok x) told low = let e = ap fulls_of told ∙ fulls_sent low in let n = ap empties_of told in (omega arith, omega arith)
-  push_counts (Err x) told low = let e = ap fulls_of told.1 ∙ fulls_more low in let n = ap empties_of told.1 in (omega arith, omega arith)
+  pub push_counts : (result : Result (Unit {0}) Datagram) → Told result → d.dst.0 < length v.senders → (fulls_of v ≤ fulls_of w) × (empties_of w ≡ empties_of v)
+  push_counts (Ok x) told low = let e = ap fulls_of told ∙ fulls_sent low in (omega arith, ap empties_of told)
+  push_counts (Err x) told low = let e = ap fulls_of told.1 ∙ fulls_more low in (omega arith, ap empties_of told.1)
+
+  pub push_uncounted : (result : Result (Unit {0}) Datagram) → Told result → d.dst.0 < length v.senders → OnOk result (fulls_of w ≡ fulls_of v)
+  push_uncounted (Ok x) told low = ap fulls_of told ∙ fulls_sent low ∙ add-zero (fulls_of v)
+  push_uncounted (Err x) told low = tt
 
   pub push_rose : (result : Result (Unit {0}) Datagram) → Told result → d.dst.0 < length v.senders → OnErr result (Rose (fulls_of v) (fulls_of w))
   push_rose (Ok x) told low = tt

@@ -125,7 +125,8 @@ impl<'r, R: Wait> Wire for Inboxes<'r, R> {
         ensures kept { (length self.new.flights ≡ length self.old.flights) × (serves_all self.new ≡ serves_all self.old) × (self.new.queues.tables ≡ self.old.queues.tables) × (false ≡ false) }
         ensures back { IfErr result (λ back. back ≡ d) }
         ensures full { OnErr result (Rose self.old.fulls self.new.fulls) }
-        ensures counts { (self.old.fulls ≤ self.new.fulls) × (self.old.empties ≤ self.new.empties) }
+        ensures uncounted { OnOk result (self.new.fulls ≡ self.old.fulls) }
+        ensures counts { (self.old.fulls ≤ self.new.fulls) × (self.new.empties ≡ self.old.empties) }
         ensures exact { MatchResult result (λ _. HasRoomAt d.dst.0 (Some (flight_of self.old))) (λ _. IsFullAt d.dst.0 (Some (flight_of self.old))) }
         ensures account { OnOk result (no_account ≡ option_map (after_push d) no_account) }
         ensures held { OnOk result (Moves (Pushes false d) (Some (flight_of self.old)) (Some (flight_of self.new))) }
@@ -141,7 +142,8 @@ impl<'r, R: Wait> Wire for Inboxes<'r, R> {
         ensures kept { (length self.new.flights ≡ length self.old.flights) × (serves_all self.new ≡ serves_all self.old) × (self.new.queues.tables ≡ self.old.queues.tables) × (false ≡ false) }
         ensures came { IfSome result (λ d. (d.dst ≡ port) × (d.src.0 < length self.old.flights)) }
         ensures none { IfNone result (Rose self.old.empties self.new.empties) }
-        ensures counts { (self.old.fulls ≤ self.new.fulls) × (self.old.empties ≤ self.new.empties) }
+        ensures uncounted { IfSome result (λ _. self.new.empties ≡ self.old.empties) }
+        ensures counts { (self.new.fulls ≡ self.old.fulls) × (self.old.empties ≤ self.new.empties) }
         ensures exact { IfNone result (IsEmptyAt port.0 (Some (flight_of self.old))) }
         ensures account { IfSome result (λ d. no_account ≡ option_map (after_fetches port.0 (d ∷ [])) no_account) }
         ensures held { IfSome result (λ d. Moves (Fetches false port.0 (d ∷ [])) (Some (flight_of self.old)) (Some (flight_of self.new))) }

@@ -88,7 +88,8 @@ impl<'a, R: Wait> Wire for PortWire<'a, R> {
         ensures kept { (length self.new.queues.tables ≡ length self.old.queues.tables) × (serves_of self.new ≡ serves_of self.old) × (self.new.queues.tables ≡ self.old.queues.tables) × (false ≡ false) }
         ensures back { IfErr result (λ back. back ≡ d) }
         ensures full { OnErr result (Rose (fulls_of self.old.passes) (fulls_of self.new.passes)) }
-        ensures counts { (fulls_of self.old.passes ≤ fulls_of self.new.passes) × (empties_of self.old.passes ≤ empties_of self.new.passes) }
+        ensures uncounted { OnOk result (fulls_of self.new.passes ≡ fulls_of self.old.passes) }
+        ensures counts { (fulls_of self.old.passes ≤ fulls_of self.new.passes) × (empties_of self.new.passes ≡ empties_of self.old.passes) }
         ensures exact { MatchResult result (λ _. HasRoomAt d.dst.0 None) (λ _. IsFullAt d.dst.0 None) }
         ensures account { OnOk result (Some (account_of self.new.passes) ≡ option_map (after_push d) (Some (account_of self.old.passes))) }
         ensures held { OnOk result (Moves (Pushes false d) None None) }
@@ -105,7 +106,8 @@ impl<'a, R: Wait> Wire for PortWire<'a, R> {
         ensures kept { (length self.new.queues.tables ≡ length self.old.queues.tables) × (serves_of self.new ≡ serves_of self.old) × (self.new.queues.tables ≡ self.old.queues.tables) × (false ≡ false) }
         ensures came { IfSome result (λ d. (d.dst ≡ _port) × (d.src.0 < length self.old.queues.tables)) }
         ensures none { IfNone result (Rose (empties_of self.old.passes) (empties_of self.new.passes)) }
-        ensures counts { (fulls_of self.old.passes ≤ fulls_of self.new.passes) × (empties_of self.old.passes ≤ empties_of self.new.passes) }
+        ensures uncounted { IfSome result (λ _. empties_of self.new.passes ≡ empties_of self.old.passes) }
+        ensures counts { (fulls_of self.new.passes ≡ fulls_of self.old.passes) × (empties_of self.old.passes ≤ empties_of self.new.passes) }
         ensures exact { IfNone result (IsEmptyAt _port.0 None) }
         ensures account { IfSome result (λ d. Some (account_of self.new.passes) ≡ option_map (after_fetches _port.0 (d ∷ [])) (Some (account_of self.old.passes))) }
         ensures held { IfSome result (λ d. Moves (Fetches false _port.0 (d ∷ [])) None None) }

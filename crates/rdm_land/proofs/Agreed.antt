@@ -19,6 +19,15 @@ free : (b : Bool) (m : Bool) → m ≡ true → (b ≡ true → m ≡ false) →
 free true m is h = absurd (true≢false (sym is ∙ h refl))
 free false m is h = refl
 
+-- all is at home
+pub agrees_whole : (missing : List Bool) (cells : List (Option ℕ)) → IsWhole cells → Agrees missing cells []
+agrees_whole missing cells whole =
+    record {
+      apart = omega arith;
+      taken = λ k h. absurd (true≢false (sym h));
+      out = λ k lt. let long = length-map whole.0 Some in let size = ap length whole.1 in ap (λ l. is_none (get_or l k None)) whole.1 ∙ some_bytes whole.0 k (omega (arith, long, size));
+    }
+
 -- nothing has come
 pub agrees_new : (size : ℕ) (bytes : List ℕ) → Agrees (replicate size true) (map Some bytes) []
 agrees_new size bytes =

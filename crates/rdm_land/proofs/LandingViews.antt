@@ -2,7 +2,7 @@
 use Rattle.std.proofs.Common.{◌≡◌, ℕ, ◌+◌, ◌-◌, ◌<◌, Bool, true, false, List, ◌++◌, length, take, drop, map, replicate, min, Ok, Some, None, sym, ap, subst, ◌∙◌, arith, drop-drop, ◌≤◌}
 use Rattle.std.proofs.lemmas.List.{length-take, length-take-le, length-replicate, take-append-drop}
 use Rattle.std.specs.List.{Contains}
-use Rattle.rdm_gaps.specs.Places.{Missing, AreMissing, AreTaken, with_range, with_taken, after_take}
+use Rattle.rdm_gaps.specs.Places.{Missing, AreMissing, AreTaken, with_range, with_taken, after_take, after_reserved_take}
 use Rattle.rdm_gaps.proofs.Covered.{set_between}
 use Rattle.rdm_mr.specs.Part.{Piece}
 use Rattle.rdm_mr.specs.Tiles.{Tiles, laid, AreHome, AreOut, IsPartAt, with_part, without, overwritten}
@@ -12,12 +12,15 @@ use Rattle.rdm_land.specs.Spans.{span, with_span, without_span}
 use Rattle.rdm_land.specs.Landed.{Landed, IsLent}
 use Rattle.rdm_land.specs.Inside.{Agrees}
 use Rattle.rdm_mr.proofs.Overlays.{by_lt}
-use Rattle.rdm_land.proofs.Agreed.{are_home, agrees_take, agrees_place, agrees_lend, agrees_land, agrees_unlend, bounds, are_taken, are_out, some_below}
+use Rattle.rdm_land.proofs.Agreed.{agrees_along, are_home, agrees_take, agrees_place, agrees_lend, agrees_land, agrees_unlend, bounds, are_taken, are_out, some_below}
 
 -- what is kept, and what a clause sees of it
-module _ (home : Tiles) (missing : List Bool) (lent : List Span) (agrees : Agrees missing home.cells lent) (l : Landed) (view : record { tiles = home; missing = missing; lent = lent } ≡ l) where
+module _ (home : Tiles) (missing : List Bool) (lent : List Span) {room : ℕ} (agrees : Agrees missing home.cells lent) (l : Landed) (view : record { tiles = home; missing = missing; lent = lent; room = room } ≡ l) where
   tiles : home ≡ l.tiles
   tiles = ap (λ (x : Landed). x.tiles) view
+
+  pub agrees_seen : Agrees l.missing l.tiles.cells l.lent
+  agrees_seen = agrees_along (sym (ap (λ (x : Landed). x.missing) view)) (sym (ap (λ (t : Tiles). t.cells) tiles)) (sym (ap (λ (x : Landed). x.lent) view)) agrees
 
   -- a range that is lent with a part
   module _ (off len : ℕ) (part : Piece) (is : IsLent l off len part) where
@@ -82,6 +85,9 @@ module _ (home : Tiles) (missing : List Bool) (lent : List Span) (agrees : Agree
 -- what a `take` that answered true left
 pub taken_is : (E : Type 0) (off len : ℕ) (m : Missing) (b : Bool) → b ≡ true → after_take {E = E} m off len (Ok b) ≡ with_taken m off len
 taken_is E off len m b e = ap (λ v. after_take {E = E} m off len (Ok v)) e
+
+pub taken_reserved_is : (off len : ℕ) (m : Missing) (b : Bool) → b ≡ true → after_reserved_take m off len b ≡ record { places = with_range false off len m.places; spare = m.spare - 1 }
+taken_reserved_is off len m b e = ap (after_reserved_take m off len) e
 
 -- a range that was missing, and is missing again
 pub set_back : (off len : ℕ) (places : List Bool) → AreMissing off len places → with_range true off len (with_range false off len places) ≡ places

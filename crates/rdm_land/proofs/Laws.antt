@@ -10,7 +10,7 @@ use Rattle.rdm_land.specs.declared.spans.Span.{Span}
 use Rattle.rdm_land.specs.declared.landing.Placed.{Placed as Answer}
 use Rattle.rdm_land.specs.declared.landing.Placed.TheVariants.{Placed, Overlap}
 use Rattle.rdm_land.specs.Spans.{span, with_span, without_span}
-use Rattle.rdm_land.specs.Landed.{Landed, MayLend, IsPartOf, capacity, with_lent, landed, after_place}
+use Rattle.rdm_land.specs.Landed.{Landed, MayLend, IsPartOf, capacity, Keeps, with_lent, landed, after_place, after_fill}
 use Rattle.rdm_land.specs.Laws.{LendLends, UnlendUndoesLend, LandIsUnlendAndPlace}
 use Rattle.rdm_mr.proofs.Overlays.{by_lt, length-new}
 use Rattle.rdm_land.proofs.Order.{is_same, earlier_is_other}
@@ -77,7 +77,7 @@ unlend_undoes_lend l off len part may is =
     let missing = set_back off len l.missing may.0 in
     let lent = without-with_span (span off len) l.lent some in
     let count : (t.out + 1) - 1 ≡ t.out = omega arith in
-    λ i. record { tiles = record { block = t.block; whole = t.whole; start = t.start; cells = cells i; out = count i }; missing = missing i; lent = lent i }
+    λ i. record { tiles = record { block = t.block; whole = t.whole; start = t.start; cells = cells i; out = count i }; missing = missing i; lent = lent i; room = l.room }
 
 pub land_is_unlend_and_place : LandIsUnlendAndPlace
 land_is_unlend_and_place l off bytes part is taken kept =
@@ -89,7 +89,7 @@ land_is_unlend_and_place l off bytes part is taken kept =
     let size : length lands ≡ length t.cells = length_landed in
     let again : laid off (map Some (take (length lands - off) bytes)) lands ≡ lands =
     ap (λ n. laid off (map Some (take (n - off) bytes)) lands) size ∙ ap (λ x. laid off (map Some x) lands) (sym kept) ∙ ap (λ k. laid off xs (laid k xs t.cells)) at ∙ landed_twice ∙ ap (λ k. laid k xs t.cells) (sym at) in
-    λ i. record { tiles = record { block = t.block; whole = t.whole; start = t.start; cells = sym again i; out = t.out - 1 }; missing = sym (set_again off (length bytes) l.missing taken) i; lent = without_span (span off (length bytes)) l.lent }
+    λ i. record { tiles = record { block = t.block; whole = t.whole; start = t.start; cells = sym again i; out = t.out - 1 }; missing = sym (set_again off (length bytes) l.missing taken) i; lent = without_span (span off (length bytes)) l.lent; room = l.room }
   where
     empty : length l.tiles.cells < off → map Some part.bytes ≡ []
     empty lt = ap (map Some) (nil_from_length part.bytes (omega (arith, is.3)))
@@ -109,13 +109,7 @@ land_is_unlend_and_place l off bytes part is taken kept =
         (λ lt. ap (λ x. laid off x (laid off (map Some part.bytes) l.tiles.cells)) (empty lt) ∙ laid_nothing off (laid off (map Some part.bytes) l.tiles.cells))
         (λ le. laid_over off (map Some part.bytes) (map Some part.bytes) l.tiles.cells (omega (arith, long, is.3)) refl)
 
--- what a `place` keeps, whatever it answers
-pub record Keeps (before after : Landed) : Type 0 where
-  pub start : after.tiles.start ≡ before.tiles.start
-  pub whole : after.tiles.whole ≡ before.tiles.whole
-  pub places : capacity after ≡ capacity before
-  pub lent : after.lent ≡ before.lent
-
+-- what a `place` or a `fill` keeps, whatever it answers
 pub place_keeps : {E : Type 0} (l : Landed) (off : ℕ) (bytes : List ℕ) (answer : Result Answer E) → Keeps l (after_place l off bytes answer)
 place_keeps l off bytes (Ok Placed) =
     let kept = take (capacity l - off) bytes in
@@ -131,3 +125,10 @@ place_keeps l off bytes (Ok Placed) =
     }
 place_keeps l off bytes (Ok Overlap) = record { start = refl; whole = refl; places = refl; lent = refl }
 place_keeps l off bytes (Err why) = record { start = refl; whole = refl; places = refl; lent = refl }
+
+pub fill_keeps : (l : Landed) (off : ℕ) (bytes : List ℕ) (answer : Answer) → Keeps l (after_fill l off bytes answer)
+fill_keeps l off bytes Placed = let kept = place_keeps {E = Unit {0}} l off bytes (Ok Placed) in record { start = refl; whole = refl; places = kept.places; lent = refl }
+fill_keeps l off bytes Overlap = record { start = refl; whole = refl; places = refl; lent = refl }
+
+pub keeps_on : (l m n : Landed) → Keeps l m → Keeps m n → Keeps l n
+keeps_on l m n a b = record { start = b.start ∙ a.start; whole = b.whole ∙ a.whole; places = b.places ∙ a.places; lent = b.lent ∙ a.lent }

@@ -1,5 +1,5 @@
 -- What is true of the fields of a `Landing`.
-use Rattle.std.specs.Prelude.{◌≡◌, ℕ, ◌^◌, ◌<◌, ◌≤◌, Bool, true, false, List, length, get_or, Option, None, is_none, vec_len}
+use Rattle.std.specs.Prelude.{◌≡◌, ℕ, ◌+◌, ◌^◌, ◌<◌, ◌≤◌, Bool, true, false, List, length, get_or, Option, None, is_none, vec_len}
 use Rattle.rdm_land.specs.Spans.{AreApart, have}
 use Rattle.rdm_land.specs.declared.spans.Span.{Span}
 use Rattle.rdm_land.specs.declared.landing.Landing.TheInside.{Inside}
@@ -15,4 +15,4 @@ pub record IsLanding (l : Inside) : Type 0 where
   pub length_is : l.length ≡ length l.gaps.places
   pub agrees : Agrees l.gaps.places l.home.cells l.lent.items
   pub counted : l.home.out ≡ vec_len l.lent
-  pub spare : vec_len l.lent ≤ l.gaps.spare
+  pub spare : vec_len l.lent + l.room ≤ l.gaps.spare

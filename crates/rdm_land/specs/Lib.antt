@@ -8,3 +8,5 @@ pub mod Landed
 pub mod Inside
 -- what lending a range and taking it back come to
 pub mod Laws
+-- what becomes of a range that is lent
+pub mod Loans

@@ -1,15 +1,16 @@
 //! What came of a message.
-ghost use Rattle.std.specs.Prelude.{◌≡◌, ◌↔◌, ◌+◌, ◌-◌, ◌<◌, ◌≤◌, ◌^◌, ◌||◌, ℕ, [], true, false, min, length, take, get_or, vec_len, vec_capacity, IfOk, OnErr, IsTrue, MatchOption, MatchResult};
+ghost use Rattle.std.specs.Prelude.{◌≡◌, ◌↔◌, ◌+◌, ◌-◌, ◌<◌, ◌≤◌, ◌^◌, ◌||◌, ℕ, [], true, false, min, length, take, get_or, vec_len, vec_capacity, IfOk, OnOk, OnErr, IsTrue, MatchOption, MatchResult};
 ghost use Rattle.rdm_gaps.specs.Places.{AreMissing, AreTaken, after_take, with_untaken};
-ghost use Rattle.rdm_mr.specs.Tiles.{AreHome, IsAll, IsPartAt, overwritten, without};
+ghost use Rattle.rdm_mr.specs.Tiles.{AreBytes, AreHome, IsAll, IsWhole, IsPartAt, overwritten, without};
 ghost use Rattle.rdm_land.specs.Spans.{AreInOrder, have};
-ghost use Rattle.rdm_land.specs.Landed.{Says, MayLend, IsPartOf, IsLent, OnlyLent, awaiting, after_place, is_finished, after_lend, landed, unlent};
+ghost use Rattle.rdm_land.specs.Landed.{Says, MayLend, IsPartOf, IsLent, OnlyLent, awaiting, resumed, with_room, after_place, after_fill, is_finished, after_lend, landed, unlent};
+ghost use Rattle.rdm_land.specs.Loans.{LentAreLoans, LoansAreApart};
 ghost use Rattle.rdm_land.specs.Landed as Landed;
 
 use crate::spans::{Span, end_of, put, remove};
 use rdm_gaps::{Gaps, NoMemory};
 use rdm_mr::{Home, Part};
-use std::alloc::Global;
+use std::alloc::{AllocError, Global};
 use std::marker::Model;
 
 /// The bytes of a message so far, in a part that may be shorter than the message. It must be spent,
@@ -19,6 +20,9 @@ pub struct Landing {
     home: Home,
     gaps: Gaps,
     lent: Vec<Span>,
+    /// For how many ranges there is room to be filled. Beside it there is room to make each lent range
+    /// missing again.
+    room: u64,
 }
 
 impl Model for Landing {
@@ -30,7 +34,7 @@ impl Model for Landing {
 
     ghost use Rattle.rdm_land.specs.Inside.{IsLanding};
 
-    ghost view = { λ l. record { tiles = l.home; missing = l.gaps.places; lent = l.lent.items } };
+    ghost view = { λ l. record { tiles = l.home; missing = l.gaps.places; lent = l.lent.items; room = l.room } };
 
     ghost invariant = { IsLanding };
 }
@@ -57,17 +61,26 @@ fn write(home: &mut Home, off: u64, bytes: &[u8])
     }
 }
 
-/// Takes the range, if all of it is missing, and makes room to lend one range more.
-fn claim(gaps: &mut Gaps, lent: &mut Vec<Span>, off: u64, len: u64) -> Result<bool, NoMemory>
+/// Takes the range, if all of it is missing, and makes room to lend one range more beside `room`.
+fn claim(
+    gaps: &mut Gaps,
+    lent: &mut Vec<Span>,
+    room: u64,
+    off: u64,
+    len: u64,
+) -> Result<bool, NoMemory>
     ensures answer { IfOk result (λ claimed. IsTrue claimed ↔ AreMissing off len gaps.old.places) }
     ensures places { gaps.new.places ≡ (after_take gaps.old off len result).places }
     ensures spare { gaps.old.spare ≤ gaps.new.spare }
     ensures items { lent.new.items ≡ lent.old.items }
     ensures len { vec_len lent.new ≡ vec_len lent.old }
-    ensures room { IfOk result (λ _. (vec_len lent.new < gaps.new.spare) × (vec_len lent.new < vec_capacity lent.new)) }
+    ensures room { IfOk result (λ _. (vec_len lent.new + room < gaps.new.spare) × (vec_len lent.new < vec_capacity lent.new)) }
 {
     lent.reserve(1)?;
-    gaps.reserve(lent.len() as u64 + 1)?;
+    let Some(all) = (lent.len() as u64 + 1).checked_add(room) else {
+        return Err(AllocError);
+    };
+    gaps.reserve(all)?;
     gaps.take(off, len)
 }
 
@@ -134,16 +147,43 @@ impl Landing {
     {
         match Gaps::whole(alloc, length) {
             Ok(gaps) => match Home::new(alloc, part) {
-                Ok(home) => Ok(Landing {
-                    length,
-                    home,
-                    gaps,
-                    lent: Vec::new(alloc),
-                }),
+                Ok(home) => Ok(Landing::of(alloc, home, gaps)),
                 Err(part) => Err(part),
             },
             Err(_) => Err(part),
         }
+    }
+
+    /// A message lands in a home of which nothing is out, and the gaps are what is missing of it.
+    pub fn of(alloc: Global, home: Home, gaps: Gaps) -> Landing
+        requires whole { IsWhole home.cells }
+        requires none_out { home.out ≡ 0 }
+        ensures { result ≡ resumed home gaps }
+    {
+        let length = gaps.places();
+        let room = gaps.spare();
+        Landing {
+            length,
+            home,
+            gaps,
+            lent: Vec::new(alloc),
+            room,
+        }
+    }
+
+    /// Makes room to fill `n` ranges.
+    pub fn reserve(&mut self, n: u64) -> Result<(), NoMemory>
+        ensures ok { OnOk result (self.new ≡ with_room self.old n) }
+        ensures err { OnErr result (self.new ≡ self.old) }
+    {
+        if self.room < n {
+            let Some(all) = (self.lent.len() as u64).checked_add(n) else {
+                return Err(AllocError);
+            };
+            self.gaps.reserve(all)?;
+            self.room = n;
+        }
+        Ok(())
     }
 
     /// Places bytes, if all of their range is missing. What lies past the capacity is discarded.
@@ -158,11 +198,47 @@ impl Landing {
         Ok(Placed::Placed)
     }
 
+    /// The same where there is room, which can't fail.
+    pub fn fill(&mut self, off: u64, bytes: &[u8]) -> Placed
+        requires { 0 < self.old.room }
+        ensures answer { Says result (AreMissing off (length bytes.now) self.old.missing) }
+        ensures after { self.new ≡ after_fill self.old off bytes.now result }
+    {
+        if !self.gaps.take_reserved(off, bytes.len() as u64) {
+            return Placed::Overlap;
+        }
+        self.room -= 1;
+        write(&mut self.home, off, bytes);
+        Placed::Placed
+    }
+
     /// Nothing is missing, and nothing is lent.
     pub fn finished(&self) -> bool
         ensures { result ≡ is_finished self.now }
     {
         self.gaps.is_empty() && self.lent.is_empty()
+    }
+
+    /// How many places of the message are missing.
+    pub fn missing(&self) -> u64
+        ensures { result ≡ Landed.missing_places self.now }
+    {
+        self.gaps.missing()
+    }
+
+    /// How many ranges are lent.
+    pub fn lent(&self) -> usize
+        ensures { result ≡ length self.now.lent }
+    {
+        self.lent.len()
+    }
+
+    /// The bytes of a range below the capacity, if all of it is at home. They aren't copied.
+    pub fn bytes(&self, at: usize, len: usize) -> Option<&[u8]>
+        requires { at + len ≤ Landed.capacity self.now }
+        ensures { MatchOption result (AreHome at len self.now.tiles.cells → ⊥) (λ bytes. (length bytes.now ≡ len) × AreBytes at bytes.now self.now.tiles.cells) }
+    {
+        self.home.get(at, len)
     }
 
     /// How many bytes of the message lie past the capacity.
@@ -182,6 +258,7 @@ impl Landing {
             home,
             gaps: _,
             lent: _,
+            room: _,
         } = self;
         home.close()
     }
@@ -195,7 +272,7 @@ impl Landing {
         if len == 0 || capacity as u64 <= off {
             return Ok(None);
         }
-        if !claim(&mut self.gaps, &mut self.lent, off, len)? {
+        if !claim(&mut self.gaps, &mut self.lent, self.room, off, len)? {
             return Ok(None);
         }
         let count = (len as usize).min(capacity - off as usize);
@@ -206,6 +283,14 @@ impl Landing {
             }
             Err(error) => Err(error),
         }
+    }
+
+    /// What is lent is a loan, and no two loans share a place.
+    pub fn lent_law(&self)
+        ensures loans { LentAreLoans self.now }
+        ensures apart { LoansAreApart self.now }
+    {
+        let _room = self.room;
     }
 
     /// Takes the part of a range that is lent back, with its bytes.

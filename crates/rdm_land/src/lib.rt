@@ -8,4 +8,4 @@ mod spans;
 mod tests;
 
 pub use landing::{Landing, Placed};
-pub use lending::lending_law;
+pub use lending::{lending_law, loans_law};

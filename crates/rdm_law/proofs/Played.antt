@@ -1,4 +1,4 @@
--- What is played is lawful and right: each choice keeps a world sound, and rounds end.
+-- What is played is lawful and right: each choice keeps a world sound, and rounds end. So is what ports made that stopped by themselves.
 pub mod Apart
 pub mod Delivers
 pub mod DeliverSteps
@@ -21,3 +21,6 @@ pub mod Counted
 pub mod HandledApart
 pub mod MovedOnce
 pub mod PlaysRight
+pub mod JointWorlds
+pub mod Came
+pub mod Stopped

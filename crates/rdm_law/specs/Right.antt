@@ -1,16 +1,16 @@
 -- What is right of the report of a job that was played, wherever its world stopped.
-use Rattle.std.specs.Prelude.{◌≡◌, ℕ, ◌≤◌, ◌<◌, IsTrue, List, map, length}
+use Rattle.std.specs.Prelude.{◌≡◌, ℕ, ◌≤◌, IsTrue, List, map, length}
 use Rattle.rdm_lists.specs.Lists.{below}
 use Rattle.rdm_model.specs.declared.job.Job.{Job}
 use Rattle.rdm_model.specs.declared.entry.Entry.{Entry}
 use Rattle.rdm_model.specs.declared.report.End.{End}
 use Rattle.rdm_model.specs.declared.report.Report.{Report}
 use Rattle.rdm_model.specs.Owns.{port_count}
-use Rattle.rdm_model.specs.Jobs.{is_fair, law_ops, bound}
+use Rattle.rdm_model.specs.Jobs.{is_fair, law_ops}
 use Rattle.rdm_model.specs.Lawful.{Lawful}
 use Rattle.rdm_model.specs.Settled.{waiting_datagrams}
-use Rattle.rdm_model.specs.Reports.{end_in, is_stuck, RightReport}
-use Rattle.rdm_model.specs.Played.{IsPlayed, played_world, round_bound}
+use Rattle.rdm_model.specs.Reports.{end_in, is_stuck}
+use Rattle.rdm_model.specs.Played.{IsPlayed}
 
 -- how a port ended in a history, with so many datagrams in its stash
 unfoldable pub stashed_end : Job → List Entry → (stashed : ℕ → ℕ) → ℕ → End
@@ -28,13 +28,3 @@ pub record IsLawfulReport (job : Job) (report : Report) : Type 0 where
 -- What is played in a fair job is lawful.
 abbrev pub PlaysLawfully : Type 0
 PlaysLawfully = (job : Job) (report : Report) → IsTrue (is_fair law_ops job) → IsPlayed job report → IsLawfulReport job report
-
--- What is played in a fair job is right, where its history has no more entries than the job's bound.
-abbrev pub PlaysRightWithin : Type 0
-PlaysRightWithin =
-    (job : Job) (report : Report) → IsTrue (is_fair law_ops job) → IsPlayed job report → length report.history ≤ bound job → RightReport job report
-
--- So it is where the replay made fewer changes than it has rounds: its last round changed nothing.
-abbrev pub PlaysRightQuietly : Type 0
-PlaysRightQuietly =
-    (job : Job) (report : Report) → IsTrue (is_fair law_ops job) → IsPlayed job report → (played_world job).changes < round_bound job → RightReport job report

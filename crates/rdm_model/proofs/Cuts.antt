@@ -129,14 +129,6 @@ pub row_of_front : (n : ℕ) (whole : List ℕ) (from : ℕ) (ps : List Piece) �
 row_of_front n whole from [] r = tt
 row_of_front n whole from (p ∷ ps) r = (r.0, part_of_front n p whole r.1, row_of_front n whole (from + length p.bytes) ps r.2)
 
--- a part that is not empty ends within the message
-pub part_within : (p : Piece) (whole : List ℕ) → Part p whole → 0 < length p.bytes → p.offset + length p.bytes ≤ length whole
-part_within p whole h some =
-    let l : length p.bytes ≡ length (take (length p.bytes) (drop p.offset whole)) = ap length h in
-    let t = length-take (length p.bytes) (drop p.offset whole) in
-    let d = length-drop p.offset whole in
-    omega arith
-
 -- a row from the start ends within the message
 pub row_within : (whole : List ℕ) (from : ℕ) (ps : List Piece) → InRow whole from ps → from ≤ length whole → from + piece_bytes ps ≤ length whole
 unfolding piece_bytes

@@ -10,7 +10,6 @@ pub mod SameReplies
 pub mod SameDues
 pub mod SameCompletions
 pub mod SameAnswers
-pub mod SameNamed
 pub mod SameClasses
 pub mod SameFits
 -- What a log says of its messages stays as it grows:

@@ -1,5 +1,5 @@
 -- The packets that open a message: each tells its head, and their bytes stand in a row.
-use Rattle.std.proofs.Common.{◌≡◌, ℕ, ◌<◌, List, [], ◌∷◌, ◌++◌, length, map, take, Some, None, refl, arith, inl, inr, sym, ◌∙◌, ap, subst}
+use Rattle.std.proofs.Common.{◌≡◌, ℕ, ◌<◌, List, [], ◌∷◌, ◌++◌, length, map, take, Some, refl, arith, inl, inr, sym, ◌∙◌, ap, subst}
 use Rattle.std.proofs.lemmas.List.Elements.{filter_map-append}
 use Rattle.std.proofs.lemmas.List.{length-map}
 use Rattle.rdm_lists.specs.Lists.{Member}
@@ -26,11 +26,6 @@ pieces_in-append ps qs = filter_map-append packet_piece ps qs
 pub pieces_in_one : (p : Packet) (x : Piece) → packet_piece p ≡ Some x → pieces_in (p ∷ []) ≡ x ∷ []
 unfolding pieces_in
 pieces_in_one p x h = rw h refl
-
--- a packet that carries no bytes has no piece
-pub pieces_in_none : (p : Packet) → packet_piece p ≡ None → pieces_in (p ∷ []) ≡ []
-unfolding pieces_in
-pieces_in_none p h = rw h refl
 
 -- the packet opens the message, and tells its head
 pub record Opening (limits : EpLimits) (m : Message) (kind : Kind) (p : Packet) : Type 0 where

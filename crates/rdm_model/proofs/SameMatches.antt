@@ -8,7 +8,7 @@ use Rattle.rdm_model.specs.declared.job.Instr.TheVariants.{Recv, Cancel as Cance
 use Rattle.rdm_model.specs.Deeds.{Deed, Did, Took}
 use Rattle.rdm_model.specs.Owns.{Heads}
 use Rattle.rdm_model.specs.Heard.{heard_head, entering}
-use Rattle.rdm_model.specs.Matches.{matching, pairs, events_by, arrival, merge}
+use Rattle.rdm_model.specs.Matches.{matching, pairs, events_by, arrival}
 use Rattle.rdm_model.specs.Parts.{carried_pieces}
 use Rattle.rdm_model.proofs.Matches.{is_pair_member, heard_still, entered_heard, entering_parts, pair_heard}
 use Rattle.rdm_lists.proofs.Same.{map_same}
@@ -63,15 +63,6 @@ matching_same first hs ks (d ∷ before) a =
 -- so are the pairs
 pub pairs_same : (first : ℕ) (hs ks : Heads) (log : List Deed) → HeadsAgree hs ks log → pairs first hs log ≡ pairs first ks log
 pairs_same first hs ks log a = ap (λ (m : Matching). m.pairs) (matching_same first hs ks log a)
-
--- so is all that comes to the matcher
-pub merge_same : (first : ℕ) (hs ks : Heads) (log : List Deed) → HeadsAgree hs ks log → merge first hs log ≡ merge first ks log
-unfolding merge
-merge_same first hs ks [] a = refl
-merge_same first hs ks (d ∷ before) a =
-    let earlier = merge_same first hs ks before (heads_before hs ks d before a) in
-    let newest = events_same first hs ks before d a in
-    rw (earlier, newest)
 
 -- the same bytes of each message came
 pub carried_pieces_same : (first : ℕ) (hs ks : Heads) (log : List Deed) (source : Life) (n : ℕ) → HeadsAgree hs ks log

@@ -38,7 +38,3 @@ pub sent_placed : (job : Job) (history : List Entry) (source life : Life) (n : �
     → ((sent_to job history life).head source n ≡ message_head job.limits s.message s.kind) × ((sent_to job history life).bytes source n ≡ s.message.bytes)
 unfolding sent_to
 sent_placed job history source life n s le h = message_placed job (sends_in job history) source life n s le h
-
--- sends of one life to one life whose messages have one number are one
-pub one_message : (sents : List Sent) (to : Life) (first n : ℕ) (s t : Sent) → slice_get (sends_to sents to) (n - first) ≡ Some s → slice_get (sends_to sents to) (n - first) ≡ Some t → s ≡ t
-one_message sents to first n s t h k = cc

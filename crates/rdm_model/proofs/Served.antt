@@ -76,12 +76,6 @@ push_member own ms s p k [] h = elim h [ ]
 push_member own ms s p k (d ∷ before) (inl a) = member_later own ms d before s (next_send_due own ms before s p a.1).member
 push_member own ms s p k (d ∷ before) (inr a) = member_later own ms d before s (push_member own ms s p k before a)
 
--- the place of a push is below the count of deeds
-pub push_before : (own : Own) (ms : Messages) (t : Due) (k : ℕ) (log : List Deed) → PushedAt own ms t k log → k < length log
-push_before own ms t k [] h = elim h [ ]
-push_before own ms t k (d ∷ before) (inl a) = let e = a.2 in omega arith
-push_before own ms t k (d ∷ before) (inr a) = let l = push_before own ms t k before a in omega arith
-
 -- that push was of the packet at that place of its send
 abbrev pub ServedAt : Own → Messages → Sent → Packet → ℕ → ℕ → List Deed → Type 0
 ServedAt own ms s p i k [] = ⊥

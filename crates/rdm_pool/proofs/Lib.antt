@@ -1,7 +1,9 @@
+mod Tree
 mod Entries
 mod Search
 mod Live
 mod SlabKeys
+mod Following
 mod Changed
 mod Seen
 mod Law

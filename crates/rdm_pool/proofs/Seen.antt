@@ -6,11 +6,13 @@ use Rattle.rdm_num.specs.declared.numbers.OpId.{OpId}
 use Rattle.slab.specs.Slab as slab
 use Rattle.slab.specs.Slab.{Slab, get, ContainsKey, Updates, slab_len}
 use Rattle.slab.proofs.SlabLemmas.{ContainsKey-within, Updates-with_value}
-use Rattle.rdm_pool.specs.Numbered.{value_at, without, is_full, found, after_put, after_take, after_write}
+use Rattle.rdm_pool.specs.Numbered.{value_at, without, is_full, found, after_put, after_take, after_write, next_from, IsNext}
 use Rattle.rdm_pool.specs.declared.Pool.TheInside.{Inside}
 use Rattle.rdm_pool.specs.Places.{live, listed, seen, IsKept}
+use Rattle.rdm_pool.specs.Ends.{first_above}
 use Rattle.rdm_pool.proofs.Entries.{without-absent}
-use Rattle.rdm_pool.proofs.SlabKeys.{some_of, length-listed, value_under, found_at}
+use Rattle.rdm_pool.proofs.SlabKeys.{some_of, length-listed, value_under, found_at, is_pool}
+use Rattle.rdm_pool.proofs.Following.{end_after, first_end, first_listed, first_is}
 use Rattle.rdm_pool.proofs.Changed.{listed-take, held-written, listed-written}
 
 module _ {T : Type 0} where
@@ -46,6 +48,8 @@ module _ {T : Type 0} where
         within = rw same kept.within;
         has_slots = kept.has_slots;
         has_places = kept.has_places;
+        ended = kept.ended;
+        has_ends = kept.has_ends;
       }
 
   -- what is seen after a write
@@ -62,3 +66,13 @@ module _ {T : Type 0} where
       let same = others ∙ without-absent (live p.places.items) id.0 (sym none) in
       let absent = found_under p kept id None none in
       ap (λ list. record { list = list; size = p.size; made = p.made }) (ap (listed p.values) same ∙ sym (without-absent (listed p.values (live p.places.items)) id.0 absent))
+
+  -- the first end above a number is that of the next number
+  pub next_end : (p : Inside T) → IsKept p → (from : OpId) → first_above p.ends from.0 ≡ end_after (next_from (seen p) from)
+  next_end p kept from = first_end p.places.items p.ends from.0 kept.ended ∙ ap end_after (sym (first_listed p.values (live p.places.items) from.0 kept.held))
+
+  -- the next number is the least that has a value
+  pub next_is : (p : Inside T) → IsKept p → (from id : OpId) → next_from (seen p) from ≡ Some id → IsNext (seen p) from id
+  next_is p kept from id is =
+      let first = first_is 0 p.made (seen p).list from.0 id (is_pool p kept).rises is in
+      record { has_value = first.0; not_before = first.1; least = λ other. first.2 other.0 }

@@ -1,5 +1,6 @@
 -- Values under numbers that never repeat.
 pub mod Numbered
+pub mod Ends
 pub mod Places
 pub mod Lends
 pub mod Runs

@@ -1,5 +1,5 @@
 -- Values, each under a number that no other value gets.
-use Rattle.std.specs.Prelude.{ℕ, ◌+◌, ◌≤◌, ◌<◌, ◌==◌, Bool, if◌then◌else◌, List, [], ◌∷◌, ◌++◌, length, Option, Some, None, Result, Ok, Err}
+use Rattle.std.specs.Prelude.{◌≡◌, ℕ, ◌+◌, ◌≤◌, ◌<◌, ◌==◌, nat_lt, Bool, if◌then◌else◌, List, [], ◌∷◌, ◌++◌, length, Option, Some, None, IsSome, Result, Ok, Err}
 use Rattle.rdm_num.specs.declared.numbers.OpId.{OpId}
 use Rattle.rdm_pool.specs.declared.Full.{Full}
 
@@ -66,3 +66,22 @@ module _ {T : Type 0} where
   -- another value stands under the number
   abbrev pub after_write : Numbered T → OpId → T → Numbered T
   after_write p id value = record p { list = with_value p.list id.0 value }
+
+  -- the first number of a list that is not below a number
+  unfoldable pub first_from : List (ℕ × T) → ℕ → Option OpId
+  first_from [] number = None
+  first_from (entry ∷ rest) number = if nat_lt entry.0 number then first_from rest number else Some (record { 0 = entry.0 })
+
+  -- the first number from a given one on that has a value
+  abbrev pub next_from : Numbered T → OpId → Option OpId
+  next_from p from = first_from p.list from.0
+
+  -- of the numbers from a given one on, this is the least that has a value
+  pub record IsNext (p : Numbered T) (from id : OpId) : Type 0 where
+    pub has_value : IsSome (found p id)
+    pub not_before : from.0 ≤ id.0
+    pub least : (other : OpId) → from.0 ≤ other.0 → other.0 < id.0 → found p other ≡ None
+
+  -- no number from a given one on has a value
+  abbrev pub HasNoNext : Numbered T → OpId → Type 0
+  HasNoNext p from = (other : OpId) → from.0 ≤ other.0 → found p other ≡ None

@@ -55,6 +55,22 @@ abbrev pub IsFree : List (ℕ × ℕ) → ℕ → Type 0
 IsFree [] key = Unit {0}
 IsFree (pair ∷ rest) key = (pair.1 ≢ key) × IsFree rest key
 
+-- the end of a number is one more than it, and 0 where it has no key
+abbrev pub end_of : ℕ → Option ℕ → ℕ
+end_of number None = 0
+end_of number (Some key) = number + 1
+
+-- each is 0
+abbrev pub AreZero : List ℕ → Type 0
+AreZero [] = Unit {0}
+AreZero (end ∷ rest) = (end ≡ 0) × AreZero rest
+
+-- each place has its end, and what follows is 0
+abbrev pub HaveEnds : List Place → List ℕ → Type 0
+HaveEnds [] ends = AreZero ends
+HaveEnds (place ∷ rest) [] = ⊥
+HaveEnds (place ∷ rest) (end ∷ ends) = (end ≡ end_of place.number place.key) × HaveEnds rest ends
+
 module _ {T : Type 0} where
   -- each number has a value, under a key that no other number has
   abbrev pub AreHeld : Slab T → List (ℕ × ℕ) → Type 0
@@ -79,3 +95,5 @@ module _ {T : Type 0} where
     pub within : slab_len p.values ≤ p.size
     pub has_slots : p.size ≤ p.values.capacity
     pub has_places : 2 * p.size ≤ vec_capacity p.places
+    pub ended : HaveEnds p.places.items p.ends
+    pub has_ends : vec_capacity p.places ≤ length p.ends

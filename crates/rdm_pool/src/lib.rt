@@ -1,10 +1,10 @@
 //! Values under numbers that never repeat, in memory that is taken once.
 #![tactic(auto)]
 
-ghost use Rattle.std.specs.Prelude.{◌≡◌, ◌<◌, IfOk, option_copied};
+ghost use Rattle.std.specs.Prelude.{◌≡◌, ◌<◌, IfOk, IfSome, IfNone, option_copied};
 ghost use Rattle.std.specs.Option.{option_copied_mut};
 ghost use Rattle.std.specs.Borrow.{sem};
-ghost use Rattle.rdm_pool.specs.Numbered.{nothing_put, put_answer, after_put, found, after_take, IsPool};
+ghost use Rattle.rdm_pool.specs.Numbered.{nothing_put, put_answer, after_put, found, after_take, next_from, IsNext, HasNoNext, IsPool};
 ghost use Rattle.rdm_pool.specs.Numbered as Numbered;
 ghost use Rattle.rdm_pool.specs.Runs.{NumbersComeOnce};
 
@@ -13,10 +13,12 @@ use slab::Slab;
 use std::alloc::{AllocError, Global};
 use std::marker::Model;
 
+mod ends;
 mod places;
 #[cfg(test)]
 mod tests;
 
+use ends::Ends;
 use places::{Place, key_of, make_room, take_key};
 
 /// The pool holds as many values as it may, so this one is given back.
@@ -32,6 +34,9 @@ pub struct Pool<T> {
     // taken, more than half of the places are gone. The put drops those and moves the others up,
     // fewer than the puts that came since the last time.
     places: Vec<Place>,
+    // The end of each place's number while it has a value. The way to the first end above a number
+    // is as long as the tree is high, so no search steps over places that are gone, however many.
+    ends: Ends,
     size: usize,
     made: u32,
 }
@@ -58,10 +63,12 @@ impl<T> Pool<T> {
     {
         let room = size.checked_mul(2).ok_or(AllocError)?;
         let places = Vec::with_capacity(alloc, room)?;
+        let ends = Ends::new(alloc, places.capacity())?;
         let values = Slab::with_capacity(alloc, size)?;
         Ok(Pool {
             values,
             places,
+            ends,
             size,
             made: 0,
         })
@@ -76,13 +83,14 @@ impl<T> Pool<T> {
         if self.is_full() {
             return Err(Full(value));
         }
-        make_room(&mut self.places);
+        make_room(&mut self.places, &mut self.ends);
         let number = self.made;
         let key = self.values.insert_reserved(value);
         let place = Place {
             number,
             key: Some(key),
         };
+        self.ends.set(self.places.len(), place.end());
         self.places.push_reserved(place);
         self.made += 1;
         Ok(OpId(number))
@@ -114,8 +122,18 @@ impl<T> Pool<T> {
         ensures answer { result ≡ found self.old id }
         ensures after { self.new ≡ after_take self.old id }
     {
-        let key = take_key(&mut self.places, id)?;
+        let key = take_key(&mut self.places, &mut self.ends, id)?;
         Some(self.values.remove(key))
+    }
+
+    /// The least number from a given one on that has a value.
+    pub fn next_from(&self, from: OpId) -> Option<OpId>
+        ensures answer { result ≡ next_from self.now from }
+        ensures next { IfSome result (IsNext self.now from) }
+        ensures none { IfNone result (HasNoNext self.now from) }
+    {
+        let end = self.ends.first_above(from.0)?;
+        Some(OpId(end - 1))
     }
 
     /// A put would give its value back.

@@ -52,7 +52,18 @@ fn values_come_and_go(rt: HostRuntime) -> Result<(), Fail> {
             assert!(rt; pool.get(OpId(*other)).copied() == Some(value_for(*other)));
         }
     }
-    assert!(rt; held.len() == 4);
+    assert!(rt; pool.take(OpId(97)) == Some(value_for(97)));
+    let nexts = [
+        (0, Some(OpId(96))),
+        (96, Some(OpId(96))),
+        (97, Some(OpId(98))),
+        (99, Some(OpId(99))),
+        (100, None),
+        (u32::MAX, None),
+    ];
+    for (from, next) in nexts {
+        assert!(rt; pool.next_from(OpId(from)) == next);
+    }
     Ok(())
 }
 

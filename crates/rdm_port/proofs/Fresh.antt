@@ -1,5 +1,5 @@
 -- A port before any step keeps what its log says.
-use Rattle.std.proofs.Common.{◌≡◌, ℕ, Bool, true, false, List, [], refl, sym, subst, arith}
+use Rattle.std.proofs.Common.{◌≡◌, ◌≤◌, ℕ, Bool, true, false, List, [], length, refl, sym, subst, arith}
 use Rattle.std.specs.Prelude.{◌&&◌, ◌==◌}
 use Rattle.rdm_model.specs.declared.entry.Entry.{Entry}
 use Rattle.rdm_model.specs.Deeds.{deeds, open_life, deed_count}
@@ -36,10 +36,10 @@ fresh_kept v =
       few_from_other = omega arith;
     }
 
--- a port before any step is sound
-pub fresh_sound : (v : PortView) (k : Kept) (room : ℕ) → v.log ≡ [] → k ≡ new_kept v.start → IsSoundPort v k room
+-- a port before any step is sound, where its log has room for the entries of its instructions
+pub fresh_sound : (v : PortView) (k : Kept) (room : ℕ) → v.log ≡ [] → k ≡ new_kept v.start → length v.rank.ops ≤ room → IsSoundPort v k room
 unfolding places_of
-fresh_sound v k room l e =
+fresh_sound v k room l e long =
     subst (λ (x : Kept). IsSoundPort v x room) (sym e)
     (record {
       kept = subst (λ (es : List Entry). IsKept (with_log v es) (new_kept v.start)) (sym l) (fresh_kept v);

@@ -103,6 +103,16 @@ taken_places : (old new : Kept) (d : Datagram) (answer : Handled) → (answer �
     → places_of new.endpoint ≡ places_of old.endpoint
 taken_places old new d answer h = ap (λ (k : Kept). places_of k.endpoint) h.1 ∙ life_places old.endpoint d
 
+-- what comes to a life does no instruction
+pub takes_done : (old new : Kept) (d : Datagram) (answer : Handled) → TakesIn old new d answer → new.done ≡ old.done
+takes_done old new d (H.Took entered) h = ap (λ (k : Kept). k.done) h.1
+takes_done old new d (H.Dropped class') h = ap (λ (k : Kept). k.done) h.1
+takes_done old new d H.AgainEarly h = ap (λ (k : Kept). k.done) h.1
+takes_done old new d H.AgainCopy h = ap (λ (k : Kept). k.done) h.1
+takes_done old new d H.Empty h = ap (λ (k : Kept). k.done) h.1
+takes_done old new d H.Worn h = ap (λ (k : Kept). k.done) h.1
+takes_done old new d H.Memory h = ap (λ (k : Kept). k.done) h
+
 -- the answer to what comes to a life takes no place for a completion
 pub takes_places : (old new : Kept) (d : Datagram) (answer : Handled) → TakesIn old new d answer → places_of new.endpoint ≡ places_of old.endpoint
 takes_places old new d (H.Took entered) h = taken_places old new d (H.Took entered) h

@@ -12,6 +12,7 @@ pub mod NextOpens
 pub mod NextKept
 -- The step of an instruction, and how a port ends:
 pub mod NextRoom
+pub mod NextSpares
 pub mod NextSteps
 pub mod Endings
 -- Pushes and polls: what goes out next, what they leave, and how they end:

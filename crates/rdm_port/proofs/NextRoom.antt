@@ -17,17 +17,22 @@ use Rattle.rdm_ep.specs.Receiving.{after_post, landed, after_recv}
 use Rattle.rdm_ep.specs.Cancelling.{after_cancel}
 use Rattle.rdm_port.specs.Views.{PortView}
 use Rattle.rdm_port.specs.Kept.{Kept, places_of}
-use Rattle.rdm_port.specs.Machine.{after_did, after_entry, unless_worn}
+use Rattle.rdm_port.specs.Machine.{after_did, after_entry, unless_worn, takes_memory, extra_places}
+
+-- an entry yields to the end of the clock
+pub worn_entry : (k : Kept) (answer machine : Next) → answer ≡ machine → is_entry answer ≡ true → 9223372036854775807 ≤ k.clock → Worn ≡ unless_worn k machine
+unfolding unless_worn
+worn_entry k answer machine a e late =
+    let enters : is_entry machine ≡ true = sym (ap is_entry a) ∙ e in
+    let worn = le-leb 9223372036854775807 k.clock late in
+    rw (enters, worn) refl
 
 -- an answer that would be an entry yields to the end of the clock
 pub worn_answer : (k : Kept) (answer machine : Next) → (answer ≡ Memory) ⊎ (answer ≡ machine) → is_entry answer ≡ true → 9223372036854775807 ≤ k.clock
     → (Worn ≡ Memory) ⊎ (Worn ≡ unless_worn k machine)
 unfolding unless_worn is_entry
 worn_answer k answer machine (inl m) e late = cc (ap is_entry m)
-worn_answer k answer machine (inr a) e late =
-    let enters : is_entry machine ≡ true = sym (ap is_entry a) ∙ e in
-    let worn = le-leb 9223372036854775807 k.clock late in
-    inr (rw (enters, worn) refl)
+worn_answer k answer machine (inr a) e late = inr (worn_entry k answer machine a e late)
 
 -- where the answer is an entry by the tests of the clock, the clock is not at its end
 early_by : (entry late : Bool) (x : Next) → is_entry x ≡ entry → is_entry (cond (entry && late) Worn x) ≡ true → late ≡ false
@@ -64,25 +69,31 @@ unfolding after_post landed cq_in
 post_places e p None = omega arith
 post_places e p (Some i) = omega arith
 
+-- a change of the endpoint that takes no place
+stays : (f : EndpointView → EndpointView) (o : Option EndpointView) → ((e : EndpointView) → cq_in (f e) ≡ cq_in e) → places_of (option_map f o) ≡ places_of o
+unfolding places_of
+stays f None h = refl
+stays f (Some e) h = h e
+
 -- what a change of the endpoint takes
 mapped : (f : EndpointView → EndpointView) (o : Option EndpointView) → ((e : EndpointView) → cq_in (f e) ≤ cq_in e + 1) → places_of (option_map f o) ≤ places_of o + 1
 unfolding places_of
 mapped f None h = omega arith
 mapped f (Some e) h = h e
 
--- an instruction that did takes one place at most
-did_places : (v : PortView) (k : Kept) (instr : Instr) → places_of (after_did v instr k).endpoint ≤ places_of k.endpoint + 1
-unfolding after_did places_of new_endpoint after_reg after_send after_recv after_cancel cq_in
+-- an instruction that did takes one place at most, and none where it takes no memory
+did_places : (v : PortView) (k : Kept) (instr : Instr) → places_of (after_did v instr k).endpoint ≤ places_of k.endpoint + extra_places instr
+unfolding after_did places_of new_endpoint after_reg after_send after_recv after_cancel cq_in takes_memory
 did_places v k (OpenLife connid) = omega arith
 did_places v k (Insert l) = mapped (λ e. after_insert e l) k.endpoint (λ e. let i = insert_places e l in omega arith)
 did_places v k (Reg content) = mapped (λ e. after_reg e content) k.endpoint (λ e. omega arith)
 did_places v k (Send req) = mapped (λ e. after_send e req) k.endpoint (λ e. send_places e req (current_in e req.to.0))
 did_places v k (Recv req) = mapped (λ e. after_recv e req) k.endpoint (λ e. post_places e _ _)
-did_places v k (Cancel recv) = mapped (λ e. after_cancel e recv) k.endpoint (λ e. omega arith)
+did_places v k (Cancel recv) = let s = stays (λ e. after_cancel e recv) k.endpoint (λ e. refl) in omega arith
 did_places v k _ = omega arith
 
--- an entry of an instruction takes one place at most
-pub entry_places : (v : PortView) (k : Kept) (instr : Instr) (answer : Next) → places_of (after_entry v instr answer k).endpoint ≤ places_of k.endpoint + 1
+-- an entry of an instruction takes one place at most, and none where it takes no memory
+pub entry_places : (v : PortView) (k : Kept) (instr : Instr) (answer : Next) → places_of (after_entry v instr answer k).endpoint ≤ places_of k.endpoint + extra_places instr
 unfolding after_entry
 entry_places v k instr (Did what) = did_places v k instr
 entry_places v k instr _ = omega arith

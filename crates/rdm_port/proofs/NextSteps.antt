@@ -48,7 +48,7 @@ goes_as v k new instr answer log e n h q a i =
     (subst (λ (l : List Entry). NextDone v l (next_counted (after_entry v instr answer k)) answer) (sym e) (next_goes v k instr answer h q a i))
 
 -- an entry changes no count but those of instructions and of the clock
-entry_counts : (v : PortView) (k : Kept) (instr : Instr) (answer : Next) → CountsSame k (after_entry v instr answer k)
+pub entry_counts : (v : PortView) (k : Kept) (instr : Instr) (answer : Next) → CountsSame k (after_entry v instr answer k)
 unfolding after_entry
 entry_counts v k instr (Did what) = did_counts v k instr
 entry_counts v k instr _ = record { done = refl; clock = refl; pushed = refl; to_other = refl; from_other = refl }

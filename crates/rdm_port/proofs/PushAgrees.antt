@@ -68,11 +68,6 @@ leaving_departs : (job : Job) (v : PortView) (k : Kept) (e : EndpointView) (o : 
 leaving_departs job v k e None p h q = refl
 leaving_departs job v k e (Some l) p h q = ap Some (packet_departs job v k e l p h q)
 
--- nothing goes out where no life is open
-none_goes : (s : Scene) → s.now ≡ None → life_going s.now s ≡ None
-unfolding life_going
-none_goes s e = rw e refl
-
 -- what goes out in the scene of a life
 scene_goes : (ports : ℕ) (own : Own) (port_log log : List Deed) (s : Scene) → s ≡ life_scene ports own port_log log
     → life_going s.now s ≡ due_going (due own (heard_by own.limits.first log) log)

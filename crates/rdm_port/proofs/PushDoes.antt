@@ -5,7 +5,7 @@ use Rattle.std.proofs.lemmas.Bool.{le-leb, lt-leb}
 use Rattle.rdm_wire.specs.declared.Datagram.{Datagram}
 use Rattle.rdm_model.specs.declared.job.Job.{Job}
 use Rattle.rdm_model.specs.declared.entry.Act.{Act}
-use Rattle.rdm_model.specs.declared.answer.Push.TheVariants.{Pushed, Idle, Full, Worn, Memory}
+use Rattle.rdm_model.specs.declared.answer.Push.TheVariants.{Pushed, Idle, Full, Worn}
 use Rattle.rdm_model.specs.Steps.{stamp_after}
 use Rattle.rdm_model.specs.Settled.{is_worn}
 use Rattle.rdm_port.specs.declared.going.Departure.{Departure}
@@ -46,10 +46,6 @@ push_worn v k o h e l job p =
 pub push_full : (v : PortView) (k : Kept) (o : Departure) → IsKept v k → departing k ≡ Some o → k.clock < 9223372036854775807 → DoesPush v v (Full o.dst)
 push_full v k o h e l job p =
     subst (λ (d : Option Datagram). PushedAs job v v d (Full o.dst)) (sym (next_departs job v k (Some o) p h e)) (not_worn_now job v k p h l, refl, refl)
-
--- memory is wanted
-pub push_wants : (v : PortView) → DoesPush v v Memory
-push_wants v job p = elim (out_of job v) as (λ d. PushedAs job v v d Memory) [ None ↦ refl | Some d ↦ refl ]
 
 -- the port with the push in its log
 abbrev pub pushed_port : PortView → Kept → Departure → PortView

@@ -35,6 +35,12 @@ unfolding after_went
 went_places (Note note) k = refl
 went_places (Between from to load) k = life_places k.endpoint
 
+-- a push does no instruction
+pub went_done : (body : Body) (k : Kept) → (after_went body k).done ≡ k.done
+unfolding after_went
+went_done (Note note) k = refl
+went_done (Between from to load) k = refl
+
 -- a poll of an endpoint gives a place back
 polled_place : (e : EndpointView) (cs : List Completion) (c : Completion) → slice_get cs 0 ≡ Some c → cq_in (polled_by e cs) ≡ cq_in e - 1
 unfolding polled_by cq_in
@@ -47,6 +53,6 @@ unfolding places_of completion_in after_poll
 polled_places None c q = cc
 polled_places (Some e) c q = polled_place e e.completions c q
 
--- where there was room for the places that are taken and for one entry more, there is room for the places once the entry is made
-pub room_left : (places places' room room' : ℕ) → places' ≡ places → places + 1 ≤ room → room' + 1 ≡ room → places' ≤ room'
-room_left places places' room room' e h r = omega arith
+-- where there was room for all entries that must not want memory and for one more, there is room for them once that one is made
+pub room_left : (all places places' done done' room room' : ℕ) → places' ≡ places → done' ≡ done → places + (all - done) + 1 ≤ room → room' + 1 ≡ room → places' + (all - done') ≤ room'
+room_left all places places' done done' room room' e d h r = omega arith

@@ -1,5 +1,5 @@
 -- What a port keeps of its log.
-use Rattle.std.specs.Prelude.{◌≡◌, ◌<◌, ◌≤◌, ℕ, Bool, not, ◌&&◌, ◌==◌, List, [], ◌∷◌, map, length, drop, Option, Some, None}
+use Rattle.std.specs.Prelude.{◌≡◌, ◌<◌, ◌≤◌, ℕ, ◌+◌, ◌-◌, Bool, not, ◌&&◌, ◌==◌, List, [], ◌∷◌, map, length, drop, Option, Some, None}
 use Rattle.std.specs.List.{list_any}
 use Rattle.rdm_lists.specs.Lists.{Member}
 use Rattle.rdm_num.specs.Lives.{same_life}
@@ -124,11 +124,11 @@ unfoldable pub places_of : Option EndpointView → ℕ
 places_of None = 0
 places_of (Some e) = cq_in e
 
--- the log has room for all completions that may still be polled
-abbrev pub HasRoom : (room : ℕ) → Kept → Type 0
-HasRoom room k = places_of k.endpoint ≤ room
+-- the log has room for all completions that may still be polled, and for the instructions that are left of so many
+abbrev pub HasRoom : (all room : ℕ) → Kept → Type 0
+HasRoom all room k = places_of k.endpoint + (all - k.done) ≤ room
 
--- what is true of each port: it keeps what its log says, and a poll wants no memory
+-- what is true of each port: it keeps what its log says, and neither the entry of an instruction nor that of a poll wants memory
 pub record IsSoundPort (v : PortView) (k : Kept) (room : ℕ) : Type 0 where
   pub kept : IsKept v k
-  pub roomy : HasRoom room k
+  pub roomy : HasRoom (length v.rank.ops) room k

@@ -1,5 +1,5 @@
 -- What the code of a port answers and changes, by what it keeps.
-use Rattle.std.specs.Prelude.{◌≡◌, ℕ, ◌+◌, Bool, false, not, ◌&&◌, ◌||◌, nat_lt, nat_le, if◌then◌else◌, List, [], ◌∷◌, ◌++◌, map, length, drop, Option, Some, None, is_some, option_map, slice_get, max}
+use Rattle.std.specs.Prelude.{◌≡◌, ℕ, ◌+◌, Bool, true, false, not, ◌&&◌, ◌||◌, nat_lt, nat_le, if◌then◌else◌, List, [], ◌∷◌, ◌++◌, map, length, drop, Option, Some, None, is_some, option_map, slice_get, max}
 use Rattle.rdm_num.specs.Lives.{life}
 use Rattle.rdm_num.specs.declared.numbers.PortNo.{PortNo}
 use Rattle.rdm_num.specs.declared.numbers.Life.{Life}
@@ -83,6 +83,17 @@ machine_answer v k (Await from what) = if is_told k.told from.0 what then Did Pl
 machine_answer v k (Wait count) =
     with_endpoint k.endpoint (λ e. if nat_lt e.polled count then NotYet (Yet.Wait e.polled count) else Did Plain)
 machine_answer v k CloseLife = Memory
+
+-- the instruction takes memory beside that of its entry: all but a cancel, an await and a wait do
+unfoldable pub takes_memory : Instr → Bool
+takes_memory (Cancel recv) = false
+takes_memory (Await from what) = false
+takes_memory (Wait count) = false
+takes_memory _ = true
+
+-- how many completions more an instruction may owe
+abbrev pub extra_places : Instr → ℕ
+extra_places instr = if takes_memory instr then 1 else 0
 
 -- what an instruction that did makes of what the port keeps
 unfoldable pub after_did : PortView → Instr → Kept → Kept

@@ -1,15 +1,19 @@
 -- What the next instruction of a port answers.
-use Rattle.std.specs.Prelude.{◌≡◌, ◌⊎◌, if◌then◌else◌, Option, Some, None, unwrap_or, length}
+use Rattle.std.specs.Prelude.{◌≡◌, ◌⊎◌, IsTrue, if◌then◌else◌, Option, Some, None, is_some, unwrap_or, length, slice_get}
 use Rattle.rdm_model.specs.declared.job.Job.{Job}
 use Rattle.rdm_model.specs.declared.job.Instr.{Instr}
+use Rattle.rdm_model.specs.declared.job.Instr.TheVariants.{Await, Cancel, Wait}
 use Rattle.rdm_model.specs.declared.answer.Next.{Next}
 use Rattle.rdm_model.specs.declared.answer.Next.TheVariants.{Ended, Memory}
 use Rattle.rdm_model.specs.Answers.{is_entry}
+use Rattle.rdm_model.specs.Deeds.{open_life}
+use Rattle.rdm_model.specs.Steps.{count, is_next}
 use Rattle.rdm_model.specs.Settled.{instruction_left, left_at}
 use Rattle.rdm_model.specs.Worlds.{next_act}
 use Rattle.rdm_model.specs.Reports.{end_of}
 use Rattle.rdm_model.specs.declared.report.End.{End}
 use Rattle.rdm_port.specs.Views.{PortView, IsPortOf, scene_at, logged}
+use Rattle.rdm_port.specs.Kept.{deeds_of}
 
 -- the answer of the next instruction, or Ended where none is left
 unfoldable pub next_answer : Job → PortView → Next
@@ -28,6 +32,21 @@ after_next job v answer = after_instruction job v (instruction_left job v.number
 pub record DoesNext (old new : PortView) (answer : Next) : Type 0 where
   pub exact : (job : Job) → IsPortOf job old → (answer ≡ Memory) ⊎ (answer ≡ next_answer job old)
   pub after : (job : Job) → IsPortOf job old → new ≡ after_next job old answer
+
+-- a life is open at the port
+abbrev pub HasLife : PortView → Type 0
+HasLife v = IsTrue (is_some (open_life (deeds_of v)))
+
+-- the instruction takes no memory: an await, or a cancel or a wait of an open life
+abbrev pub TakesNone : PortView → Option Instr → Type 0
+TakesNone v (Some (Await from what)) = Unit {0}
+TakesNone v (Some (Cancel recv)) = HasLife v
+TakesNone v (Some (Wait count)) = HasLife v
+TakesNone v _ = ⊥
+
+-- the next instruction of the port takes no memory
+abbrev pub NextTakesNone : PortView → Type 0
+NextTakesNone v = TakesNone v (slice_get v.rank.ops (count is_next v.log))
 
 -- the end is that of the port as it stands
 abbrev pub EndsAs : PortView → End → Type 0

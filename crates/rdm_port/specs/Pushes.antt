@@ -45,10 +45,10 @@ PushesOn in_order log (Pushed number) before after = (d : Datagram) × IsPushOf 
 PushesOn in_order log (Full port) before after = IsFullAt port.0 before × (after ≡ before)
 PushesOn in_order log answer before after = after ≡ before
 
--- a refusal comes only where the wire's count of refusals rose
+-- a refusal comes only where the wire's count of refusals rose, and any other answer leaves the count
 abbrev pub FullRose : (before after : ℕ) → Push → Type 0
 FullRose before after (Full port) = Rose before after
-FullRose before after _ = Unit {0}
+FullRose before after _ = after ≡ before
 
 -- a wire has the ports that it had, and serves those that it served
 abbrev pub IsKeptWire : {W : Type 0} → (W → ℕ) → (W → ℕ → Bool) → W → W → Type 0

@@ -1,11 +1,12 @@
 //! What an instruction answers, by what a port keeps.
-ghost use Rattle.std.specs.Prelude.{◌≡◌, ◌⊎◌, ◌+◌, Some, nat_le};
+ghost use Rattle.std.specs.Prelude.{◌≡◌, ◌⊎◌, ◌+◌, Some, true, false, nat_le};
 ghost use Rattle.rdm_model.specs.declared.answer.Next.TheVariants as NextKind;
+ghost use Rattle.rdm_model.specs.Jobs.{needs_life};
 ghost use Rattle.rdm_port.specs.Views.{PortView};
 ghost use Rattle.rdm_port.specs.Kept as KeptWords;
 ghost use Rattle.rdm_port.specs.Kept.{Kept};
 ghost use Rattle.rdm_ep.specs.Answers as EpAnswers;
-ghost use Rattle.rdm_port.specs.Machine.{header_size, machine_answer};
+ghost use Rattle.rdm_port.specs.Machine.{header_size, machine_answer, takes_memory};
 
 use crate::kept::{State, Told};
 use rdm_ep::{Endpoint, RecvAnswer, SendAnswer};
@@ -64,9 +65,10 @@ fn next_of_recv(answer: RecvAnswer) -> Next
 
 impl State {
     /// What an instruction answers. What is not built yet wants memory.
-    #[tactic(auto, unfolding(crate::specs::Machine::machine_answer, crate::specs::Machine::insert_answer_in))]
+    #[tactic(auto, unfolding(crate::specs::Machine::machine_answer, crate::specs::Machine::insert_answer_in, crate::specs::Machine::takes_memory, rdm_model::specs::Jobs::needs_life))]
     pub fn answer(&self, number: PortNo, limits: &EpLimits, instr: &Instr) -> Next
-        ensures { (v : PortView) → v.number ≡ number.0 → v.limits ≡ limits.now → (result ≡ NextKind.Memory) ⊎ (result ≡ machine_answer v self.now instr.now) }
+        ensures says { (v : PortView) → v.number ≡ number.0 → v.limits ≡ limits.now → (result ≡ NextKind.Memory) ⊎ (result ≡ machine_answer v self.now instr.now) }
+        ensures spared { (v : PortView) → takes_memory instr.now ≡ false → result ≡ machine_answer v self.now instr.now }
     {
         match instr {
             Instr::OpenLife { connid } => {
@@ -97,9 +99,10 @@ impl State {
 }
 
 /// What an instruction of an open life answers.
-#[tactic(auto, unfolding(crate::specs::Machine::machine_answer, crate::specs::Machine::insert_answer_in))]
+#[tactic(auto, unfolding(crate::specs::Machine::machine_answer, crate::specs::Machine::insert_answer_in, crate::specs::Machine::takes_memory, rdm_model::specs::Jobs::needs_life))]
 fn answer_in(endpoint: &Endpoint, opened: &[Life], limits: &EpLimits, instr: &Instr) -> Next
-    ensures { (v : PortView) → (k : Kept) → v.limits ≡ limits.now → k.opened ≡ opened.now → k.endpoint ≡ Some endpoint.now → (result ≡ NextKind.Memory) ⊎ (result ≡ machine_answer v k instr.now) }
+    ensures says { (v : PortView) → (k : Kept) → v.limits ≡ limits.now → k.opened ≡ opened.now → k.endpoint ≡ Some endpoint.now → (result ≡ NextKind.Memory) ⊎ (result ≡ machine_answer v k instr.now) }
+    ensures spared { (v : PortView) → (k : Kept) → k.endpoint ≡ Some endpoint.now → needs_life instr.now ≡ true → takes_memory instr.now ≡ false → result ≡ machine_answer v k instr.now }
 {
     match instr {
         Instr::Insert { life } => {

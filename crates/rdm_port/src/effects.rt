@@ -1,12 +1,15 @@
 //! What an instruction that did makes of what a port keeps.
-ghost use Rattle.std.specs.Prelude.{◌≡◌, ◌++◌, ◌∷◌, [], OnOk, OnErr, option_map};
+ghost use Rattle.std.specs.Prelude.{◌≡◌, ◌++◌, ◌∷◌, [], true, false, Some, OnOk, OnErr, IsOk, option_map};
 ghost use Rattle.rdm_wire.specs.declared.NoteBody.TheVariants as NoteKind;
 ghost use Rattle.rdm_model.specs.declared.job.Instr.TheVariants as InstrKind;
 ghost use Rattle.rdm_ep.specs.Sending.{after_reg, after_insert, after_send};
 ghost use Rattle.rdm_ep.specs.Receiving.{after_recv};
-ghost use Rattle.rdm_ep.specs.Cancelling.{after_cancel};
+ghost use Rattle.rdm_model.specs.declared.answer.Next.TheVariants as NextKind;
+ghost use Rattle.rdm_model.specs.declared.answer.DidWhat.{DidWhat};
+ghost use Rattle.rdm_ep.specs.View.{EndpointView};
+ghost use Rattle.rdm_ep.specs.Cancelling.{after_cancel, waits_for_message};
 ghost use Rattle.rdm_port.specs.Views.{PortView};
-ghost use Rattle.rdm_port.specs.Machine.{IsOwnedBy, after_did, after_entry};
+ghost use Rattle.rdm_port.specs.Machine.{IsOwnedBy, after_did, after_entry, machine_answer, takes_memory};
 
 use crate::kept::{QueuedNote, State};
 use crate::notes::queue_opened;
@@ -38,6 +41,7 @@ impl State {
     ) -> Result<(), NoMemory>
         ensures ok { (v : PortView) → IsOwnedBy v owner.now → OnOk result (self.new ≡ after_entry v instr.now answer self.old) }
         ensures err { OnErr result (self.new ≡ self.old) }
+        ensures spared { takes_memory instr.now ≡ false → (v : PortView) → answer ≡ machine_answer v self.old instr.now → IsOk result }
     {
         match answer {
             Next::Did(_) => self.apply(alloc, owner, instr),
@@ -46,10 +50,11 @@ impl State {
     }
 
     /// Does an instruction, or leaves all as it was.
-    #[tactic(auto, unfolding(crate::specs::Machine::after_did))]
+    #[tactic(auto, unfolding(crate::specs::Machine::after_did, crate::specs::Machine::takes_memory))]
     pub fn apply(&mut self, alloc: Global, owner: &Owner, instr: &Instr) -> Result<(), NoMemory>
         ensures ok { (v : PortView) → v.number ≡ owner.now.number.0 → v.ports ≡ owner.now.ports → v.rank.features ≡ owner.now.features → v.limits ≡ owner.now.limits → OnOk result (self.new ≡ after_did v instr.now self.old) }
         ensures err { OnErr result (self.new ≡ self.old) }
+        ensures spared { takes_memory instr.now ≡ false → (v : PortView) → (what : DidWhat) → machine_answer v self.old instr.now ≡ NextKind.Did what → IsOk result }
     {
         match instr {
             Instr::OpenLife { connid } => self.open(alloc, owner, *connid),
@@ -152,6 +157,7 @@ impl State {
     fn cancel(&mut self, recv: RecvNo) -> Result<(), NoMemory>
         ensures ok { OnOk result (self.new ≡ record self.old { endpoint = option_map (λ e. after_cancel e recv) self.old.endpoint }) }
         ensures err { OnErr result (self.new ≡ self.old) }
+        ensures spared { (e : EndpointView) → self.old.endpoint ≡ Some e → waits_for_message e recv.0 ≡ true → IsOk result }
     {
         match &mut self.endpoint {
             None => Err(AllocError),

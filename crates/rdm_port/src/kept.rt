@@ -1,5 +1,5 @@
 //! What a port keeps beside its log and its stash.
-ghost use Rattle.std.specs.Prelude.{◌≡◌, []};
+ghost use Rattle.std.specs.Prelude.{◌≡◌, ◌+◌, ◌-◌, [], IfSome};
 ghost use Rattle.rdm_port.specs.Kept.{new_kept, places_of};
 
 use rdm_ep::Endpoint;
@@ -98,5 +98,14 @@ impl State {
             None => 0,
             Some(endpoint) => endpoint.outstanding(),
         }
+    }
+
+    /// How many entries may still come that must not want memory, and one more, where the program
+    /// has so many instructions.
+    pub fn entries_and_one(&self, all: usize) -> Option<usize>
+        ensures { IfSome result (λ n. n ≡ places_of self.now.endpoint + (all - self.now.done) + 1) }
+    {
+        let left = (all as u64).saturating_sub(self.done) as usize;
+        self.outstanding().checked_add(left)?.checked_add(1)
     }
 }

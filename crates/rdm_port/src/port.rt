@@ -1,9 +1,10 @@
 //! The port.
-ghost use Rattle.std.specs.Prelude.{◌≡◌, ◌<◌, ◌≤◌, IfOk, true, length, is_none, slice_get};
+ghost use Rattle.std.specs.Prelude.{◌≡◌, ◌≢◌, ◌<◌, ◌≤◌, IfOk, true, length, is_none, slice_get};
 ghost use Rattle.rdm_model.specs.Owns.{port_count};
 ghost use Rattle.rdm_port.specs.Views.{new_port, IsSamePort};
 ghost use Rattle.rdm_model.specs.Steps.{count, is_next};
-ghost use Rattle.rdm_port.specs.Nexts.{DoesNext, EndsAs};
+ghost use Rattle.rdm_model.specs.declared.answer.Next.TheVariants as NextKind;
+ghost use Rattle.rdm_port.specs.Nexts.{DoesNext, NextTakesNone, EndsAs};
 ghost use Rattle.rdm_port.specs.Pushes.{DoesPush, PushesOn, FullRose, IsKeptWire};
 ghost use Rattle.rdm_port.specs.Handles.{DoesHandle};
 ghost use Rattle.rdm_port.specs.Polls.{DoesPoll};
@@ -43,7 +44,8 @@ impl Model for Port {
 }
 
 impl Port {
-    /// A new port of a job: the rank of that number.
+    /// A new port of a job: the rank of that number. It takes the room for the entry of each of
+    /// its instructions.
     #[tactic(auto, unfolding(rdm_model::specs::Owns::rank_of))]
     pub fn new(alloc: Global, no: PortNo, job: &Job) -> Result<Port, NoMemory>
         requires rank { no.0 < port_count job.now }
@@ -56,6 +58,8 @@ impl Port {
             features: own.features,
             ops: own.ops.clone()?,
         };
+        let mut log = Entries::new(alloc);
+        log.reserve(rank.ops.as_slice().len())?;
         Ok(Port {
             number: no.0,
             ports: ranks.len() as u32,
@@ -63,7 +67,7 @@ impl Port {
             start: job.clock,
             limits: job.limits,
             rank,
-            log: Entries::new(alloc),
+            log,
             stash: Room::new(alloc),
             state: State::new(alloc, job.clock),
         })
@@ -134,6 +138,7 @@ impl Port {
     /// Does the next instruction.
     pub fn next(&mut self, alloc: Global) -> Next
         ensures does { DoesNext self.old self.new result }
+        ensures spared { NextTakesNone self.old → result ≢ NextKind.Memory }
         ensures same { IsSamePort self.old self.new }
     {
         let owner = Owner {
@@ -165,6 +170,7 @@ impl Port {
             alloc,
             PortNo(self.number),
             self.ports,
+            self.rank.ops.as_slice().len(),
             &mut self.state,
             &mut self.log,
             wire,
@@ -187,6 +193,7 @@ impl Port {
             alloc,
             PortNo(self.number),
             pick,
+            self.rank.ops.as_slice().len(),
             &mut self.stash,
             &mut self.state,
             &mut self.log,

@@ -1,11 +1,12 @@
 //! The steps of a port.
-ghost use Rattle.std.specs.Prelude.{◌≡◌, ◌⊎◌, ◌≤◌, true};
+ghost use Rattle.std.specs.Prelude.{◌≡◌, ◌≢◌, ◌⊎◌, ◌≤◌, ◌+◌, ◌-◌, ℕ, true, false, length, OnOk, IsOk};
 ghost use Rattle.rdm_model.specs.Answers as Answers;
 ghost use Rattle.rdm_model.specs.declared.answer.Next.TheVariants as NextKind;
 ghost use Rattle.rdm_port.specs.Views.{PortView};
-ghost use Rattle.rdm_port.specs.Kept.{IsKept, HasRoom, with_log, with_stash};
-ghost use Rattle.rdm_port.specs.Machine.{IsOwnedBy, unless_worn, machine_answer, machine_next};
-ghost use Rattle.rdm_port.specs.Nexts.{DoesNext};
+ghost use Rattle.rdm_port.specs.Kept.{IsKept, HasRoom, places_of, with_log, with_stash};
+ghost use Rattle.rdm_port.specs.Machine as Machine;
+ghost use Rattle.rdm_port.specs.Machine.{IsOwnedBy, unless_worn, machine_answer, machine_next, extra_places};
+ghost use Rattle.rdm_port.specs.Nexts.{DoesNext, NextTakesNone};
 ghost use Rattle.rdm_port.specs.Pushes.{DoesPush, PushesOn, FullRose, IsKeptWire};
 ghost use Rattle.rdm_port.specs.Handles as Handles;
 ghost use Rattle.rdm_port.specs.Polls.{DoesPoll};
@@ -13,14 +14,15 @@ ghost use Rattle.rdm_port.specs.Polls.{DoesPoll};
 use crate::effects::Owner;
 use crate::kept::State;
 use rdm_model::{Act, Entries, Entry, Handled, Instr, Next, OpName, Ops, Polled, Push};
-use rdm_num::{DatagramNo, EpLimits, PortNo, Room, STAMP_MAX, Stamp};
+use rdm_num::{DatagramNo, EpLimits, NoMemory, PortNo, Room, STAMP_MAX, Stamp};
 use rdm_wire::{Datagram, Wire};
-use std::alloc::Global;
+use std::alloc::{AllocError, Global};
 
 /// What an instruction answers now, where an end of the clock comes before an entry.
 #[tactic(auto, unfolding(crate::specs::Machine::unless_worn))]
 fn answer_now(number: PortNo, limits: &EpLimits, state: &State, instr: &Instr) -> Next
-    ensures { (v : PortView) → v.number ≡ number.0 → v.limits ≡ limits.now → (result ≡ NextKind.Memory) ⊎ (result ≡ unless_worn state.now (machine_answer v state.now instr.now)) }
+    ensures says { (v : PortView) → v.number ≡ number.0 → v.limits ≡ limits.now → (result ≡ NextKind.Memory) ⊎ (result ≡ unless_worn state.now (machine_answer v state.now instr.now)) }
+    ensures spared { (v : PortView) → Machine.takes_memory instr.now ≡ false → result ≡ unless_worn state.now (machine_answer v state.now instr.now) }
 {
     let answer = state.answer(number, limits, instr);
     if is_entry(answer) && STAMP_MAX <= state.clock {
@@ -40,6 +42,37 @@ pub fn next_answer(number: PortNo, limits: &EpLimits, ops: &Ops, state: &State) 
     }
 }
 
+/// The instruction takes memory beside that of its entry.
+#[tactic(auto, unfolding(crate::specs::Machine::takes_memory))]
+fn takes_memory(instr: &Instr) -> bool
+    ensures { result ≡ Machine.takes_memory instr.now }
+{
+    match instr {
+        Instr::Cancel { recv: _ } => false,
+        Instr::Await { from: _, what: _ } => false,
+        Instr::Wait { count: _ } => false,
+        _ => true,
+    }
+}
+
+/// Takes room for the entry of the completion that an instruction may owe. The room for its own
+/// entry was taken when the port was made.
+fn take_room(all: usize, instr: &Instr, state: &State, log: &mut Entries) -> Result<(), NoMemory>
+    requires { HasRoom all log.old.room state.now }
+    ensures list { log.new.list ≡ log.old.list }
+    ensures kept { log.old.room ≤ log.new.room }
+    ensures ok { OnOk result (places_of state.now.endpoint + (all - state.now.done) + extra_places instr.now ≤ log.new.room) }
+    ensures spared { Machine.takes_memory instr.now ≡ false → IsOk result }
+{
+    if !takes_memory(instr) {
+        return Ok(());
+    }
+    match state.entries_and_one(all) {
+        Some(more) => log.reserve(more),
+        None => Err(AllocError),
+    }
+}
+
 /// Does the next instruction.
 pub fn do_next(
     alloc: Global,
@@ -48,8 +81,10 @@ pub fn do_next(
     state: &mut State,
     log: &mut Entries,
 ) -> Next
+    requires { HasRoom (length ops.now) log.old.room state.old }
     ensures does { (v : PortView) → IsOwnedBy v owner.now → v.rank.ops ≡ ops.now → v.log ≡ log.old.list → IsKept v state.old → IsKept (with_log v log.new.list) state.new × DoesNext v (with_log v log.new.list) result }
-    ensures room { HasRoom log.old.room state.old → HasRoom log.new.room state.new }
+    ensures room { HasRoom (length ops.now) log.new.room state.new }
+    ensures spared { (v : PortView) → v.rank.ops ≡ ops.now → IsKept v state.old → NextTakesNone v → result ≢ NextKind.Memory }
 {
     let Some(instr) = ops.as_slice().get(state.done as usize) else {
         return Next::Ended;
@@ -58,10 +93,7 @@ pub fn do_next(
     if !is_entry(answer) {
         return answer;
     }
-    let Some(room) = state.outstanding().checked_add(2) else {
-        return Next::Memory;
-    };
-    let Ok(()) = log.reserve(room) else {
+    let Ok(()) = take_room(ops.as_slice().len(), instr, state, log) else {
         return Next::Memory;
     };
     let Ok(()) = state.follow(alloc, owner, instr, answer) else {
@@ -88,6 +120,7 @@ pub fn do_push<W: Wire>(
     alloc: Global,
     number: PortNo,
     ports: u32,
+    all: usize,
     state: &mut State,
     log: &mut Entries,
     wire: &mut W,
@@ -95,7 +128,7 @@ pub fn do_push<W: Wire>(
     requires serves { W.serves wire.old number.0 ≡ true }
     requires ports { W.ports wire.old ≡ ports }
     ensures does { (v : PortView) → v.number ≡ number.0 → v.log ≡ log.old.list → IsKept v state.old → IsKept (with_log v log.new.list) state.new × DoesPush v (with_log v log.new.list) result }
-    ensures room { HasRoom log.old.room state.old → HasRoom log.new.room state.new }
+    ensures room { HasRoom all log.old.room state.old → HasRoom all log.new.room state.new }
     ensures wire { PushesOn (W.in_order wire.old) log.new.list result (W.held wire.old) (W.held wire.new) }
     ensures full { FullRose (W.fulls wire.old) (W.fulls wire.new) result }
     ensures kept { IsKeptWire W.ports W.serves wire.old wire.new }
@@ -113,7 +146,7 @@ pub fn do_push<W: Wire>(
     if ports <= dst.0 {
         return Push::Memory;
     }
-    let Some(places) = state.outstanding().checked_add(1) else {
+    let Some(places) = state.entries_and_one(all) else {
         return Push::Memory;
     };
     let Ok(()) = log.reserve(places) else {
@@ -150,19 +183,20 @@ pub fn do_handle(
     alloc: Global,
     number: PortNo,
     pick: u64,
+    all: usize,
     stash: &mut Room<Datagram>,
     state: &mut State,
     log: &mut Entries,
 ) -> Handled
     ensures does { (v : PortView) → v.number ≡ number.0 → v.log ≡ log.old.list → v.stash ≡ stash.old.list → IsKept v state.old → IsKept (with_stash v log.new.list stash.new.list) state.new × Handles.Answers v (with_stash v log.new.list stash.new.list) pick result }
-    ensures room { HasRoom log.old.room state.old → HasRoom log.new.room state.new }
+    ensures room { HasRoom all log.old.room state.old → HasRoom all log.new.room state.new }
 {
     let count = stash.len() as u64;
     if count == 0 {
         return Handled::Empty;
     }
     let at = (pick % count) as usize;
-    let Some(places) = state.outstanding().checked_add(1) else {
+    let Some(places) = state.entries_and_one(all) else {
         return Handled::Memory;
     };
     let Ok(()) = log.reserve(places) else {
@@ -194,9 +228,9 @@ pub fn do_handle(
 
 /// Polls the first completion. The room for its entry was taken when its operation was accepted.
 pub fn do_poll(number: PortNo, state: &mut State, log: &mut Entries) -> Polled
-    requires room { HasRoom log.old.room state.old }
+    requires room { places_of state.old.endpoint ≤ log.old.room }
     ensures does { (v : PortView) → v.number ≡ number.0 → v.log ≡ log.old.list → IsKept v state.old → IsKept (with_log v log.new.list) state.new × DoesPoll v (with_log v log.new.list) result }
-    ensures room { HasRoom log.new.room state.new }
+    ensures room { (all : ℕ) → HasRoom all log.old.room state.old → HasRoom all log.new.room state.new }
 {
     if !state.has_completion() {
         return Polled::None;

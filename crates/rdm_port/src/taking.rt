@@ -17,6 +17,7 @@ impl State {
     pub fn handle(&mut self, alloc: Global, d: &Datagram) -> Handled
         ensures handles { self.old.to_other ≤ 9223372036854775807 → self.old.from_other ≤ 9223372036854775807 → MachineHandles self.old self.new d.now result }
         ensures places { places_of self.new.endpoint ≡ places_of self.old.endpoint }
+        ensures done { self.new.done ≡ self.old.done }
     {
         match &d.body {
             Body::Note(note) => self.take_note(d.src, *note),
@@ -47,6 +48,7 @@ impl State {
     fn count_drop(&mut self, answer: Handled)
         ensures counts { self.old.to_other ≤ 9223372036854775807 → self.old.from_other ≤ 9223372036854775807 → self.new ≡ drop_counted answer self.old }
         ensures same { self.new.endpoint ≡ self.old.endpoint }
+        ensures done { self.new.done ≡ self.old.done }
     {
         match answer {
             Handled::Dropped(Class::ToOther) => {
@@ -64,6 +66,7 @@ impl State {
     fn take_note(&mut self, src: PortNo, note: NoteBody) -> Handled
         ensures takes { NoteTakenAs self.old self.new src note result }
         ensures same { self.new.endpoint ≡ self.old.endpoint }
+        ensures done { self.new.done ≡ self.old.done }
     {
         match note {
             NoteBody::Opened(connid) => {

@@ -20,6 +20,7 @@ use Rattle.rdm_regions.specs.Registry.{refusal_in, hold_refusal, lease_refusal, 
 use Rattle.rdm_regions.specs.Steps.{Marked, Unmarked, IsLifted, IsPutBack}
 use Rattle.rdm_regions.specs.Tallies.{area_of, busy_if, Lies, Marks, Tiled, Keeps}
 use Rattle.rdm_regions.proofs.Entries.{Entries, map_of, values_are, sum_with, sum_without, All_without}
+use Rattle.rdm_regions.proofs.Apart.{apart_with, apart_without}
 use Rattle.rdm_regions.proofs.Busy.{free_home}
 use Rattle.rdm_regions.proofs.Refusals.{registry_of, no_region, passes, is_region_of}
 use Rattle.rdm_regions.proofs.RegionChanges.{IsWith, marks_with_other, marks_without_other, tiled_with_other, tiled_without_other, marks_with, marks_without, tiled_with, tiled_without}
@@ -91,14 +92,15 @@ module _ (regions : List Region) (i : ℕ) (r s : Region) (lt : i < length regio
           leased_order = k.leased_order;
           held_lie = all_lie_set size (values_of held) k.held_lie;
           leased_lie = all_lie_set size (values_of leased) k.leased_lie;
+          apart = k.apart;
           marks = set_each (λ n q. Marks n (values_of held) q) regions i s lt (λ n d below ne. k.marks n d below) (marks_same i (values_of held) starts ends marks_here);
           tiled = set_each (λ n q. Tiled n (values_of leased) q.home) regions i s lt (λ n d below ne. k.tiled n d below) (subst (Tiled i (values_of leased)) (sym home) tiled_here);
         }
 
     module _ (x : RegionRange) (here : x.region ≡ i) (key : ℕ) where
       -- a range that is held
-      pub keeps_held : IsStrictlySortedBy nat_cmp (keys_of (insert_entry nat_cmp held key x)) → lookup (is_at (nat_cmp key)) held ≡ None → Lies regions x → Marked x r s → Keeps (slice_set regions i s) (insert_entry nat_cmp held key x) leased
-      keeps_held order none lies m =
+      pub keeps_held : IsStrictlySortedBy nat_cmp (keys_of (insert_entry nat_cmp held key x)) → lookup (is_at (nat_cmp key)) held ≡ None → Lies regions x → list_any (meets x) (values_of leased) ≡ false → Marked x r s → Keeps (slice_set regions i s) (insert_entry nat_cmp held key x) leased
+      keeps_held order none lies free m =
           let size = ap (λ (t : Tiles). length t.cells) m.home in
           let sums = sum_with held key x k.held_order none in
           let all = All-values-insert_entry nat_cmp key x (Lies regions) held k.held_lie lies in
@@ -107,6 +109,7 @@ module _ (regions : List Region) (i : ℕ) (r s : Region) (lt : i < length regio
             leased_order = k.leased_order;
             held_lie = all_lie_set size (values_of (insert_entry nat_cmp held key x)) all;
             leased_lie = all_lie_set size (values_of leased) k.leased_lie;
+            apart = All-values-insert_entry nat_cmp key x (λ y. list_any (meets y) (values_of leased) ≡ false) held k.apart free;
             marks = set_each (λ n q. Marks n (values_of (insert_entry nat_cmp held key x)) q) regions i s lt (λ n d below ne. marks_with_other x (values_of held) (values_of (insert_entry nat_cmp held key x)) sums n (get_or regions n d) (λ e. ne (e ∙ here)) (k.marks n d below))
                 (subst (λ n. Marks n (values_of (insert_entry nat_cmp held key x)) s) here (marks_with x (values_of held) (values_of (insert_entry nat_cmp held key x)) sums r s m (subst (λ n. Marks n (values_of held) r) (sym here) marks_here)));
             tiled = set_each (λ n q. Tiled n (values_of leased) q.home) regions i s lt (λ n d below ne. k.tiled n d below) (subst (Tiled i (values_of leased)) (sym m.home) tiled_here);
@@ -123,15 +126,16 @@ module _ (regions : List Region) (i : ℕ) (r s : Region) (lt : i < length regio
             leased_order = k.leased_order;
             held_lie = all_lie_set size left (All_without (Lies regions) (is_at (nat_cmp key)) held k.held_lie);
             leased_lie = all_lie_set size (values_of leased) k.leased_lie;
+            apart = All_without (λ y. list_any (meets y) (values_of leased) ≡ false) (is_at (nat_cmp key)) held k.apart;
             marks = set_each (λ n q. Marks n left q) regions i s lt (λ n d below ne. marks_without_other x left (values_of held) sums n (get_or regions n d) (λ e. ne (e ∙ here)) (k.marks n d below))
                 (subst (λ n. Marks n left s) here (marks_without x left (values_of held) sums r s m (subst (λ n. Marks n (values_of held) r) (sym here) marks_here)));
             tiled = set_each (λ n q. Tiled n (values_of leased) q.home) regions i s lt (λ n d below ne. k.tiled n d below) (subst (Tiled i (values_of leased)) (sym m.0) tiled_here);
           }
 
       -- a range that is leased
-      pub keeps_leased : IsStrictlySortedBy nat_cmp (keys_of (insert_entry nat_cmp leased key x)) → lookup (is_at (nat_cmp key)) leased ≡ None → Lies regions x → AreHome x.at x.len r.home.cells → IsLifted x r s
+      pub keeps_leased : IsStrictlySortedBy nat_cmp (keys_of (insert_entry nat_cmp leased key x)) → lookup (is_at (nat_cmp key)) leased ≡ None → Lies regions x → list_any (meets x) (values_of held) ≡ false → AreHome x.at x.len r.home.cells → IsLifted x r s
           → Keeps (slice_set regions i s) held (insert_entry nat_cmp leased key x)
-      keeps_leased order none lies home m =
+      keeps_leased order none lies clear home m =
           let more = values_of (insert_entry nat_cmp leased key x) in
           let fits : x.at + x.len ≤ length r.home.cells = subst (λ (q : Region). x.at + x.len ≤ length q.home.cells) (ap (λ n. get_or regions n r) here ∙ is r) (lies.1 r) in
           let sums = sum_with leased key x k.leased_order none in
@@ -142,6 +146,7 @@ module _ (regions : List Region) (i : ℕ) (r s : Region) (lt : i < length regio
             leased_order = order;
             held_lie = all_lie_set size (values_of held) k.held_lie;
             leased_lie = all_lie_set size more (All-values-insert_entry nat_cmp key x (Lies regions) leased k.leased_lie lies);
+            apart = apart_with key x (values_of held) leased k.apart clear;
             marks = set_each (λ n q. Marks n (values_of held) q) regions i s lt (λ n d below ne. k.marks n d below) (marks_same i (values_of held) (ap (λ v. v.items) m.starts) (ap (λ v. v.items) m.ends) marks_here);
             tiled = set_each (λ n q. Tiled n more q.home) regions i s lt (λ n d below ne. tiled_with_other x (values_of leased) more sums n ((get_or regions n d).home) (λ e. ne (e ∙ here)) (k.tiled n d below)) (subst (λ n. Tiled n more s.home) here new);
           }
@@ -159,6 +164,7 @@ module _ (regions : List Region) (i : ℕ) (r s : Region) (lt : i < length regio
             leased_order = order;
             held_lie = all_lie_set size (values_of held) k.held_lie;
             leased_lie = all_lie_set size left (All_without (Lies regions) (is_at (nat_cmp key)) leased k.leased_lie);
+            apart = apart_without (is_at (nat_cmp key)) (values_of held) leased k.apart;
             marks = set_each (λ n q. Marks n (values_of held) q) regions i s lt (λ n d below ne. k.marks n d below) (marks_same i (values_of held) (ap (λ v. v.items) m.starts) (ap (λ v. v.items) m.ends) marks_here);
             tiled = set_each (λ n q. Tiled n left q.home) regions i s lt (λ n d below ne. tiled_without_other x left (values_of leased) sums n ((get_or regions n d).home) (λ e. ne (e ∙ here)) (k.tiled n d below)) (subst (λ n. Tiled n left s.home) here new);
           }
@@ -202,10 +208,11 @@ module _ (x : RegionRange) (regions : List Region) (held leased : Entries) (k : 
       (h.0, ap (list_any (meets x)) (sym (values_are leased k.leased_order)) ∙ h.1)
 
   -- and so does one that may be leased
-  pub may_lease : lease_refusal (registry_of regions held leased) x ≡ None → Lies regions x × (list_any (meets x) (values_of leased) ≡ false)
+  pub may_lease : lease_refusal (registry_of regions held leased) x ≡ None → Lies regions x × (list_any (meets x) (values_of leased) ≡ false) × (list_any (meets x) (values_of held) ≡ false)
   may_lease none =
       let h = not_refused x regions (meets_one x (map_of leased) || meets_one x (map_of held)) none in
-      (h.0, ap (list_any (meets x)) (sym (values_are leased k.leased_order)) ∙ (or_parts (meets_one x (map_of leased)) (meets_one x (map_of held)) h.1).0)
+      let both = or_parts (meets_one x (map_of leased)) (meets_one x (map_of held)) h.1 in
+      (h.0, ap (list_any (meets x)) (sym (values_are leased k.leased_order)) ∙ both.0, ap (list_any (meets x)) (sym (values_are held k.held_order)) ∙ both.1)
 
   -- it is at home
   pub at_home : (r : Region) → Lies regions x → get_or regions x.region r ≡ r → list_any (meets x) (values_of leased) ≡ false → (x.at + x.len ≤ length r.home.cells) × AreHome x.at x.len r.home.cells × (r.home.start ≡ 0)

@@ -24,7 +24,7 @@ abbrev pub map_of : Entries → Ranges
 map_of es = map.from_entries es
 
 -- what a finite map has at a key is what a look-up finds in its entries
-find_is_lookup : (es : Entries) (q : ℕ) → map.find nat_cmp q es ≡ lookup (is_at (nat_cmp q)) es
+pub find_is_lookup : (es : Entries) (q : ℕ) → map.find nat_cmp q es ≡ lookup (is_at (nat_cmp q)) es
 find_is_lookup [] q = refl
 find_is_lookup (e ∷ es) q = ap (cond (is_eq (nat_cmp q e.0)) (Some e.1)) (find_is_lookup es q)
 

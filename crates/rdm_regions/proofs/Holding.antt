@@ -1,7 +1,7 @@
 -- The regions while a send comes to hold a range, and while it drops it.
 use Rattle.std.proofs.Common.{◌≡◌, refl, sym, ap, subst, ◌∙◌, ℕ, suc, ◌+◌, ◌<◌, ◌≤◌, true, false, cond, eqb, List, [], ◌∷◌, length, get_or, map as each, Option, Some, None, arith}
 use Rattle.std.specs.Prelude.{slice_set, Result, Ok, Err, OnErr}
-use Rattle.std.specs.List.{All}
+use Rattle.std.specs.List.{All, list_any}
 use Rattle.std.specs.List.Sorted.{IsStrictlySortedBy}
 use Rattle.std.specs.Map.{keys_of, values_of, lookup, remove_entry}
 use Rattle.std.specs.BTreeMap.{is_at, insert_entry}
@@ -12,7 +12,7 @@ use Rattle.std.proofs.lemmas.List.{length-set, get_or-set_same}
 use Rattle.rdm_mr.specs.Tiles.{Tiles}
 use Rattle.rdm_regions.specs.declared.range.RegionRange.{RegionRange}
 use Rattle.rdm_regions.specs.declared.region.Region.{Region}
-use Rattle.rdm_regions.specs.Ranges.{Ranges}
+use Rattle.rdm_regions.specs.Ranges.{Ranges, meets}
 use Rattle.rdm_regions.specs.Registry.{Registry, Area, hold_refusal, with_hold, without_hold}
 use Rattle.rdm_regions.specs.Steps.{Marked, MayUnmark, Unmarked}
 use Rattle.rdm_regions.specs.Weights.{at_start, at_end}
@@ -43,8 +43,11 @@ on_err (Ok a) p = tt
 on_err (Err e) p = p
 
 module _ (regions : List Region) (held leased : Entries) (k : Keeps regions held leased) (now : Registry) (view : registry_of regions held leased ≡ now) (x : RegionRange) (allowed : hold_refusal now x ≡ None) where
+  free_of : Lies regions x × (list_any (meets x) (values_of leased) ≡ false)
+  free_of = may_hold x regions held leased k (ap (λ r. hold_refusal r x) view ∙ allowed)
+
   lies : Lies regions x
-  lies = (may_hold x regions held leased k (ap (λ r. hold_refusal r x) view ∙ allowed)).0
+  lies = free_of.0
 
   pub there : x.region < length regions
   there = lies.0
@@ -77,7 +80,7 @@ module _ (regions : List Region) (held leased : Entries) (k : Keeps regions held
         holds =
             let none : lookup (is_at (nat_cmp send)) held ≡ None = sym (get_is_lookup held send) ∙ (ap (λ (n : Registry). finite.get n.held send) view ∙ free) in
             subst (λ fs. Keeps (slice_set (slice_set regions x.region s) x.region t) fs leased) (sym is)
-            (keeps_held (slice_set regions x.region s) x.region q t still_there (at_index (slice_set regions x.region s) x.region q still_there w) held leased reserved x refl send (subst (λ fs. IsStrictlySortedBy nat_cmp (keys_of fs)) is order) none lies_now m)
+            (keeps_held (slice_set regions x.region s) x.region q t still_there (at_index (slice_set regions x.region s) x.region q still_there w) held leased reserved x refl send (subst (λ fs. IsStrictlySortedBy nat_cmp (keys_of fs)) is order) none lies_now free_of.1 m)
 
         pub holds_view : Updated held es send (Some x) → registry_of (slice_set (slice_set regions x.region s) x.region t) es leased ≡ with_hold now send x
         holds_view u =

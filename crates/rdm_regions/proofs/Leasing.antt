@@ -60,7 +60,7 @@ placed_of regions held leased x r part lt v whole p = record {
 
 module _ (regions : List Region) (held leased : Entries) (k : Keeps regions held leased) (now : Registry) (view : registry_of regions held leased ≡ now) (x : RegionRange) (recv : ℕ) (allowed : lease_refusal now x ≡ None)
     (free : finite.get now.leased recv ≡ None) (es : Entries) (is : es ≡ insert_entry nat_cmp leased recv x) where
-  pub lease_allowed : Lies regions x × (list_any (meets x) (values_of leased) ≡ false)
+  pub lease_allowed : Lies regions x × (list_any (meets x) (values_of leased) ≡ false) × (list_any (meets x) (values_of held) ≡ false)
   lease_allowed = may_lease x regions held leased k (ap (λ r. lease_refusal r x) view ∙ allowed)
 
   pub lease_there : x.region < length regions
@@ -84,7 +84,7 @@ module _ (regions : List Region) (held leased : Entries) (k : Keeps regions held
     pub lifted_keeps : (s : Region) → IsLifted x r s → IsStrictlySortedBy nat_cmp (keys_of es) → Keeps (slice_set regions x.region s) held es
     lifted_keeps s m order =
         subst (Keeps (slice_set regions x.region s) held) (sym is)
-        (keeps_leased regions x.region r s lease_there (at_index regions x.region r lease_there v) held leased k x refl recv (subst (λ fs. IsStrictlySortedBy nat_cmp (keys_of fs)) is order) lacks lease_allowed.0 may_lift.1 m)
+        (keeps_leased regions x.region r s lease_there (at_index regions x.region r lease_there v) held leased k x refl recv (subst (λ fs. IsStrictlySortedBy nat_cmp (keys_of fs)) is order) lacks lease_allowed.0 lease_allowed.2 may_lift.1 m)
 
     pub lifted_view : (s : Region) → IsLifted x r s → Updated leased es recv (Some x) → registry_of (slice_set regions x.region s) held es ≡ with_lease now recv x
     lifted_view s m u =

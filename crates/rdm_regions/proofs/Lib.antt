@@ -8,6 +8,8 @@ pub mod Places
 pub mod Meets
 -- when a range overlaps a leased one, and when a held one
 pub mod Busy
+-- ranges that share no place with any of a list
+pub mod Apart
 -- the entries of a tree map of ranges, beside the finite map of a clause
 pub mod Entries
 -- why a range is refused
@@ -24,3 +26,9 @@ pub mod Leasing
 pub mod Registering
 -- a map of one entry, once that is taken out
 mod Emptied
+-- what is true of the regions at all times, as a clause sees them
+pub mod Sound
+-- holds of several ranges, one after another
+mod Several
+-- what the holds and leases of others leave as it was
+mod Survive

@@ -71,6 +71,7 @@ module _ (regions : List Region) where
       leased_order = k.leased_order;
       held_lie = lie_still (values_of held) k.held_lie;
       leased_lie = lie_still (values_of leased) k.leased_lie;
+      apart = k.apart;
       marks = each_one (λ n q. Marks n (values_of held) q) k.marks (record {
         starts_rise = rises r.starts.items new.starts;
         ends_rise = rises r.ends.items new.ends;

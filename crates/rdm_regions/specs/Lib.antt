@@ -12,3 +12,7 @@ pub mod Weights
 pub mod Tallies
 -- what is true of the fields of `Regions`
 pub mod SoundRegions
+-- holds of several ranges
+pub mod Holds
+-- what is true of regions at all times, and what the holds and leases of others leave as it was
+pub mod Survival

@@ -20,7 +20,7 @@ pub record Area : Type 0 where
 abbrev pub area_code : Coded Area
 area_code = code_by (Ptr × List (Option ℕ)) (coded× coded_ptr (coded_list (coded_option coded_ℕ))) (λ a. (a.block, a.cells)) (λ p. record { block = p.0; cells = p.1 }) (λ _. refl)
 
--- the regions in the order of their numbers, the range that each send holds, and the one that each receive has out
+-- the regions in the order of their numbers, the ranges that sends hold, each under a number of its own, and the one that each receive has out
 pub record Registry : Type 0 where
   pub areas : List Area
   pub held : Ranges
@@ -67,18 +67,18 @@ lease_refusal r x = refusal_in (slice_get r.areas x.region) x (meets_one x r.lea
 abbrev pub Answers : {A : Type 0} → Option RegionRefused → (A → Type 0) → Result A RegionRefused → Type 0
 Answers refusal P result = MatchResult result (λ a. (refusal ≡ None) × P a) (λ why. (why ≡ Memory) ⊎ (refusal ≡ Some why))
 
--- the send holds the range
+-- the range is held under the number
 abbrev pub with_hold : Registry → ℕ → RegionRange → Registry
-with_hold r send x = record r { held = map.insert r.held send x }
+with_hold r n x = record r { held = map.insert r.held n x }
 
--- the send holds nothing
+-- nothing is held under the number
 abbrev pub without_hold : Registry → ℕ → Registry
-without_hold r send = record r { held = map.remove r.held send }
+without_hold r n = record r { held = map.remove r.held n }
 
 -- what a `hold` leaves: only one that is answered by Ok changes anything
 abbrev pub after_hold : {A : Type 0} → Registry → ℕ → RegionRange → Result A RegionRefused → Registry
-after_hold r send x (Ok done) = with_hold r send x
-after_hold r send x (Err why) = r
+after_hold r n x (Ok done) = with_hold r n x
+after_hold r n x (Err why) = r
 
 -- the areas, with other cells from `at` on in that region
 abbrev pub laid_in : ℕ → ℕ → List (Option ℕ) → List Area → List Area

@@ -20,10 +20,6 @@ pub record IsNew (bytes : List ℕ) (r : Region) : Type 0 where
 abbrev pub home_bytes : ℕ → ℕ → List (Option ℕ) → List ℕ
 home_bytes at len cells = filter_map (λ cell. cell) (take len (drop at cells))
 
--- the bytes from `at` on are behind the old ones
-abbrev pub IsRead : ℕ → ℕ → List (Option ℕ) → List ℕ → List ℕ → Type 0
-IsRead at len cells old new = new ≡ old ++ home_bytes at len cells
-
 -- there is room to mark one range more
 abbrev pub MayMark : Region → Type 0
 MayMark r = (vec_len r.starts < vec_capacity r.starts) × (vec_len r.ends < vec_capacity r.ends)

@@ -1,6 +1,6 @@
 -- What the regions keep of the held and leased ranges.
-use Rattle.std.specs.Prelude.{◌≡◌, ℕ, ◌+◌, ◌<◌, ◌≤◌, Bool, if◌then◌else◌, cond, List, length, map as each, slice_get, slice_index_or, Option, None, Some, is_none}
-use Rattle.std.specs.List.{All, sum_by}
+use Rattle.std.specs.Prelude.{◌≡◌, ℕ, ◌+◌, ◌<◌, ◌≤◌, Bool, false, if◌then◌else◌, cond, List, length, map as each, slice_get, slice_index_or, Option, None, Some, is_none}
+use Rattle.std.specs.List.{All, sum_by, list_any}
 use Rattle.std.specs.List.Sorted.{IsNonDecreasing, IsStrictlySortedBy}
 use Rattle.std.specs.Map.{keys_of, values_of}
 use Rattle.std.specs.Ordering.{nat_cmp}
@@ -9,6 +9,7 @@ use Rattle.rdm_regions.specs.declared.range.RegionRange.{RegionRange}
 use Rattle.rdm_regions.specs.declared.range.RegionRefused.{RegionRefused}
 use Rattle.rdm_regions.specs.declared.range.RegionRefused.TheVariants.{Busy}
 use Rattle.rdm_regions.specs.declared.region.Region.{Region}
+use Rattle.rdm_regions.specs.Ranges.{meets}
 use Rattle.rdm_regions.specs.Registry.{Area, refusal_in}
 use Rattle.rdm_regions.specs.Weights.{at_start, at_end, counts, has}
 
@@ -49,12 +50,17 @@ pub record IsRegionOf (x : RegionRange) (regions : List Region) (r : Region) : T
 abbrev pub LacksRegion : RegionRange → List Region → RegionRefused → Type 0
 LacksRegion x regions why = (busy : Bool) → refusal_in (slice_get (each area_of regions) x.region) x busy ≡ Some why
 
--- the entries of the ranges that sends hold and of those that receives have out are in order and lie in the regions, which keep them
+-- none of these ranges shares a place with one of those
+abbrev pub Apart : List RegionRange → List RegionRange → Type 0
+Apart held leased = All (λ x. list_any (meets x) leased ≡ false) held
+
+-- the entries of the ranges that sends hold and of those that receives have out are in order and lie in the regions, which keep them; no held range shares a place with a leased one
 pub record Keeps (regions : List Region) (held leased : List (ℕ × RegionRange)) : Type 0 where
   pub held_order : IsStrictlySortedBy nat_cmp (keys_of held)
   pub leased_order : IsStrictlySortedBy nat_cmp (keys_of leased)
   pub held_lie : All (Lies regions) (values_of held)
   pub leased_lie : All (Lies regions) (values_of leased)
+  pub apart : Apart (values_of held) (values_of leased)
   pub marks : (k : ℕ) (d : Region) → k < length regions → Marks k (values_of held) (slice_index_or regions k d)
   pub tiled : (k : ℕ) (d : Region) → k < length regions → Tiled k (values_of leased) ((slice_index_or regions k d).home)
 

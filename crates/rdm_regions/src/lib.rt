@@ -1,12 +1,15 @@
 //! The registered regions of an endpoint: the ranges that sends hold and those that receives have out.
 #![tactic(auto)]
 
+mod holds;
 mod range;
 mod region;
 mod regions;
 mod rising;
+mod survival;
 #[cfg(test)]
 mod tests;
 
-pub use range::RegionRefused;
+pub use range::{RegionRange, RegionRefused};
 pub use regions::Regions;
+pub use survival::survival_law;

@@ -1,12 +1,28 @@
 //! Ranges of regions, and why a call refuses one.
-use rdm_num::NoMemory;
+ghost use Rattle.std.specs.Prelude.{◌≡◌};
+ghost use Rattle.rdm_regions.specs.Ranges.{range};
+
+use rdm_num::{NoMemory, RegionNo};
 
 /// The `len` places from `at` on of a region.
 #[derive(Clone, Copy, Debug, PartialEq, Eq)]
-pub(crate) struct RegionRange {
+pub struct RegionRange {
     pub(crate) region: u32,
     pub(crate) at: u64,
     pub(crate) len: u64,
+}
+
+impl RegionRange {
+    /// The `len` places from `at` on of the region.
+    pub fn new(region: RegionNo, at: u64, len: u64) -> RegionRange
+        ensures { result ≡ range region.0 at len }
+    {
+        RegionRange {
+            region: region.0,
+            at,
+            len,
+        }
+    }
 }
 
 /// Why a range is refused.

@@ -5,7 +5,7 @@ ghost use Rattle.std.specs.List.Sorted.{IsNonDecreasing};
 ghost use Rattle.rdm_mr.specs.Part.{Whole};
 ghost use Rattle.rdm_mr.specs.Tiles.{AreHome, IsWhole};
 ghost use Rattle.rdm_regions.specs.Weights.{is_in};
-ghost use Rattle.rdm_regions.specs.Steps.{IsNew, IsRead, Marked, Unmarked, MayMark, MayUnmark, MayLift, IsLifted, IsLiftedPart, IsOut, IsPutBack};
+ghost use Rattle.rdm_regions.specs.Steps.{IsNew, home_bytes, Marked, Unmarked, MayMark, MayUnmark, MayLift, IsLifted, IsLiftedPart, IsOut, IsPutBack};
 
 use crate::range::RegionRange;
 use crate::rising::{count_below, count_upto, put, remove};
@@ -112,19 +112,15 @@ impl Region {
         }
     }
 
-    /// Appends the bytes of a range that is at home.
-    pub(crate) fn read(&self, at: u64, len: u64, to: &mut Vec<u8>) -> Result<(), NoMemory>
+    /// The bytes of a range that is at home.
+    pub(crate) fn bytes(&self, at: u64, len: u64) -> &[u8]
         requires fits { at + len ≤ length self.now.home.cells }
         requires home { AreHome at len self.now.home.cells }
-        ensures ok { IfOk result (λ _. IsRead at len self.now.home.cells to.old.items to.new.items) }
-        ensures err { OnErr result (to.new.items ≡ to.old.items) }
+        ensures { result.now ≡ home_bytes at len self.now.home.cells }
     {
         let _size = self.home.len();
         match self.home.get(at as usize, len as usize) {
-            Some(bytes) => {
-                to.extend_from_slice(bytes)?;
-                Ok(())
-            }
+            Some(bytes) => bytes,
             None => unreachable!(),
         }
     }

@@ -1,9 +1,10 @@
 //! All regions, and the ranges of them that are held and leased.
-ghost use Rattle.std.specs.Prelude.{◌≡◌, ◌<◌, ◌++◌, length, is_none, None, IfOk, OnOk, OnErr, MatchResult};
+ghost use Rattle.std.specs.Prelude.{◌≡◌, ◌<◌, ◌++◌, length, is_none, None, Some, IfOk, OnOk, OnErr, MatchResult};
 ghost use Rattle.std.specs.FinMap as finite;
 ghost use denote.RawPtr.{Ptr};
 ghost use Rattle.rdm_regions.specs.Ranges.{range};
-ghost use Rattle.rdm_regions.specs.Registry.{Answers, IsLeased, IsLeaseOf, nothing, with_region, with_hold, without_hold, with_lease, bytes_at, after_hold, after_lease, after_lease_back};
+ghost use Rattle.rdm_regions.specs.Registry.{Answers, IsLeased, IsLeaseOf, nothing, with_region, with_lease, bytes_at, after_lease, after_lease_back};
+ghost use Rattle.rdm_regions.specs.Survival.{IsSound};
 ghost use Rattle.rdm_regions.specs.Tallies.{IsRegionOf, LacksRegion};
 ghost use Rattle.rdm_regions.specs.Registry as Registry;
 ghost use Rattle.rdm_regions.specs.Tallies as Tallies;
@@ -20,8 +21,9 @@ use std::marker::Model;
 /// be spent, by `close`.
 pub struct Regions {
     alloc: Global,
-    regions: Vec<Region>,
-    held: BTreeMap<u32, RegionRange>,
+    pub(crate) regions: Vec<Region>,
+    /// Four numbers for each send, one for each of its ranges.
+    pub(crate) held: BTreeMap<u64, RegionRange>,
     leased: BTreeMap<u32, RegionRange>,
 }
 
@@ -66,45 +68,6 @@ impl Regions {
         Ok(RegionNo(number))
     }
 
-    /// The send holds the range, unless that overlaps a leased one.
-    pub fn hold(
-        &mut self,
-        send: OpId,
-        region: RegionNo,
-        at: u64,
-        len: u64,
-    ) -> Result<(), RegionRefused>
-        requires { finite.get self.old.held send.0 ≡ None }
-        ensures answer { Answers (Registry.hold_refusal self.old (range region.0 at len)) (λ _. Unit {0}) result }
-        ensures after { self.new ≡ after_hold self.old send.0 (range region.0 at len) result }
-    {
-        let range = RegionRange {
-            region: region.0,
-            at,
-            len,
-        };
-        match self.hold_refusal(&range) {
-            Some(why) => Err(why),
-            None => {
-                self.keep(send, range)?;
-                Ok(())
-            }
-        }
-    }
-
-    /// The send holds nothing any more.
-    pub fn drop_hold(&mut self, send: OpId)
-        ensures { self.new ≡ without_hold self.old send.0 }
-    {
-        match self.held.remove(&send.0) {
-            Some(range) => {
-                let region = &mut self.regions[range.region as usize];
-                region.unmark(&range);
-            }
-            None => {}
-        }
-    }
-
     /// Takes the part of the range out for the receive, unless the range overlaps a leased or a held
     /// one.
     pub fn lease_out(
@@ -119,11 +82,7 @@ impl Regions {
         ensures after { self.new ≡ after_lease self.old recv.0 (range region.0 at len) result }
         ensures lease { IfOk result (IsLeaseOf self.new recv.0) }
     {
-        let range = RegionRange {
-            region: region.0,
-            at,
-            len,
-        };
+        let range = RegionRange::new(region, at, len);
         match self.lease_refusal(&range) {
             Some(why) => Err(why),
             None => Ok(self.take_out(recv, range)?),
@@ -144,6 +103,21 @@ impl Regions {
         }
     }
 
+    /// The bytes of the range, unless it overlaps a leased one. They aren't copied.
+    pub fn bytes(&self, region: RegionNo, at: u64, len: u64) -> Result<&[u8], RegionRefused>
+        ensures { MatchResult result (λ bytes. (Registry.hold_refusal self.now (range region.0 at len) ≡ None) × (bytes.now ≡ bytes_at self.now (range region.0 at len))) (λ why. Registry.hold_refusal self.now (range region.0 at len) ≡ Some why) }
+    {
+        let range = RegionRange {
+            region: region.0,
+            at,
+            len,
+        };
+        match self.hold_refusal(&range) {
+            Some(why) => Err(why),
+            None => Ok(self.regions[range.region as usize].bytes(at, len)),
+        }
+    }
+
     /// Appends the bytes of the range, unless it overlaps a leased one.
     pub fn read_range(
         &self,
@@ -155,17 +129,12 @@ impl Regions {
         ensures answer { Answers (Registry.hold_refusal self.now (range region.0 at len)) (λ _. to.new.items ≡ to.old.items ++ bytes_at self.now (range region.0 at len)) result }
         ensures err { OnErr result (to.new.items ≡ to.old.items) }
     {
-        let range = RegionRange {
-            region: region.0,
-            at,
-            len,
-        };
-        match self.hold_refusal(&range) {
-            Some(why) => Err(why),
-            None => {
-                self.regions[range.region as usize].read(at, len, to)?;
+        match self.bytes(region, at, len) {
+            Ok(bytes) => {
+                to.extend_from_slice(bytes)?;
                 Ok(())
             }
+            Err(why) => Err(why),
         }
     }
 
@@ -173,11 +142,7 @@ impl Regions {
     pub fn may_hold(&self, region: RegionNo, at: u64, len: u64) -> bool
         ensures { result ≡ is_none (Registry.hold_refusal self.now (range region.0 at len)) }
     {
-        let range = RegionRange {
-            region: region.0,
-            at,
-            len,
-        };
+        let range = RegionRange::new(region, at, len);
         self.hold_refusal(&range).is_none()
     }
 
@@ -185,12 +150,15 @@ impl Regions {
     pub fn may_lease(&self, region: RegionNo, at: u64, len: u64) -> bool
         ensures { result ≡ is_none (Registry.lease_refusal self.now (range region.0 at len)) }
     {
-        let range = RegionRange {
-            region: region.0,
-            at,
-            len,
-        };
+        let range = RegionRange::new(region, at, len);
         self.lease_refusal(&range).is_none()
+    }
+
+    /// What is true at all times.
+    pub fn sound_law(&self)
+        ensures { IsSound self.now }
+    {
+        let _alloc = self.alloc;
     }
 
     /// Gives all blocks back, once nothing is leased.
@@ -210,7 +178,7 @@ impl Regions {
     }
 
     /// Why a range that is to be held or read is refused, if it is.
-    fn hold_refusal(&self, range: &RegionRange) -> Option<RegionRefused>
+    pub(crate) fn hold_refusal(&self, range: &RegionRange) -> Option<RegionRefused>
         ensures { result ≡ Registry.hold_refusal self.now range.now }
     {
         match region_of(&self.regions, range) {
@@ -231,21 +199,6 @@ impl Regions {
             }
             Err(why) => Some(why),
         }
-    }
-
-    /// Lets the send hold a range that is not refused.
-    fn keep(&mut self, send: OpId, range: RegionRange) -> Result<(), NoMemory>
-        requires free { finite.get self.old.held send.0 ≡ None }
-        requires allowed { Registry.hold_refusal self.old range ≡ None }
-        ensures ok { OnOk result (self.new ≡ with_hold self.old send.0 range) }
-        ensures err { OnErr result (self.new ≡ self.old) }
-    {
-        let region = &mut self.regions[range.region as usize];
-        region.reserve()?;
-        self.held.insert(send.0, range)?;
-        let region = &mut self.regions[range.region as usize];
-        region.mark(&range);
-        Ok(())
     }
 
     /// Takes the part of a range out that is not refused.

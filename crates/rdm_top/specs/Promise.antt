@@ -59,8 +59,9 @@ abbrev pub Untouched : {S K : Type 0} → Status → S → S → K → K → Typ
 Untouched status.Usage source source' sink sink' = (source' ≡ source) × (sink' ≡ sink)
 Untouched _ source source' sink sink' = ⊤
 
--- a fault comes only where the count of its own object rose
+-- a fault comes only where the count of its own object rose, and each other count stays: no fault of the source or of the sink
+-- is swallowed
 abbrev pub Caused : (source source' sink sink' : ℕ) → Status → Type 0
-Caused source source' sink sink' status.ReadFault = Rose source source'
-Caused source source' sink sink' status.WriteFault = Rose sink sink'
-Caused source source' sink sink' _ = ⊤
+Caused source source' sink sink' status.ReadFault = Rose source source' × (sink' ≡ sink)
+Caused source source' sink sink' status.WriteFault = (source' ≡ source) × Rose sink sink'
+Caused source source' sink sink' _ = (source' ≡ source) × (sink' ≡ sink)

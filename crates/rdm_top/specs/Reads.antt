@@ -1,5 +1,5 @@
 -- What reading a whole input gives.
-use Rattle.std.specs.Prelude.{◌<◌, ◌⊎◌, ℕ, List, Option, ⊤, Result, Ok, Err, length, Vec}
+use Rattle.std.specs.Prelude.{◌≡◌, ◌<◌, ◌⊎◌, ℕ, List, Option, ⊤, Result, Ok, Err, length, Vec}
 use Rattle.std.specs.declared.alloc.Global.{Global}
 use Rattle.std.specs.Io.KnownBytes.{Consumes, IsAtEnd}
 use Rattle.rdm_io.specs.Faults.{Rose}
@@ -16,12 +16,12 @@ abbrev pub Gathers : Option (List ℕ) → Option (List ℕ) → Result (Vec ℕ
 Gathers left rest (Ok v) = IsRead left rest v.items
 Gathers left rest (Err e) = ⊤
 
--- a fault comes only where the count of faults rose
+-- a fault comes only where the count of faults rose, and want of memory leaves it
 abbrev pub MayFailErr : ℕ → ℕ → ReadError → Type 0
 MayFailErr before now error.Fault = Rose before now
-MayFailErr before now error.Memory = ⊤
+MayFailErr before now error.Memory = now ≡ before
 
--- a fault comes only where the count of faults rose
+-- the same of a whole read: where all came, no call failed
 abbrev pub MayFail : ℕ → ℕ → Result (Vec ℕ Global) ReadError → Type 0
-MayFail before now (Ok v) = ⊤
+MayFail before now (Ok v) = now ≡ before
 MayFail before now (Err e) = MayFailErr before now e

@@ -1,7 +1,7 @@
 //! Gives a whole text.
 ghost use Rattle.std.specs.Prelude.{◌≡◌, ◌<◌, ◌≤◌, ◌++◌, ◌+◌, List, ℕ, length, OnOk, OnErr, take};
 ghost use Rattle.std.specs.Io.KnownBytes.{Appends};
-ghost use Rattle.rdm_io.specs.Faults.{Rose};
+ghost use Rattle.rdm_io.specs.Faults.{HasCause};
 ghost use Rattle.rdm_top.specs.Promise.{GavePart};
 
 use rdm_io::{Failed, Sink};
@@ -10,8 +10,7 @@ use rdm_io::{Failed, Sink};
 pub fn write_all<K: Sink>(sink: &mut K, bytes: &[u8]) -> Result<(), Failed>
     ensures ok { OnOk result (Appends (K.given sink.old) (K.given sink.new) bytes.now) }
     ensures err { OnErr result (GavePart (K.given sink.old) (K.given sink.new) bytes.now) }
-    ensures cause { OnErr result (Rose (K.faults sink.old) (K.faults sink.new)) }
-    ensures later { K.faults sink.old ≤ K.faults sink.new }
+    ensures cause { HasCause (K.faults sink.old) (K.faults sink.new) result }
 {
     let mut done = 0;
     while done < bytes.len() {

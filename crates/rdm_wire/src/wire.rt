@@ -43,7 +43,8 @@ pub trait Wire {
         ensures kept { (ports self.new ≡ ports self.old) × (serves self.new ≡ serves self.old) × (tables self.new ≡ tables self.old) × (in_order self.new ≡ in_order self.old) }
         ensures back { IfErr result (λ back. back ≡ d) }
         ensures full { OnErr result (Rose (fulls self.old) (fulls self.new)) }
-        ensures counts { (fulls self.old ≤ fulls self.new) × (empties self.old ≤ empties self.new) }
+        ensures uncounted { OnOk result (fulls self.new ≡ fulls self.old) }
+        ensures counts { (fulls self.old ≤ fulls self.new) × (empties self.new ≡ empties self.old) }
         ensures exact { MatchResult result (λ _. HasRoomAt d.dst.0 (held self.old)) (λ _. IsFullAt d.dst.0 (held self.old)) }
         ensures account { OnOk result (account self.new ≡ option_map (after_push d) (account self.old)) }
         ensures held { OnOk result (Moves (Pushes (in_order self.old) d) (held self.old) (held self.new)) }
@@ -56,7 +57,8 @@ pub trait Wire {
         ensures kept { (ports self.new ≡ ports self.old) × (serves self.new ≡ serves self.old) × (tables self.new ≡ tables self.old) × (in_order self.new ≡ in_order self.old) }
         ensures came { IfSome result (λ d. (d.dst ≡ port) × (d.src.0 < ports self.old)) }
         ensures none { IfNone result (Rose (empties self.old) (empties self.new)) }
-        ensures counts { (fulls self.old ≤ fulls self.new) × (empties self.old ≤ empties self.new) }
+        ensures uncounted { IfSome result (λ _. empties self.new ≡ empties self.old) }
+        ensures counts { (fulls self.new ≡ fulls self.old) × (empties self.old ≤ empties self.new) }
         ensures exact { IfNone result (IsEmptyAt port.0 (held self.old)) }
         ensures account { IfSome result (λ d. account self.new ≡ option_map (after_fetches port.0 (d ∷ [])) (account self.old)) }
         ensures held { IfSome result (λ d. Moves (Fetches (in_order self.old) port.0 (d ∷ [])) (held self.old) (held self.new)) }

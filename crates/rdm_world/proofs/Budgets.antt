@@ -5,7 +5,6 @@ use Rattle.std.specs.List.{list_all}
 use Rattle.std.proofs.lemmas.Bool.{and_parts}
 use Rattle.std.proofs.lemmas.List.{get_or_default}
 use Rattle.std.proofs.lemmas.List.Sums.{sum_by-cons, sum_by-le, sum_by_more, sum_by-take-le}
-use Rattle.std.proofs.Math.Nat.{mul-le-mul_right}
 use Rattle.rdm_model.specs.declared.job.Job.{Job}
 use Rattle.rdm_model.specs.declared.job.Rank.{Rank}
 use Rattle.rdm_model.specs.declared.job.Instr.{Instr}
@@ -95,11 +94,4 @@ pub sum_within : {A : Type 0} (f : A → ℕ) (xs : List A) (k : ℕ) (d : A) �
 sum_within f xs k d within =
     let more = sum_by_more f xs k d within in
     let part = sum_by-take-le f xs (k + 1) in
-    omega arith
-
--- twice the square of a small number is small
-pub square_small : (n : ℕ) → n ≤ 480000 → 2 * n * n ≤ 460800000000
-square_small n h =
-    let two : 2 * n ≤ 960000 = omega arith in
-    let a : 2 * n * n ≤ 960000 * n = mul-le-mul_right n two in
     omega arith

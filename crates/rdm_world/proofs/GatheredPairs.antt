@@ -17,11 +17,6 @@ pub each_weaker : {A : Type 0} (P Q : A → Type 0) (xs : List A) → ((x : A) �
 each_weaker P Q [] f h = tt
 each_weaker P Q (x ∷ xs) f h = (f x h.0, each_weaker P Q xs f h.1)
 
--- what holds of all holds of each
-pub each_of_all : {A : Type 0} (P : A → Type 0) (xs : List A) → ((x : A) → P x) → Each P xs
-each_of_all P [] f = tt
-each_of_all P (x ∷ xs) f = (f x, each_of_all P xs f)
-
 -- it holds of each of two lists in a row
 pub each_append : {A : Type 0} (P : A → Type 0) (xs ys : List A) → Each P xs → Each P ys → Each P (xs ++ ys)
 each_append P [] ys h k = k

@@ -10,14 +10,14 @@ use Rattle.rdm_model.specs.declared.job.Job.{Job}
 use Rattle.rdm_model.specs.declared.entry.Entry.{Entry}
 use Rattle.rdm_model.specs.declared.entry.Act.TheVariants.{Push}
 use Rattle.rdm_model.specs.Deeds.{Deed, Pushed, Item, deed_by_push, deed_of, deeds, open_life, of_life}
-use Rattle.rdm_model.specs.Owns.{Own, rank_of, port_count, own_of}
+use Rattle.rdm_model.specs.Owns.{rank_of, port_count, own_of}
 use Rattle.rdm_model.specs.Notes.{next_note}
-use Rattle.rdm_model.specs.Dues.{Due, due}
+use Rattle.rdm_model.specs.Dues.{Due}
 use Rattle.rdm_model.specs.Scenes.{Scene, scene, deeds_at}
 use Rattle.rdm_model.specs.Going.{Goes, due_going, Bears, IsNext, going, GoesNote, Going, life_going, IsGoing}
 use Rattle.rdm_model.specs.Classes.{class_of}
 use Rattle.rdm_model.specs.Steps.{Does}
-use Rattle.rdm_model.specs.Local.{heard_by, own_scene, Local}
+use Rattle.rdm_model.specs.Local.{own_scene, Local}
 use Rattle.rdm_model.specs.Wire.{PushedIn}
 use Rattle.rdm_law.proofs.Lives.Lives.{life_of, note_goes, life_scene, WasDueAt, at_of_life, is_connid-from, opened_scene, push_is}
 
@@ -68,11 +68,6 @@ pub record PushedDue (job : Job) (port : ℕ) (from : Connid) (to : Life) (load 
   pub placed : PlacedAt job port from d place log
   pub gives : due_going (Some due') ≡ Some (Goes to item)
   pub bears : Bears item load
-
--- the newest deed pushes the due item that was next
-was_due_newest : (own : Own) (t : Due) (k : ℕ) (log : List Deed) (d : Deed) → d ≡ Pushed → due own (heard_by own.limits.first log) log ≡ Some t → k ≡ length log
-    → WasDueAt own t k (d ∷ log)
-was_due_newest own t k log d p h e = inl (p, h, e)
 
 -- what was pushed stays so
 pushed_longer : (job : Job) (port : ℕ) (from : Connid) (to : Life) (load : Load) (d : Datagram) (e : Entry) (before : List Entry)

@@ -20,7 +20,6 @@ use Rattle.rdm_model.proofs.SameRegions.{Agree, agree_before}
 use Rattle.rdm_model.proofs.SameDues.{due_same}
 use Rattle.rdm_model.proofs.Grows.{agree_grows}
 use Rattle.rdm_model.proofs.Cuts.{Part}
-use Rattle.rdm_model.proofs.Numbers.{sends_one}
 use Rattle.rdm_model.proofs.Served.{PushedAt, push_member, push_part, push_once}
 use Rattle.rdm_model.proofs.Sending.{DataPush, IsSingle, push_is, rtm_push, data_push, opening_once}
 use Rattle.rdm_law.proofs.Lives.Lives.{WasDueAt}
@@ -74,10 +73,6 @@ pub due_once : (own : Own) (s t : Sent) (p q : Packet) (x y : Piece) (k l : ℕ)
     → overlaps x.offset (length x.bytes) y.offset (length y.bytes) ≡ true → k ≡ l
 due_once own s t p q x y k l log e h j c f o =
     push_once own (heard_by own.limits.first log) s t p q x y k l log e (was_due_pushed own (Sends s p) k log h) (was_due_pushed own (Sends t q) l log j) c f o
-
--- sends of one number are one send
-pub due_one : (own : Own) (s t : Sent) (p q : Packet) (k l : ℕ) (log : List Deed) → WasDueAt own (Sends s p) k log → WasDueAt own (Sends t q) l log → s.number ≡ t.number → s ≡ t
-due_one own s t p q k l log h j e = sends_one own (heard_by own.limits.first log) log s t (due_member own s p k log h) (due_member own t q l log j) e
 
 -- the one packet that opens a message is one due item
 pub due_opening : (own : Own) (s : Sent) (number number' : MsgNo) (tag tag' : Option ℕ) (opt opt' : Opt) (form form' : Form) (k l : ℕ) (log : List Deed)

@@ -76,10 +76,6 @@ missing_apart ps size offset len q m h =
           ]
     ]) refl
 
--- a piece that is missing is apart from all that came
-missing_all : (ps : List Piece) (size offset : ℕ) (bytes : List ℕ) → is_missing ps size offset (length bytes) ≡ true → IsApart (record { offset = offset; bytes = bytes }) ps
-missing_all ps size offset bytes m q h = missing_apart ps size offset (length bytes) q m h
-
 -- bytes that are not taken are missing
 not_taken : (s : Scene) (source : Life) (n offset len : ℕ) → is_taken s source n offset len ≡ false
     → is_missing (carried_pieces s.own.limits.first s.ms.head s.log source n) (s.ms.head source n).length offset len ≡ true

@@ -69,7 +69,7 @@ map_alike f g [] h = refl
 map_alike {A} {B} f g (x ∷ xs) h = ap (λ (y : B). y ∷ map f xs) (h x) ∙ ap (λ (ys : List B). g x ∷ ys) (map_alike f g xs h)
 
 -- some program has an instruction left in the world where one has in the history
-stuck_agrees : (job : Job) (w : World) (history : List Entry) → IsJoint w.logs history
+pub stuck_agrees : (job : Job) (w : World) (history : List Entry) → IsJoint w.logs history
     → list_any (λ port. is_some (instruction_left job port (w.logs port))) (below (port_count job)) ≡ is_stuck job history
 unfolding is_stuck
 stuck_agrees job w history joint =

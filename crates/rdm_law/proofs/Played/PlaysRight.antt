@@ -39,7 +39,7 @@ some_inbox job fair =
     omega arith
 
 -- where the stash has all that waits, the end is that of the history
-exact_end : (job : Job) (history : List Entry) (stashed : ℕ → ℕ) (port : ℕ) → stashed port ≡ length (waiting_datagrams port history) → stashed_end job history stashed port ≡ end_in job history port
+pub exact_end : (job : Job) (history : List Entry) (stashed : ℕ → ℕ) (port : ℕ) → stashed port ≡ length (waiting_datagrams port history) → stashed_end job history stashed port ≡ end_in job history port
 unfolding stashed_end end_in end_of
 exact_end job history stashed port is =
     ap (λ (n : ℕ). let x : End = record (end_in job history port) { waiting = n } in x) is

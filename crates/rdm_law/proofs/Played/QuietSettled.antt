@@ -79,7 +79,7 @@ unfolding next_completion_is_none next_completion
 next_is_none s = refl
 
 -- a test that each element passes
-all_from_members : {A : Type 0} (p : A → Bool) (xs : List A) → ((x : A) → Member x xs → p x ≡ true) → list_all p xs ≡ true
+pub all_from_members : {A : Type 0} (p : A → Bool) (xs : List A) → ((x : A) → Member x xs → p x ≡ true) → list_all p xs ≡ true
 all_from_members p [] h = refl
 all_from_members p (x ∷ xs) h = and_from (p x) (list_all p xs) (h x (inl refl)) (all_from_members p xs (λ y m. h y (inr m)))
 

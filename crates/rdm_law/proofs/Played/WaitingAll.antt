@@ -148,7 +148,7 @@ waits_once port (e ∷ before) w n =
     record { each = r.0; apart = r.1 }
 
 -- what no entry handled, no entry of a port handled
-unhandled_in_log : (d : Datagram) (port : ℕ) (history : List Entry) → IsUnhandled d history → IsUnhandled d (log_of port history)
+pub unhandled_in_log : (d : Datagram) (port : ℕ) (history : List Entry) → IsUnhandled d history → IsUnhandled d (log_of port history)
 unfolding log_of
 unhandled_in_log d port [] u = tt
 unhandled_in_log d port (e ∷ before) u =

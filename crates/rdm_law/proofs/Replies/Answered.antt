@@ -120,12 +120,6 @@ slice_get_past (x ∷ xs) ys (suc n) k e = slice_get_past xs ys n k (omega arith
 pub head_member : (q : List Placed) (x : Placed) → slice_get q 0 ≡ Some x → Member x q
 head_member q x h = slice_get-member q 0 x h
 
--- a push stands before the end of the log
-answered_before : (own : Own) (ms : Messages) (x : Placed) (k : ℕ) (log : List Deed) → Answered own ms x k log → k < length log
-answered_before own ms x k [] h = elim h [ ]
-answered_before own ms x k (d ∷ before) (inl a) = let e = a.1 in omega arith
-answered_before own ms x k (d ∷ before) (inr a) = let e = answered_before own ms x k before a in omega arith
-
 -- a deed keeps what the queue keeps
 queue_step : (own : Own) (ms : Messages) (d : Deed) (before : List Deed) → IsQueue own ms before → IsQueue own ms (d ∷ before)
 unfolding queue owed without
@@ -213,8 +207,3 @@ due_reply own ms log r h =
     let p = progress own ms log in
     let f : slice_get p.replies 0 ≡ Some r = reply_first (slice_get p.replies 0) (next_send own log p.packets (sends own ms log)) r (next_send_none own log p.packets (sends own ms log)) h in
     first_of_map (queue own ms log) r (ap (λ (x : List Reply). slice_get x 0) (queue_replies own ms log) ∙ f)
-
--- a push whose due item is a reply's answers it, at a place
-pub pushed_answered : (own : Own) (ms : Messages) (before : List Deed) (r : Reply) → due own ms before ≡ Some (Replies r)
-    → (x : Placed) × Answered own ms x (length before) (Pushed ∷ before) × (x.reply ≡ r)
-pushed_answered own ms before r h = let t = due_reply own ms before r h in (t.0, inl (refl, refl, t.1), t.2)

@@ -45,10 +45,6 @@ unique_append K s xs ys u v n i j x y h k c =
       ]
     ]
 
--- a list that has nothing that clashes
-pub unique_free : {A : Type 0} (K : A → A → Type 0) (xs : List A) → ((x y : A) → Member x xs → K x y → ⊥) → Unique K xs
-unique_free K xs n i j x y h k c = absurd (n x y (slice_get-member xs i x h) c)
-
 -- an element of pairs that lack a receive has another one
 lacks_pair : (n : ℕ) (p : Pair) (ps : List Pair) → LacksPair n ps → Member p ps → p.recv.id.0 ≡ n → ⊥
 lacks_pair n p [] l h e = elim h [ ]

@@ -1,7 +1,9 @@
-use Rattle.std.proofs.Common.{◌+◌, [], ◌∷◌, ◌++◌, ◌∙◌, ap, length, length-append, Some, arith}
+use Rattle.std.proofs.Common.{◌+◌, ◌<◌, ◌≤◌, [], ◌∷◌, ◌++◌, ◌∙◌, ap, length, length-append, Some, vec_capacity, arith}
+use Rattle.std.proofs.lemmas.List.{length-set}
 use Rattle.rdm_pool.specs.Places.{live, listed}
 use Rattle.rdm_pool.specs.declared.places.Place.{Place}
 use Rattle.rdm_pool.proofs.Live.{below-more, below-last, rises-last, live-last}
+use Rattle.rdm_pool.proofs.Following.{ends-last}
 use Rattle.rdm_pool.proofs.Changed.{listed-put, held-put}
 use Rattle.rdm_pool.proofs.Seen.{room_left, put_seen}
 use Rattle.rdm_pool.proofs.Pool.put.Goals as goal
@@ -9,7 +11,12 @@ use Rattle.rdm_pool.proofs.Pool.put.Goals as goal
 pub make_room-requires : goal.make_room-requires
 make_room-requires g c =
     let room = room_left c.self.inside c.self.invariant (rw (← c.self.view_is) at c.if-is_full.ensures.value) in
-    omega (arith, room, c.self.invariant.counted, c.self.invariant.has_places)
+    record {
+      few = omega (arith, room, c.self.invariant.counted, c.self.invariant.has_places);
+      below = below-more c.self.inside.made 4294967295 c.self.inside.places.items (omega (arith, c.requires)) c.self.invariant.given;
+      ends = c.self.invariant.ended;
+      has_ends = c.self.invariant.has_ends;
+    }
 
 pub insert_reserved-key-requires : goal.insert_reserved-key-requires
 insert_reserved-key-requires g c =
@@ -29,6 +36,8 @@ invariant_of-self g c =
     let pairs = ap live end.items ∙ live-last c.make_room.new.places.items p.made key ∙ ap (λ xs. xs ++ (p.made, key) ∷ []) made.live in
     let longer = ap length pairs ∙ length-append (live p.places.items) ((p.made, key) ∷ []) in
     let below = made.below p.made kept.given in
+    let fit : vec_capacity c.make_room.new.places ≤ length c.make_room.new.ends = omega (arith, made.capacity, made.ends_stay, kept.has_ends) in
+    let fits : c.len.result < length c.make_room.new.ends = omega (arith, c.len.ensures, made.room, fit) in
     record {
       held = rw pairs (held-put p.values _ (live p.places.items) (p.made, key) c.args.value slot.updates slot.was_vacant kept.held);
       rises = rw end.items (rises-last 0 c.make_room.new.places.items place (omega arith) below (made.rises kept.rises));
@@ -37,6 +46,8 @@ invariant_of-self g c =
       within = omega (arith, slot.len, room);
       has_slots = rw slot.capacity kept.has_slots;
       has_places = rw (end.capacity, made.capacity) kept.has_places;
+      ended = rw (end.items, c.set.ensures, c.end.ensures) (ends-last c.make_room.new.places.items c.make_room.new.ends place c.len.result (omega (arith, c.len.ensures, c.make_room.new.places.ok)) fits made.ends);
+      has_ends = rw (c.set.ensures, length-set c.make_room.new.ends c.len.result c.end.result, end.capacity) fit;
     }
 
 pub returns-clause-after : goal.returns-clause-after

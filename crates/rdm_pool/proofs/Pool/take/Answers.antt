@@ -32,6 +32,8 @@ invariant_of-self-2 g c =
       within = omega (arith, slot.len, kept.within);
       has_slots = rw slot.capacity kept.has_slots;
       has_places = kept.has_places;
+      ended = rw items gone.ends;
+      has_ends = rw gone.ends_stay kept.has_ends;
     }
 
 pub invariant_of-self : goal.invariant_of-self
@@ -50,6 +52,8 @@ invariant_of-self g c =
       within = kept.within;
       has_slots = kept.has_slots;
       has_places = kept.has_places;
+      ended = rw items gone.ends;
+      has_ends = rw gone.ends_stay kept.has_ends;
     }
 
 pub returns-clause-answer : goal.returns-clause-answer

@@ -15,9 +15,12 @@ returns-then-len-capacity-clause-below c = λ bound below. rw c.drop_gone.ensure
 pub returns-then-len-capacity-clause-room : goal.returns-then-len-capacity-clause-room
 returns-then-len-capacity-clause-room c =
     let few = ap length c.drop_gone.ensures.items ∙ length-filter c.args.places.now.items in
-    omega (arith, few, c.requires, c.drop_gone.ensures.capacity)
+    omega (arith, few, c.requires.few, c.drop_gone.ensures.capacity)
 
 pub returns-then-len-capacity-clause-seldom : goal.returns-then-len-capacity-clause-seldom
 returns-then-len-capacity-clause-seldom c =
     let few = ap length c.drop_gone.ensures.items ∙ length-filter c.args.places.now.items in
-    inr (omega (arith, c.if-len-capacity.true, c.len.ensures, c.capacity.ensures), omega (arith, few, c.requires, c.drop_gone.ensures.capacity))
+    inr (omega (arith, c.if-len-capacity.true, c.len.ensures, c.capacity.ensures), omega (arith, few, c.requires.few, c.drop_gone.ensures.capacity))
+
+pub set_ends-requires-clause-below : goal.set_ends-requires-clause-below
+set_ends-requires-clause-below c = rw (c.deref.ensures.value, c.drop_gone.ensures.items) (below-filter 4294967295 c.args.places.now.items c.requires.below)

@@ -1,14 +1,15 @@
-use Rattle.std.proofs.Common.{sym, ◌∙◌}
+use Rattle.std.proofs.Common.{sym, ◌∙◌, arith}
 use Rattle.rdm_pool.proofs.Entries.{without-absent}
 use Rattle.rdm_pool.proofs.Search.{number_here, key_at, no_key}
 use Rattle.rdm_pool.proofs.Live.{live-gone, rises-gone, below-gone}
+use Rattle.rdm_pool.proofs.Following.{ends_within, ends-gone}
 use Rattle.rdm_pool.proofs.places.take_key.Goals as goal
 
 pub returns-clause-key : goal.returns-clause-key
-returns-clause-key c = c.take.ensures.value ∙ key_at 0 c.args.places.now c.args.id.0 c.in_ok-at.at _ c.requires c.in_ok-at.ensures.found
+returns-clause-key c = c.take.ensures.value ∙ key_at 0 c.args.places.now c.args.id.0 c.in_ok-at.at _ c.requires.rises c.in_ok-at.ensures.found
 
 pub returns-clause-live : goal.returns-clause-live
-returns-clause-live c = live-gone 0 c.args.places.now c.args.id.0 c.in_ok-at.at _ c.in_ok-at.ensures.found c.take.ensures.after c.requires
+returns-clause-live c = live-gone 0 c.args.places.now c.args.id.0 c.in_ok-at.at _ c.in_ok-at.ensures.found c.take.ensures.after c.requires.rises
 
 pub returns-clause-rises : goal.returns-clause-rises
 returns-clause-rises c =
@@ -25,3 +26,9 @@ returns-in_err-at-clause-key c = c.from_residual.ensures ∙ sym (no_key c.args.
 
 pub returns-in_err-at-clause-live : goal.returns-in_err-at-clause-live
 returns-in_err-at-clause-live c = sym (without-absent _ c.args.id.0 (no_key c.args.places.now c.args.id.0 c.in_err-at.ensures.absent))
+
+pub set-requires : goal.set-requires
+set-requires c = omega (arith, c.in_ok-at.ensures.within, ends_within c.args.places.now c.args.ends.now c.requires.ends)
+
+pub returns-clause-ends : goal.returns-clause-ends
+returns-clause-ends c = rw c.set.ensures (ends-gone c.args.places.now c.args.ends.now c.args.id.0 c.in_ok-at.at _ c.in_ok-at.ensures.found c.take.ensures.after c.requires.ends)

@@ -45,7 +45,7 @@ returns-then-not-is_handling-clause-does c = λ v n l s h.
     c.handle-answer.ensures.handles (sym c.is_handling.ensures ∙ c.if-not-is_handling.true)
 
 pub returns-then-not-is_handling-clause-room : goal.returns-then-not-is_handling-clause-room
-returns-then-not-is_handling-clause-room c = λ h. let p = c.handle-answer.ensures.places in let r = c.reserve.ensures.kept in omega arith
+returns-then-not-is_handling-clause-room c = λ h. let p = c.handle-answer.ensures.places in let d = c.handle-answer.ensures.done in let r = c.reserve.ensures.kept in omega arith
 
 pub returns-clause-does : goal.returns-clause-does
 returns-clause-does c = λ v n l s h.
@@ -64,8 +64,9 @@ returns-clause-does c = λ v n l s h.
 pub returns-clause-room : goal.returns-clause-room
 returns-clause-room c = λ h.
     let n : places_of c.state-2.inside.endpoint ≡ places_of c.handle-answer.new.self.endpoint = ap (λ (x : Kept). places_of x.endpoint) c.state-2.view_is in
+    let m : c.state-2.inside.done ≡ c.handle-answer.new.self.done = ap (λ (x : Kept). x.done) c.state-2.view_is in
     let p = c.handle-answer.ensures.places in
-    let o = c.outstanding.ensures in
+    let d = c.handle-answer.ensures.done in
     let r = c.in-Ok.ensures.ok in
     let s = c.in-Some.ensures in
     let t = c.push.ensures.room in

@@ -1,4 +1,4 @@
-use Rattle.std.proofs.Common.{◌<◌, sym, ap, ◌∙◌, arith}
+use Rattle.std.proofs.Common.{◌<◌, refl, sym, ap, ◌∙◌, arith}
 use Rattle.rdm_port.specs.Kept.{Kept, places_of}
 use Rattle.rdm_port.specs.contracts.kept.State.{the_view}
 use Rattle.rdm_port.proofs.Polled.{poll_none, poll_worn}
@@ -30,9 +30,10 @@ returns-clause-does c v number log kept =
     (polled_view (the_view c.state-2.inside) k c.saturating_add.result after stamp)
 
 pub returns-clause-room : goal.returns-clause-room
-returns-clause-room c =
+returns-clause-room c = λ all had.
     let after = ap (λ (k : Kept). places_of k.endpoint) (c.state-2.view_is ∙ c.poll.ensures.after) in
+    let done = ap (λ (k : Kept). k.done) (c.state-2.view_is ∙ c.poll.ensures.after) in
     let less = polled_places c.args.state.now.endpoint c.in-Some.twin (sym c.in-Some.ensures.completion) in
-    let had = c.requires.room in
+    let some = c.if-not-has_completion.ensures.place refl in
     let left = c.push.ensures.room in
     omega arith

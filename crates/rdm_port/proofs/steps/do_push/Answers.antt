@@ -1,10 +1,10 @@
-use Rattle.std.proofs.Common.{rules, ◌≡◌, ◌<◌, ◌≤◌, ◌+◌, Some, sym, subst, ap, ◌∙◌, refl, arith}
+use Rattle.std.proofs.Common.{rules, ◌≡◌, ◌<◌, ◌≤◌, ◌+◌, ◌-◌, Some, sym, subst, ap, ◌∙◌, refl, arith}
 use Rattle.rdm_port.specs.Kept.{Kept, IsKept, places_of}
 use Rattle.rdm_wire.specs.declared.Datagram.{Datagram}
 use Rattle.rdm_port.specs.Machine.{departing, after_went}
 use Rattle.rdm_port.specs.contracts.kept.State.{the_view}
 use Rattle.rdm_port.proofs.PushDoes.{push_idle, push_worn, push_full}
-use Rattle.rdm_port.proofs.Rooms.{went_places, room_left}
+use Rattle.rdm_port.proofs.Rooms.{went_places, went_done, room_left}
 use Rattle.rdm_port.proofs.StepEnds.{next_stamp, push_stays, pushed_view, push_ends}
 use Rattle.rdm_port.proofs.steps.do_push.Goals as goal
 
@@ -46,8 +46,8 @@ returns-clause-room g c had =
     let k : Kept = c.args.state.now in
     let after : the_view c.state-2.inside ≡ after_went c.in-Ok-clone.copy.body k = c.state-2.view_is ∙ c.went.ensures in
     let same : places_of c.state-2.inside.endpoint ≡ places_of k.endpoint = ap (λ (x : Kept). places_of x.endpoint) after ∙ went_places c.in-Ok-clone.copy.body k in
-    let places : c.outstanding.result ≡ places_of k.endpoint = c.outstanding.ensures in
-    let more : c.in-Some-checked_add.places ≡ c.outstanding.result + 1 = c.in-Some-checked_add.ensures.1 in
-    let room : c.in-Some-checked_add.places ≤ c.reserve.new.self.room = c.in-Ok-reserve.ensures.ok in
+    let done : c.state-2.inside.done ≡ k.done = ap (λ (x : Kept). x.done) after ∙ went_done c.in-Ok-clone.copy.body k in
+    let places : c.in-Some-entries_and_one.places ≡ places_of k.endpoint + (c.args.all - k.done) + 1 = c.in-Some-entries_and_one.ensures in
+    let room : c.in-Some-entries_and_one.places ≤ c.reserve.new.self.room = c.in-Ok-reserve.ensures.ok in
     let left : c.push-2.new.self.room + 1 ≡ c.reserve.new.self.room = c.push-2.ensures.room in
-    room_left (places_of k.endpoint) (places_of c.state-2.inside.endpoint) c.reserve.new.self.room c.push-2.new.self.room same (omega arith) left
+    room_left c.args.all (places_of k.endpoint) (places_of c.state-2.inside.endpoint) k.done c.state-2.inside.done c.reserve.new.self.room c.push-2.new.self.room same done (omega arith) left

@@ -68,4 +68,4 @@ returns-in-Err-clause-after c =
     let home = c.in-Err.ensures.err.0 in
     let taken = c.in_ok-claim.ensures.places ∙ ap (λ (x : Missing). x.places) (taken_is AllocError c.args.off c.args.len f.gaps c.in_ok-claim.field-0 c.if-not-branch.false) in
     let places = ap (λ (x : Missing). x.places) c.in-Err.ensures.err.1 ∙ ap (with_range _ c.args.off c.args.len) taken ∙ set_back c.args.off c.args.len f.gaps.places m in
-    (λ i. record { tiles = home i; missing = places i; lent = c.in_ok-claim.ensures.items i }) ∙ c.self.view_is
+    (λ i. record { tiles = home i; missing = places i; lent = c.in_ok-claim.ensures.items i; room = c.self.inside.room }) ∙ c.self.view_is

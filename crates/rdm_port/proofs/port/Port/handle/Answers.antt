@@ -1,5 +1,7 @@
-use Rattle.std.proofs.Common.{refl, ap, ◌∙◌, List, ◌++◌}
+use Rattle.std.proofs.Common.{◌≡◌, refl, ap, ◌∙◌, sym, subst, List, ◌++◌, length}
 use Rattle.rdm_wire.specs.declared.Datagram.{Datagram}
+use Rattle.rdm_model.specs.declared.job.Instr.{Instr}
+use Rattle.rdm_port.specs.Kept.{HasRoom}
 use Rattle.rdm_port.specs.contracts.port.Port.{the_view}
 use Rattle.rdm_port.proofs.HandleKept.{restashed}
 use Rattle.rdm_port.proofs.HandleEnds.{port_wants, port_handles}
@@ -13,7 +15,12 @@ pub invariant_of-self-2 : goal.invariant_of-self-2
 invariant_of-self-2 g c =
     let v = the_view c.self.inside in
     let d = c.do_handle.ensures.does (record v { stash = c.fetch_into.new.stash.list }) refl refl refl (restashed v c.self.inside.state c.fetch_into.new.stash.list c.self.invariant.kept) in
-    record { kept = d.0; roomy = c.do_handle.ensures.room c.self.invariant.roomy }
+    let o : c.as_slice.result.now ≡ c.self.inside.rank.ops = c.as_slice.ensures in
+    record {
+      kept = d.0;
+      roomy = subst (λ (ops : List Instr). HasRoom (length ops) c.do_handle.new.log.room c.do_handle.new.state) o
+          (c.do_handle.ensures.room (subst (λ (ops : List Instr). HasRoom (length ops) c.self.inside.log.room c.self.inside.state) (sym o) c.self.invariant.roomy));
+    }
 
 pub returns-clause-does : goal.returns-clause-does
 returns-clause-does g c =

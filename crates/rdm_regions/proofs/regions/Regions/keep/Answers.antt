@@ -66,10 +66,10 @@ pub invariant_of-self-2 : goal.invariant_of-self-2
 invariant_of-self-2 c =
     let i = c.self.inside in
     holds i.regions.items i.held.entries i.leased.entries c.self.invariant c.args.self.now c.self.view_is c.args.range c.requires.allowed c.index_mut-region.result.now c.index_mut-region.ensures.value c.reserve.new.self c.in_ok-reserve.ensures.same c.index_mut-region-2.result.now c.index_mut-region-2.ensures.value
-    c.mark.new.self c.mark.ensures c.args.send.0 c.requires.free c.insert.new.self.entries c.in_ok-insert.ensures.entries c.in_ok-insert.ensures.ordered
+    c.mark.new.self c.mark.ensures c.args.number c.requires.free c.insert.new.self.entries c.in_ok-insert.ensures.entries c.in_ok-insert.ensures.ordered
 
 pub returns-clause-ok : goal.returns-clause-ok
 returns-clause-ok c =
     let i = c.self.inside in
     holds_view i.regions.items i.held.entries i.leased.entries c.self.invariant c.args.self.now c.self.view_is c.args.range c.requires.allowed c.index_mut-region.result.now c.index_mut-region.ensures.value c.reserve.new.self c.in_ok-reserve.ensures.same c.index_mut-region-2.result.now c.index_mut-region-2.ensures.value
-    c.mark.new.self c.mark.ensures c.args.send.0 c.requires.free c.insert.new.self.entries c.in_ok-insert.ensures.entries c.in_ok-insert.ensures.ordered c.in_ok-insert.ensures.updates.0
+    c.mark.new.self c.mark.ensures c.args.number c.requires.free c.insert.new.self.entries c.in_ok-insert.ensures.entries c.in_ok-insert.ensures.ordered c.in_ok-insert.ensures.updates.0
