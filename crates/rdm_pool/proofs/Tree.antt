@@ -1,10 +1,10 @@
 -- The tree over the ends of numbers: what a new leaf leaves, and where the way down ends.
-use Rattle.std.proofs.Common.{◌≡◌, ◌≢◌, ℕ, zero, suc, ◌+◌, ◌-◌, ◌*◌, ◌/◌, ◌^◌, ◌<◌, ◌≤◌, max, List, [], ◌∷◌, length, set, get_or, drop, Some, None, refl, sym, ap, ◌∙◌, inl, inr, arith}
+use Rattle.std.proofs.Common.{◌≡◌, ◌≢◌, ℕ, zero, suc, ◌+◌, ◌-◌, ◌*◌, ◌/◌, ◌^◌, ◌<◌, ◌≤◌, max, List, [], ◌∷◌, length, get_or, drop, Some, None, refl, sym, ap, ◌∙◌, inl, inr, arith}
 use Rattle.std.specs.List.{slice_index}
 use Rattle.std.specs.Int.{IsPowerOfTwo}
 use Rattle.std.proofs.lemmas.Bool.{cases_eq, cases_lt}
 use Rattle.std.proofs.lemmas.Bool.Decides.{nat_tests}
-use Rattle.std.proofs.lemmas.List.{get_or-set_same, get_or-set_other, get_or-drop, length-drop}
+use Rattle.std.proofs.lemmas.List.{get_or-drop, length-drop}
 use Rattle.std.proofs.lemmas.Nat.{pow_pos}
 use Rattle.std.proofs.Math.Nat.{pow-succ', pow-le-pow_right}
 use Rattle.rdm_pool.specs.Ends.{IsTree, first_above}
@@ -12,26 +12,6 @@ use Rattle.rdm_pool.specs.Ends.{IsTree, first_above}
 -- each node above the leaves but one has the greater of the two below it
 abbrev pub IsTreeBut : ℕ → ℕ → List ℕ → Type 0
 IsTreeBut but leaves tree = (node : ℕ) → 1 ≤ node → node < leaves → node ≢ but → slice_index tree node ≡ max (slice_index tree (2 * node)) (slice_index tree (2 * node + 1))
-
--- with another leaf the node above it may be wrong
-pub leaf_set : (leaves at end : ℕ) (tree : List ℕ) → length tree ≡ 2 * leaves → at < leaves → IsTree leaves tree → IsTreeBut ((leaves + at) / 2) leaves (set tree (leaves + at) end)
-leaf_set leaves at end tree nodes at_in is = λ node from within other.
-    let here = get_or-set_other tree (leaves + at) node end 0 (omega arith) in
-    let left = get_or-set_other tree (leaves + at) (2 * node) end 0 (omega arith) in
-    let right = get_or-set_other tree (leaves + at) (2 * node + 1) end 0 (omega arith) in
-    rw (here, left, right) (is node from within)
-
--- once it's mended, the node above it may be wrong
-pub node_set : (leaves at : ℕ) (tree : List ℕ) → length tree ≡ 2 * leaves → 1 ≤ at → at < leaves → IsTreeBut at leaves tree → IsTreeBut (at / 2) leaves (set tree at (max (slice_index tree (2 * at)) (slice_index tree (2 * at + 1))))
-node_set leaves at tree nodes from at_in but = λ node node_from within other.
-    let left = get_or-set_other tree at (2 * node) (max (slice_index tree (2 * at)) (slice_index tree (2 * at + 1))) 0 (omega arith) in
-    let right = get_or-set_other tree at (2 * node + 1) (max (slice_index tree (2 * at)) (slice_index tree (2 * at + 1))) 0 (omega arith) in
-    elim (cases_eq node at) [
-      | inl same ↦ rw (left, right, same) (get_or-set_same tree at (max (slice_index tree (2 * at)) (slice_index tree (2 * at + 1))) 0 (omega arith))
-      | inr away ↦
-          let here = get_or-set_other tree at node (max (slice_index tree (2 * at)) (slice_index tree (2 * at + 1))) 0 away in
-          rw (here, left, right) (but node node_from within away)
-    ]
 
 -- no node is above the first
 root_greatest : (fuel leaves : ℕ) (tree : List ℕ) → IsTree leaves tree → (node : ℕ) → 1 ≤ node → node ≤ fuel → node < 2 * leaves → slice_index tree node ≤ slice_index tree 1

@@ -1,14 +1,16 @@
 -- Holds of several ranges, one after another.
-use Rattle.std.proofs.Common.{◌≡◌, refl, sym, ap, ◌∙◌, ℕ, zero, suc, ◌+◌, ◌-◌, ◌<◌, ◌≤◌, ◌⊎◌, inl, inr, Bool, true, false, cond, List, [], ◌∷◌, length, get_or, take, drop, Option, Some, None, arith}
+use Rattle.std.proofs.Common.{◌≡◌, refl, sym, ap, ◌∙◌, ℕ, zero, suc, ◌+◌, ◌-◌, ◌<◌, ◌≤◌, ◌⊎◌, inl, inr, Bool, true, false, cond, List, [], ◌∷◌, length, get_or, take, drop, Option, Some, None, Result, Ok, Err, arith}
+use Rattle.std.specs.Prelude.{slice_get}
+use Rattle.std.proofs.lemmas.Bool.{cases_lt}
 use Rattle.std.specs.Ordering.{nat_cmp, eq_by_cmp, is_eq}
-use Rattle.std.specs.Cmp.{nat_cmp_total}
+use Rattle.std.specs.Cmp.{nat_cmp_total, tied_itself}
 use Rattle.std.specs.FinMap as finite
 use Rattle.rdm_lists.specs.Lists.{or_else}
 use Rattle.rdm_regions.specs.declared.range.RegionRange.{RegionRange}
 use Rattle.rdm_regions.specs.declared.range.RegionRefused.{RegionRefused}
 use Rattle.rdm_regions.specs.Ranges.{Ranges}
 use Rattle.rdm_regions.specs.Registry.{Registry, hold_refusal, with_hold}
-use Rattle.rdm_regions.specs.Holds.{with_all, with_holds, without_all, without_holds, first_refusal}
+use Rattle.rdm_regions.specs.Holds.{with_all, with_holds, without_all, without_holds, first_refusal, hold_number, after_hold_all, EachIsHeld, NoneIsHeld}
 use Rattle.rdm_regions.proofs.Apart.{key_is}
 
 -- another number than the one that is put in or taken out
@@ -129,3 +131,38 @@ module _ (r s : Registry) (n k : ℕ) (xs : List RegionRange) (so_far : s ≡ wi
   pub gives_up : (t u : Registry) (d : RegionRange) → k < length xs → t ≡ s → u ≡ without_holds t n k → u ≡ r
   gives_up t u d lt same is =
       is ∙ ap (λ q. without_holds q n k) (same ∙ so_far) ∙ ap (λ (h : Ranges). record r { held = h }) (all_undone r.held n k xs (omega arith) (λ i below. free i (omega arith)) d)
+
+-- each range is held under its number
+tied_is : (k : ℕ) → eq_by_cmp nat_cmp k k ≡ true
+tied_is k = ap is_eq (tied_itself nat_cmp_total k)
+
+each_held : (m : Ranges) (n : ℕ) (xs : List RegionRange) (i : ℕ) → i < length xs → finite.get (with_all m n xs) (n + i) ≡ slice_get xs i
+each_held m n [] i lt = absurd (omega arith)
+each_held m n (x ∷ xs) zero lt =
+    let e : n + 0 ≡ n = omega arith in
+    ap (finite.get (with_all (finite.insert m n x) (n + 1) xs)) e ∙ get_all (finite.insert m n x) (n + 1) xs n (inl (omega arith)) ∙ finite.get-insert nat_cmp_total m n x n ∙ ap (λ b. cond b (Some x) (finite.get m n)) (tied_is n)
+each_held m n (x ∷ xs) (suc i) lt =
+    let e : n + suc i ≡ (n + 1) + i = omega arith in
+    ap (finite.get (with_all (finite.insert m n x) (n + 1) xs)) e ∙ each_held (finite.insert m n x) (n + 1) xs i (omega arith)
+
+pub each_is_held : EachIsHeld
+each_is_held r n xs i lt = each_held r.held n xs i lt
+
+-- none is left
+none_left : (m : Ranges) (n k i : ℕ) → i < k → finite.get (without_all m n k) (n + i) ≡ None
+none_left m n zero i lt = absurd (omega arith)
+none_left m n (suc k) i lt =
+    elim (cases_lt i k) [
+      | inl below ↦ none_left (finite.remove m (n + k)) n k i below
+      | inr past ↦
+          let e : n + i ≡ n + k = omega arith in
+          get_but (finite.remove m (n + k)) n k (n + i) (inr (omega arith)) ∙ ap (finite.get (finite.remove m (n + k))) e ∙ finite.get-remove nat_cmp_total m (n + k) (n + k) ∙ ap (λ b. cond b None (finite.get m (n + k))) (tied_is (n + k))
+    ]
+
+pub none_is_held : NoneIsHeld
+none_is_held r send i lt = none_left r.held (hold_number send) 4 i lt
+
+-- what is leased stays so
+pub leased_after : {A : Type 0} (r : Registry) (send : ℕ) (xs : List RegionRange) (answer : Result A RegionRefused) → (after_hold_all r send xs answer).leased ≡ r.leased
+leased_after r send xs (Ok done) = refl
+leased_after r send xs (Err why) = refl

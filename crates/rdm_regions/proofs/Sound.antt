@@ -1,7 +1,7 @@
 -- What is true of the regions at all times, as a clause sees them.
-use Rattle.std.proofs.Common.{◌≡◌, ◌↔◌, refl, sym, ap, subst, ◌∙◌, ℕ, ◌+◌, ◌-◌, ◌<◌, ◌≤◌, Bool, true, false, cond, List, length, get_or, map as each, Option, Some, None, inl, inr, arith}
+use Rattle.std.proofs.Common.{◌≡◌, ◌↔◌, refl, sym, ap, subst, ◌∙◌, ℕ, ◌+◌, ◌<◌, ◌≤◌, Bool, true, false, cond, List, length, get_or, map as each, Option, Some, None, inl, inr, arith}
 use Rattle.std.specs.Prelude.{is_none, slice_get, option_map}
-use Rattle.std.specs.List.{sum_by, list_any}
+use Rattle.std.specs.List.{list_any}
 use Rattle.std.specs.Map.{values_of, lookup}
 use Rattle.std.specs.BTreeMap.{is_at}
 use Rattle.std.specs.Ordering.{nat_cmp}
@@ -14,12 +14,11 @@ use Rattle.rdm_num.specs.Pieces.{overlaps}
 use Rattle.rdm_regions.specs.declared.range.RegionRange.{RegionRange}
 use Rattle.rdm_regions.specs.declared.region.Region.{Region}
 use Rattle.rdm_regions.specs.Ranges.{range, meets, meets_one}
-use Rattle.rdm_regions.specs.Registry.{Registry, Area, refusal_in}
+use Rattle.rdm_regions.specs.Registry.{Area, refusal_in}
 use Rattle.rdm_regions.specs.Weights.{has}
 use Rattle.rdm_regions.specs.Tallies.{area_of, busy_if, Lies, Tiled, Keeps}
 use Rattle.rdm_regions.specs.Survival.{LiesIn, IsWithin, IsSound}
 use Rattle.rdm_regions.proofs.Apart.{found_has, two_weigh, none_each, each_none}
-use Rattle.rdm_regions.proofs.Busy.{weighs_none}
 use Rattle.rdm_regions.proofs.Changes.{at_index}
 use Rattle.rdm_regions.proofs.Entries.{Entries, map_of, get_is_lookup, values_are}
 use Rattle.rdm_regions.proofs.Meets.{meets_shares, has_one}

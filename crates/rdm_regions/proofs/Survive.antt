@@ -1,23 +1,18 @@
 -- What the holds and leases of others leave as it was.
-use Rattle.std.proofs.Common.{◌≡◌, refl, sym, ap, subst, ◌∙◌, ℕ, zero, suc, ◌+◌, ◌-◌, ◌<◌, ◌≤◌, ◌⊎◌, inl, inr, Bool, true, false, cond, List, [], ◌∷◌, ◌++◌, length, get_or, take, drop, map as each, replicate, Option, Some, None, arith}
+use Rattle.std.proofs.Common.{◌≡◌, refl, sym, ap, subst, ◌∙◌, ℕ, zero, suc, ◌+◌, ◌-◌, ◌<◌, ◌≤◌, ◌⊎◌, inl, inr, Bool, true, false, List, [], ◌∷◌, ◌++◌, length, get_or, take, drop, map as each, replicate, Option, Some, None, arith}
 use Rattle.std.specs.Prelude.{slice_get, ◌||◌, nat_lt, if◌then◌else◌}
-use Rattle.std.specs.List.{All, filter_map, list_any}
-use Rattle.std.specs.Map.{values_of}
+use Rattle.std.specs.List.{All, filter_map}
 use Rattle.std.specs.FinMap as finite
 use Rattle.std.proofs.lemmas.Bool.{cases_lt, cases_eq, or_parts, ltb-false}
-use Rattle.std.proofs.lemmas.Bool.Decides.{nat_tests}
 use Rattle.std.proofs.lemmas.List.{length-map, length-replicate, length-take-le, length-drop, get_or-take, get_or-drop, ext_get_or}
-use Rattle.std.proofs.lemmas.Option.{slice_get_within}
-use Rattle.rdm_num.specs.Pieces.{overlaps}
 use Rattle.rdm_mr.specs.Part.{Piece}
 use Rattle.rdm_mr.specs.Tiles.{laid}
 use Rattle.rdm_regions.specs.declared.range.RegionRange.{RegionRange}
-use Rattle.rdm_regions.specs.declared.range.RegionRefused.{RegionRefused}
-use Rattle.rdm_regions.specs.declared.range.RegionRefused.TheVariants.{NoRegion, Range, Busy}
+use Rattle.rdm_regions.specs.declared.range.RegionRefused.TheVariants.{Range, Busy}
 use Rattle.rdm_regions.specs.Ranges.{Ranges, meets, meets_one}
-use Rattle.rdm_regions.specs.Registry.{Registry, Area, IsPartOf, IsLeaseOf, refusal_in, lease_refusal, returned, after_lease_back, with_lease, with_region, laid_in, cells_at, bytes_at}
+use Rattle.rdm_regions.specs.Registry.{Registry, Area, IsPartOf, refusal_in, returned, with_lease, with_region, laid_in, cells_at}
 use Rattle.rdm_regions.specs.Holds.{with_holds, without_holds}
-use Rattle.rdm_regions.specs.Survival.{LiesIn, IsSound, HoldStays, LeaseStays, StayRegistered, StayHeld, StayDropped, StayLeased, StayReturned}
+use Rattle.rdm_regions.specs.Survival.{HoldStays, LeaseStays, StayRegistered, StayHeld, StayDropped, StayLeased, StayReturned}
 use Rattle.rdm_regions.proofs.Apart.{found_has, none_each, meets_back}
 use Rattle.rdm_regions.proofs.Entries.{find_is_lookup}
 use Rattle.rdm_regions.proofs.Meets.{shares_meet}

@@ -1,5 +1,5 @@
 -- Holds of several ranges, each under a number of its own.
-use Rattle.std.specs.Prelude.{◌≡◌, ℕ, zero, suc, ◌+◌, ◌*◌, ◌<◌, List, [], ◌∷◌, Option, None, Result, Ok, Err}
+use Rattle.std.specs.Prelude.{◌≡◌, ℕ, zero, suc, ◌+◌, ◌*◌, ◌<◌, List, [], ◌∷◌, length, slice_get, Option, None, Result, Ok, Err}
 use Rattle.std.specs.FinMap as map
 use Rattle.rdm_lists.specs.Lists.{or_else}
 use Rattle.rdm_regions.specs.declared.range.RegionRange.{RegionRange}
@@ -40,3 +40,11 @@ first_refusal r (x ∷ xs) = or_else (hold_refusal r x) (first_refusal r xs)
 abbrev pub after_hold_all : {A : Type 0} → Registry → ℕ → List RegionRange → Result A RegionRefused → Registry
 after_hold_all r send xs (Ok done) = with_holds r (hold_number send) xs
 after_hold_all r send xs (Err why) = r
+
+-- what a `hold_all` holds: each range under its number
+abbrev pub EachIsHeld : Type 0
+EachIsHeld = (r : Registry) (n : ℕ) (xs : List RegionRange) (i : ℕ) → i < length xs → map.get (with_holds r n xs).held (n + i) ≡ slice_get xs i
+
+-- what a `drop_hold` leaves of the send's holds: none
+abbrev pub NoneIsHeld : Type 0
+NoneIsHeld = (r : Registry) (send : ℕ) → HoldsNone (without_holds r (hold_number send) 4) send

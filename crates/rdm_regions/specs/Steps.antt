@@ -1,5 +1,5 @@
 -- What the calls of one region ask for and leave.
-use Rattle.std.specs.Prelude.{◌≡◌, ℕ, ◌+◌, ◌-◌, ◌<◌, ◌≤◌, eqb, ltb, cond, List, [], ◌++◌, length, take, drop, map, replicate, Option, Some, None, vec_len, vec_capacity}
+use Rattle.std.specs.Prelude.{◌≡◌, ℕ, ◌+◌, ◌-◌, ◌<◌, ◌≤◌, eqb, ltb, cond, List, [], length, take, drop, map, replicate, Option, Some, None, vec_len, vec_capacity}
 use Rattle.std.specs.List.{count_by, sum_by, filter_map}
 use Rattle.std.specs.List.Sorted.{IsNonDecreasing}
 use Rattle.rdm_mr.specs.Part.{Piece, Whole}

@@ -1,5 +1,5 @@
 -- What is true of regions at all times, and what the holds and leases of others leave as it was.
-use Rattle.std.specs.Prelude.{◌≡◌, ℕ, ◌+◌, ◌<◌, ◌≤◌, ◌⊎◌, false, is_none, List, length, slice_get, get_or, Option, Some, None}
+use Rattle.std.specs.Prelude.{◌≡◌, ℕ, ◌+◌, ◌<◌, ◌≤◌, ◌⊎◌, false, is_none, List, length, slice_get, get_or, Some, None}
 use Rattle.std.specs.FinMap as map
 use denote.RawPtr.{Ptr}
 use Rattle.rdm_mr.specs.Part.{Piece}

@@ -12,4 +12,4 @@ mod tests;
 
 pub use range::{RegionRange, RegionRefused};
 pub use regions::Regions;
-pub use survival::survival_law;
+pub use survival::{holds_law, survival_law};

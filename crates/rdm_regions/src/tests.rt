@@ -1,8 +1,9 @@
 ghost use Rattle.std.specs.Prelude.{◌≡◌};
 ghost use Rattle.std.specs.FinMap as finite;
 ghost use Rattle.rdm_regions.specs.Registry.{nothing};
+ghost use Rattle.rdm_regions.specs.Holds.{HoldsNone};
 
-use crate::{RegionRefused, Regions};
+use crate::{RegionRange, RegionRefused, Regions, holds_law};
 use rdm_num::{OpId, RegionNo};
 use std::alloc::Global;
 use std::test::Fail;
@@ -20,6 +21,26 @@ const RANGES: [(u32, u64, u64, bool, Result<usize, RegionRefused>); 6] = [
     (0, 8, 3, false, Err(RegionRefused::Range)),
     (0, u64::MAX, u64::MAX, false, Err(RegionRefused::Range)),
     (1, 0, 1, false, Err(RegionRefused::NoRegion)),
+];
+
+/// Four ranges at once, each by its place and length; whether a send may hold them all, and what comes
+/// of a lease of all ten bytes then.
+const SEVERAL: [(
+    [(u64, u64); 4],
+    Result<(), RegionRefused>,
+    Result<usize, RegionRefused>,
+); 3] = [
+    (
+        [(0, 2), (1, 2), (4, 6), (10, 0)],
+        Ok(()),
+        Err(RegionRefused::Busy),
+    ),
+    (
+        [(0, 2), (2, 2), (9, 2), (4, 1)],
+        Err(RegionRefused::Range),
+        Ok(10),
+    ),
+    ([(0, 0), (3, 0), (7, 0), (10, 0)], Ok(()), Ok(10)),
 ];
 
 /// Registers ten bytes, and tells whether the region has the number 0.
@@ -99,6 +120,45 @@ fn are_answered(regions: &mut Regions) -> bool
         right = right & (may_hold == held) & (may_lease == leased.is_ok()) & (size == leased);
     }
     right
+}
+
+/// Lets a send hold four ranges at once, takes all bytes out if it can, and drops the hold.
+fn hold_four(
+    regions: &mut Regions,
+    ranges: [(u64, u64); 4],
+) -> (Result<(), RegionRefused>, Result<usize, RegionRefused>)
+    requires { (regions.old.leased ≡ finite.empty) × HoldsNone regions.old 7 }
+    ensures { (regions.new.leased ≡ finite.empty) × HoldsNone regions.new 7 }
+{
+    let ranges = ranges.map(|(at, len)| RegionRange::new(ZERO, at, len));
+    let held = regions.hold_all(OpId(7), &ranges);
+    let all = out_and_back(regions, OpId(0), ZERO, 0, 10);
+    regions.drop_hold(OpId(7));
+    holds_law();
+    (held, all)
+}
+
+/// Each four ranges are held or refused as they should be.
+fn are_held(regions: &mut Regions) -> bool
+    requires { (regions.old.leased ≡ finite.empty) × HoldsNone regions.old 7 }
+    ensures { regions.new.leased ≡ finite.empty }
+{
+    let mut right = true;
+    for (ranges, held, leased) in SEVERAL {
+        right = right & (hold_four(regions, ranges) == (held, leased));
+    }
+    right
+}
+
+#[test]
+fn several_ranges_are_held_or_none(rt: HostRuntime) -> Result<(), Fail> {
+    let alloc = rt.alloc();
+    let mut regions = Regions::new(alloc);
+    let registered = register(alloc, &mut regions);
+    let held = are_held(&mut regions);
+    regions.close();
+    assert!(rt; registered && held);
+    Ok(())
 }
 
 #[test]

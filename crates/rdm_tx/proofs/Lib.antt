@@ -1,3 +1,3 @@
 pub mod Nth
 pub mod Numbered
-pub mod Few
+pub mod Laws

@@ -1,15 +1,14 @@
 -- The piece of a number, without the pieces before it.
 use Rattle.std.proofs.Common.{◌≡◌, ℕ, zero, suc, ◌+◌, ◌-◌, ◌*◌, ◌<◌, ◌≤◌, Bool, true, false, List, length, take, drop, Option, Some, None, refl, arith, inl, inr, sym, ◌∙◌, ap}
-use Rattle.std.specs.Prelude.{nat_le, nat_lt, ◌==◌, ◌||◌, slice_get, option_map}
+use Rattle.std.specs.Prelude.{nat_le, nat_lt, ◌==◌, ◌||◌, min, slice_get}
 use Rattle.std.specs.Bool.{then_some}
 use Rattle.std.specs.List.{slice_range}
-use Rattle.std.proofs.Math.Nat.{suc-mul, mul-suc, zero-mul, add_comm}
+use Rattle.std.proofs.Math.Nat.{suc-mul, zero-mul, add_comm}
 use Rattle.std.proofs.lemmas.Bool.{le-leb, lt-ltb, le-ltb, lt-leb, cases_lt}
 use Rattle.std.proofs.lemmas.Bool.Decides.{nat_tests}
-use Rattle.std.proofs.lemmas.List.{length-drop, take_all, drop-drop}
+use Rattle.std.proofs.lemmas.List.{length-drop, length-take, take_all, take_min, take-take, drop-take, drop-drop}
 use Rattle.rdm_hdr.proofs.Opts.{some-then}
 use Rattle.rdm_num.specs.Pieces.{Piece, cut, pieces}
-use Rattle.rdm_tx.specs.Sends.{placed}
 
 -- bytes have a piece of that number: the first one, or one that begins before their end
 abbrev pub has_piece : (n place len : ℕ) → Bool
@@ -20,7 +19,7 @@ abbrev pub piece_at : (size offset place : ℕ) → List ℕ → Piece
 piece_at size offset place bytes = record { offset = offset; bytes = take size (drop place bytes) }
 
 -- a number after the first one isn't the first
-later : (n : ℕ) → (suc n == 0) ≡ false
+pub later : (n : ℕ) → (suc n == 0) ≡ false
 later n = grind (arith, nat_tests)
 
 -- a piece more, and bytes that are longer by it
@@ -87,22 +86,44 @@ nth_piece size n bytes h =
     let e : 0 + n * size ≡ n * size = omega arith in
     cut_nth (length bytes) size 0 n bytes h (omega arith) ∙ ap (λ (o : ℕ). then_some (n == 0 || nat_lt (n * size) (length bytes)) (piece_at size o (n * size) bytes)) e
 
--- a piece that is taken from the place of the piece of that number is that piece
-pub piece_is : (size n place : ℕ) (bytes piece : List ℕ) → 0 < size → Some place ≡ then_some (n == 0 || nat_lt (n * size) (length bytes)) (n * size)
-    → piece ≡ take size (slice_range bytes place (length bytes)) → ◌≡◌ {A = Option (ℕ × List ℕ)} (Some (place, piece)) (option_map placed (slice_get (pieces size bytes) n))
-piece_is size n place bytes piece h e d =
-    let p = some-then _ _ _ (sym e) in
-    let r : take (length bytes - place) (drop place bytes) ≡ drop place bytes = take_all (length bytes - place) (drop place bytes) (omega (arith, length-drop place bytes)) in
-    rw (nth_piece size n bytes h, p.0, d, r, p.1) refl
+-- ---- where pieces stand
 
--- a number is no more than a multiple of it
-le_multiple : (n size : ℕ) → 0 < size → n ≤ n * size
-le_multiple n zero h = absurd (omega arith)
-le_multiple n (suc k) h = let e = mul-suc n k in omega arith
+-- bytes that stand in a range of others
+abbrev pub range : List ℕ → (offset len : ℕ) → List ℕ
+range bytes offset len = slice_range bytes offset (offset + len)
 
--- bytes are cut into no more pieces than there are bytes, but for one
-pub few_pieces : (size n : ℕ) (bytes : List ℕ) → 0 < size → length bytes < n → slice_get (pieces size bytes) n ≡ None
-few_pieces size zero bytes h l = absurd (omega arith)
-few_pieces size (suc n) bytes h l =
-    let m = le_multiple (suc n) size h in
-    rw (nth_piece size (suc n) bytes h, later n, le-ltb (suc n * size) (length bytes) (omega arith)) refl
+-- the first bytes of those from an offset on are as many as they are
+pub front_range : (size offset : ℕ) (bytes : List ℕ) → take size (drop offset bytes) ≡ range bytes offset (length (take size (drop offset bytes)))
+front_range size offset bytes =
+    let l = length-take size (drop offset bytes) in
+    let e : offset + min size (length (drop offset bytes)) - offset ≡ min size (length (drop offset bytes)) = omega arith in
+    rw (l, e) (sym (take_min size (drop offset bytes)))
+
+-- a piece has the bytes that stand there
+pub piece_carried : (size n : ℕ) (bytes : List ℕ) (p : Piece) → 0 < size → slice_get (pieces size bytes) n ≡ Some p → p.bytes ≡ range bytes p.offset (length p.bytes)
+piece_carried size n bytes p h e =
+    let s = some-then _ _ _ (sym (nth_piece size n bytes h) ∙ e) in
+    rw (s.1) (front_range size (n * size) bytes)
+
+-- a piece that begins before the end, or the first one, ends by the end
+ends_by : (n size place len l : ℕ) → (n == 0 || nat_lt place len) ≡ true → place ≡ n * size → l ≡ min size (len - place) → place + l ≤ len
+ends_by zero size place len l t e m =
+    let z : 0 * size ≡ 0 = zero-mul size in
+    omega arith
+ends_by (suc n) size place len l t e m = let w : nat_lt place len ≡ true = rw (later n) at t in grind (arith, nat_tests)
+
+-- the bytes of a piece lie within
+pub piece_within : (size n : ℕ) (bytes : List ℕ) (p : Piece) → 0 < size → slice_get (pieces size bytes) n ≡ Some p → p.offset + length p.bytes ≤ length bytes
+piece_within size n bytes p h e =
+    let s = some-then _ _ _ (sym (nth_piece size n bytes h) ∙ e) in
+    rw (s.1) (ends_by n size (n * size) (length bytes) _ (s.0) refl (length-take size (drop (n * size) bytes) ∙ ap (min size) (length-drop (n * size) bytes)))
+
+-- bytes in a range of the first bytes stand there in all of them
+pub range_of_first : (runt offset len : ℕ) (bytes : List ℕ) → offset + len ≤ length (take runt bytes) → range (take runt bytes) offset len ≡ range bytes offset len
+range_of_first runt offset len bytes h =
+    let l = length-take runt bytes in
+    let m : offset + (runt - offset) ≡ runt = omega arith in
+    let d = drop-take offset (runt - offset) bytes in
+    let e : offset + len - offset ≡ len = omega arith in
+    let dd : drop offset (take runt bytes) ≡ take (runt - offset) (drop offset bytes) = rw m at d in
+    rw (e, dd) (take-take len (runt - offset) (drop offset bytes) (omega arith))

@@ -1,2 +1,3 @@
--- A send's message, and how far its packets were given.
+-- A send's message, how far its packets were given, and where their bytes stand.
 pub mod Sends
+pub mod Laws

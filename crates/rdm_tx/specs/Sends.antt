@@ -1,10 +1,13 @@
--- What a send gives: the packets that open its message, by number.
-use Rattle.std.specs.Prelude.{ℕ, ◌+◌, if◌then◌else◌, List, Option, is_some, slice_get}
+-- What a send gives: the packets that open its message, by number, and where their bytes stand in it.
+use Rattle.std.specs.Prelude.{◌≡◌, ℕ, ◌+◌, if◌then◌else◌, List, length, Option, Some, None, is_some, option_map, IfSome, slice_get, slice_range}
 use Rattle.rdm_num.specs.declared.limits.EpLimits.{EpLimits}
 use Rattle.rdm_num.specs.Pieces.{Piece}
 use Rattle.rdm_pkt.specs.declared.Packet.{Packet}
+use Rattle.rdm_pkt.specs.declared.Packet.TheVariants.{Rtm}
+use Rattle.rdm_pkt.specs.Heads.{piece_of}
 use Rattle.rdm_pkt.specs.Openings as Openings
 use Rattle.rdm_tx.specs.declared.message.Message.{Message}
+use Rattle.rdm_tx.specs.declared.spans.Span.{Span}
 
 -- the message as it opens, with its bytes
 abbrev pub opened : Message → List ℕ → Openings.Message
@@ -18,6 +21,37 @@ packet_after limits m bytes n = slice_get (Openings.openings limits (opened m by
 abbrev pub given_after : ℕ → Option Packet → ℕ
 given_after n packet = if is_some packet then n + 1 else n
 
--- where a piece stands, and its bytes
-abbrev pub placed : Piece → ℕ × List ℕ
-placed p = (p.offset, p.bytes)
+-- how many packets open the message
+abbrev pub packet_count : EpLimits → Message → List ℕ → ℕ
+packet_count limits m bytes = length (Openings.openings limits (opened m bytes) m.kind)
+
+-- where a piece stands and how long it is; no piece is no bytes at the start
+unfoldable pub span_at : Option Piece → Span
+span_at None = record { offset = 0; length = 0 }
+span_at (Some p) = record { offset = p.offset; length = length p.bytes }
+
+-- where the bytes stand in the message that a packet opens it with, and how many they are
+unfoldable pub span_of : Packet → Span
+span_of (Rtm number tag opt form) = span_at (piece_of form)
+span_of _ = span_at None
+
+-- the bytes of a message that stand there
+abbrev pub part : Span → List ℕ → List ℕ
+part s bytes = slice_range bytes s.offset (s.offset + s.length)
+
+-- where the bytes of the packet stand that comes after the first n, if there is one
+abbrev pub span_after : EpLimits → Message → List ℕ → ℕ → Option Span
+span_after limits m bytes n = option_map span_of (packet_after limits m bytes n)
+
+-- that is the span after the first n packets of every message with these headers and of that length
+abbrev pub IsSpanAfter : EpLimits → Message → (len n : ℕ) → Option Span → Type 0
+IsSpanAfter limits m len n span = (bytes : List ℕ) → length bytes ≡ len → span ≡ span_after limits m bytes n
+
+-- that is the packet after the first n of every message with these headers, of that length, which has the piece where
+-- the packet's bytes stand
+abbrev pub IsPacketWith : EpLimits → Message → (len n : ℕ) → (piece : List ℕ) → Option Packet → Type 0
+IsPacketWith limits m len n piece packet =
+    (bytes : List ℕ)
+    → length bytes ≡ len
+    → IfSome (span_after limits m bytes n) (λ s. piece ≡ part s bytes)
+    → packet ≡ packet_after limits m bytes n

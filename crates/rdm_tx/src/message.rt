@@ -1,12 +1,10 @@
 //! A send's message, and the forms of the packets that open it.
-ghost use Rattle.std.specs.Prelude.{◌≡◌, ◌≤◌, ◌<◌, ◌+◌, ◌-◌, if◌then◌else◌, [], ◌∷◌, length, is_some, option_map, IfOk, slice_get};
+ghost use Rattle.std.specs.Prelude.{◌≡◌, ◌≤◌, ◌<◌, ◌+◌, ◌-◌, if◌then◌else◌, ℕ, List, length, is_some, IfSome, IfOk};
 ghost use Rattle.rdm_hdr.specs.Headers as Headers;
-ghost use Rattle.rdm_pkt.specs.Openings.{rtm, openings};
-ghost use Rattle.rdm_pkt.specs.declared.Form.TheVariants as Forms;
-ghost use Rattle.rdm_pkt.specs.declared.Kind.TheVariants as Kinds;
-ghost use Rattle.rdm_tx.specs.Sends.{opened, packet_after};
+ghost use Rattle.rdm_pkt.specs.Openings.{rtm};
+ghost use Rattle.rdm_tx.specs.Sends.{opened, packet_after, span_after, part, IsSpanAfter};
 
-use crate::pieces::{front, piece};
+use crate::spans::{Span, alone, piece};
 use rdm_hdr::{Opt, opt_size, size_if};
 use rdm_num::{Bytes, EpLimits, Iov, MsgNo, NoMemory, OpId};
 use rdm_pkt::{Form, Kind};
@@ -34,136 +32,95 @@ const RUNT_HEADER: usize = 40;
 const RANGE: usize = 24;
 
 impl Message {
-    /// The form of the packet of that number, if there is one.
-    #[tactic(auto, using(crate::proofs::Numbered::eager_opens, crate::proofs::Numbered::read_opens))]
+    /// Where the bytes of the packet of that number stand, if there is one: those of a whole
+    /// message, of a part as full as the limits allow, or none beside a read list.
+    pub(crate) fn span(&self, limits: &EpLimits, total: u64, number: usize) -> Option<Span>
+        requires mtu { 256 ≤ limits.now.mtu }
+        requires ranges { length self.now.iov ≤ 4 }
+        ensures span { IsSpanAfter limits.now self.now total number result }
+        ensures within { IfSome result (λ span. span.offset + span.length ≤ total) }
+        ensures few { IfSome result (λ _. number < usize.MAX) }
+    {
+        match self.kind {
+            Kind::Eager => alone(number, total),
+            Kind::Medium => piece(self.room(limits, PART_HEADER), total, number),
+            Kind::LongCts => alone(number, total.min(self.room(limits, PART_HEADER))),
+            Kind::LongRead => alone(number, 0),
+            Kind::Runt { runt_length } => {
+                let header = RUNT_HEADER + RANGE * self.iov.as_slice().len();
+                piece(self.room(limits, header), total.min(runt_length), number)
+            }
+        }
+    }
+
+    /// The form of the packet whose bytes are that piece of a message of so many bytes, at that
+    /// offset.
     pub(crate) fn form(
         &self,
         alloc: Global,
         limits: &EpLimits,
-        bytes: &[u8],
-        number: usize,
-    ) -> Result<Option<Form>, NoMemory>
+        total: u64,
+        offset: u64,
+        piece: &[u8],
+    ) -> Result<Form, NoMemory>
         requires mtu { 256 ≤ limits.now.mtu }
         requires ranges { length self.now.iov ≤ 4 }
-        ensures { IfOk result (λ form. option_map (rtm (opened self.now bytes.now)) form ≡ packet_after limits.now self.now bytes.now number) }
+        ensures { IfOk result (λ form. (bytes : List ℕ) (n : ℕ) (s : Span) → length bytes ≡ total → Some s ≡ span_after limits.now self.now bytes n → s.offset ≡ offset → piece.now ≡ part s bytes → Some (rtm (opened self.now bytes) form) ≡ packet_after limits.now self.now bytes n) }
     {
         match self.kind {
-            Kind::Eager => eager(alloc, bytes, number),
-            Kind::Medium => self.segment(alloc, limits, bytes, number),
-            Kind::LongCts => self.first_part(alloc, limits, bytes, number),
-            Kind::LongRead => self.read(bytes, number),
-            Kind::Runt { runt_length } => self.runt(alloc, limits, bytes, runt_length, number),
+            Kind::Eager => {
+                let bytes = Bytes::from_slice(alloc, piece)?;
+                Ok(Form::Eager { bytes })
+            }
+            Kind::Medium => {
+                let bytes = Bytes::from_slice(alloc, piece)?;
+                Ok(Form::Medium {
+                    msg_length: total,
+                    offset,
+                    bytes,
+                })
+            }
+            Kind::LongCts => {
+                let bytes = Bytes::from_slice(alloc, piece)?;
+                Ok(Form::LongCts {
+                    msg_length: total,
+                    send_id: self.send_id,
+                    credit_request: limits.credits,
+                    bytes,
+                })
+            }
+            Kind::LongRead => {
+                let iov = self.iov.clone()?;
+                Ok(Form::LongRead {
+                    msg_length: total,
+                    send_id: self.send_id,
+                    iov,
+                })
+            }
+            Kind::Runt { runt_length } => {
+                let iov = self.iov.clone()?;
+                let bytes = Bytes::from_slice(alloc, piece)?;
+                Ok(Form::Runt {
+                    msg_length: total,
+                    send_id: self.send_id,
+                    iov,
+                    runt_length,
+                    offset,
+                    bytes,
+                })
+            }
         }
-    }
-
-    /// A segment as full as the limits allow.
-    fn segment(
-        &self,
-        alloc: Global,
-        limits: &EpLimits,
-        bytes: &[u8],
-        number: usize,
-    ) -> Result<Option<Form>, NoMemory>
-        requires { 256 ≤ limits.now.mtu }
-        ensures { IfOk result (λ form. option_map (rtm (opened self.now bytes.now)) form ≡ slice_get (openings limits.now (opened self.now bytes.now) Kinds.Medium) number) }
-    {
-        let room = self.room(limits, PART_HEADER);
-        let Some((offset, piece)) = piece(alloc, room, bytes, number)? else {
-            return Ok(None);
-        };
-        Ok(Some(Form::Medium {
-            msg_length: bytes.len() as u64,
-            offset,
-            bytes: piece,
-        }))
-    }
-
-    /// A first part as full as the limits allow, which asks for grants.
-    fn first_part(
-        &self,
-        alloc: Global,
-        limits: &EpLimits,
-        bytes: &[u8],
-        number: usize,
-    ) -> Result<Option<Form>, NoMemory>
-        requires { 256 ≤ limits.now.mtu }
-        ensures { IfOk result (λ form. option_map (rtm (opened self.now bytes.now)) form ≡ slice_get (openings limits.now (opened self.now bytes.now) Kinds.LongCts) number) }
-    {
-        if number > 0 {
-            return Ok(None);
-        }
-        let room = self.room(limits, PART_HEADER);
-        let part = Bytes::from_slice(alloc, front(bytes, room))?;
-        Ok(Some(Form::LongCts {
-            msg_length: bytes.len() as u64,
-            send_id: self.send_id,
-            credit_request: limits.credits,
-            bytes: part,
-        }))
-    }
-
-    /// The read list alone.
-    fn read(&self, bytes: &[u8], number: usize) -> Result<Option<Form>, NoMemory>
-        ensures { IfOk result (λ form. form ≡ slice_get (Forms.LongRead (length bytes.now) self.now.send_id self.now.iov ∷ []) number) }
-    {
-        if number > 0 {
-            return Ok(None);
-        }
-        let iov = self.iov.clone()?;
-        Ok(Some(Form::LongRead {
-            msg_length: bytes.len() as u64,
-            send_id: self.send_id,
-            iov,
-        }))
-    }
-
-    /// The read list, and a segment of the first part that is as full as the limits allow.
-    fn runt(
-        &self,
-        alloc: Global,
-        limits: &EpLimits,
-        bytes: &[u8],
-        runt_length: u64,
-        number: usize,
-    ) -> Result<Option<Form>, NoMemory>
-        requires mtu { 256 ≤ limits.now.mtu }
-        requires ranges { length self.now.iov ≤ 4 }
-        ensures { IfOk result (λ form. option_map (rtm (opened self.now bytes.now)) form ≡ slice_get (openings limits.now (opened self.now bytes.now) (Kinds.Runt runt_length)) number) }
-    {
-        let room = self.room(limits, RUNT_HEADER + RANGE * self.iov.as_slice().len());
-        let first = front(bytes, runt_length as usize);
-        let Some((offset, piece)) = piece(alloc, room, first, number)? else {
-            return Ok(None);
-        };
-        Ok(Some(Form::Runt {
-            msg_length: bytes.len() as u64,
-            send_id: self.send_id,
-            iov: self.iov.clone()?,
-            runt_length,
-            offset,
-            bytes: piece,
-        }))
     }
 
     /// How many bytes a packet has room for that has a header of that size, the tag and the
     /// optional headers.
-    fn room(&self, limits: &EpLimits, header: usize) -> usize
+    fn room(&self, limits: &EpLimits, header: usize) -> u64
         requires mtu { 256 ≤ limits.now.mtu }
         requires header { header ≤ 136 }
         ensures value { result ≡ limits.now.mtu - (header + (if is_some self.now.tag then 8 else 0) + Headers.opt_size self.now.opt) }
         ensures some { 0 < result }
     {
-        limits.mtu as usize - (header + size_if(self.tag.is_some(), 8) + opt_size(&self.opt))
+        let headers = header + size_if(self.tag.is_some(), 8) + opt_size(&self.opt);
+        u64::from(limits.mtu) - headers as u64
     }
-}
-
-/// The whole message in one packet.
-fn eager(alloc: Global, bytes: &[u8], number: usize) -> Result<Option<Form>, NoMemory>
-    ensures { IfOk result (λ form. form ≡ slice_get (Forms.Eager bytes.now ∷ []) number) }
-{
-    if number > 0 {
-        return Ok(None);
-    }
-    let bytes = Bytes::from_slice(alloc, bytes)?;
-    Ok(Some(Form::Eager { bytes }))
 }

@@ -1,8 +1,8 @@
 //! Messages in several packets, and first parts.
 use super::{CONNID, RAW, content, limits, message};
-use crate::Cursor;
+use crate::{Cursor, Message, Span};
 use rdm_hdr::Opt;
-use rdm_num::NoMemory;
+use rdm_num::{EpLimits, NoMemory};
 use rdm_pkt::{Form, Kind, Packet};
 use std::alloc::Global;
 use std::process::Abort;
@@ -20,7 +20,7 @@ struct Row {
 }
 
 /// Messages just within one packet and just above it, and others.
-const ROWS: [Row; 8] = [
+const ROWS: [Row; 9] = [
     Row {
         kind: Kind::Eager,
         mtu: 8_192,
@@ -113,49 +113,115 @@ const ROWS: [Row; 8] = [
             0, 0, 0, 0, 0, 0, 0, 0xe8, 3, 0, 0, 0, 0, 0, 0, 0, 0, 0, 0, 0, 0, 0, 0,
         ],
     },
+    Row {
+        kind: Kind::LongRead,
+        mtu: 256,
+        opt: CONNID,
+        length: 700,
+        pieces: &[(0, 0, 60)],
+        last: &[
+            0x81, 4, 8, 0x80, 3, 0, 0, 0, 0xbc, 2, 0, 0, 0, 0, 0, 0, 3, 0, 0, 0, 1, 0, 0, 0, 1, 0,
+            0, 0, 0, 0, 0, 0, 5, 0, 0, 0, 0, 0, 0, 0, 0, 0, 0, 0, 0xbc, 2,
+        ],
+    },
 ];
 
 /// The offset and the bytes that a packet carries.
-fn piece_of(packet: &Packet) -> Option<(u64, &[u8])> {
+fn piece_of(packet: &Packet) -> (u64, &[u8]) {
     let Packet::Rtm { form, .. } = packet else {
-        return None;
+        return (0, &[]);
     };
     match form {
-        Form::Eager { bytes } | Form::LongCts { bytes, .. } => Some((0, bytes.as_slice())),
+        Form::Eager { bytes } | Form::LongCts { bytes, .. } => (0, bytes.as_slice()),
         Form::Medium { offset, bytes, .. } | Form::Runt { offset, bytes, .. } => {
-            Some((*offset, bytes.as_slice()))
+            (*offset, bytes.as_slice())
         }
-        Form::LongRead { .. } => None,
+        Form::LongRead { .. } => (0, &[]),
     }
 }
 
-/// The row's packets are given, and then nothing, twice.
+/// The packet as it is spelled.
+fn spelled(rt: &impl Abort, alloc: Global, packet: &Packet) -> Result<Vec<u8>, NoMemory> {
+    let mut to = Vec::new(alloc);
+    assert!(rt; packet.fits());
+    packet.write(&mut to)?;
+    Ok(to)
+}
+
+/// The next packet, made twice from the bytes at its span as after a push that was refused, and
+/// given then.
+fn steps(
+    rt: &impl Abort,
+    alloc: Global,
+    cursor: &mut Cursor,
+    limits: &EpLimits,
+    message: &Message,
+    bytes: &[u8],
+) -> Result<(Span, Packet), NoMemory> {
+    assert!(rt; limits.mtu >= 256 && message.iov.as_slice().len() <= 4);
+    let total = bytes.len() as u64;
+    let span = cursor
+        .span(limits, message, total)
+        .expect(rt, "a packet is left");
+    let end = span.offset + span.length;
+    let piece = &bytes[span.offset as usize..end as usize];
+    let refused = cursor
+        .packet(alloc, limits, message, total, piece)?
+        .expect(rt, "a packet is left");
+    let pushed = cursor
+        .packet(alloc, limits, message, total, piece)?
+        .expect(rt, "the same packet is left");
+    let before = spelled(rt, alloc, &refused)?;
+    let after = spelled(rt, alloc, &pushed)?;
+    assert_eq!(rt; before.as_slice(), after.as_slice());
+    cursor.step();
+    Ok((span, pushed))
+}
+
+/// The row's packets are given, by `next` and by steps alike, and then nothing.
 fn gives_pieces(rt: &impl Abort, alloc: Global, row: &Row) -> Result<(), NoMemory> {
     let bytes = content(alloc, row.length)?;
-    let mut rest = bytes.as_slice();
-    let message = message(3, 1, row.opt, row.kind, row.length as u64);
+    let total = row.length as u64;
+    let message = message(3, 1, row.opt, row.kind, total);
     let limits = limits(row.mtu);
     assert!(rt; limits.mtu >= 256 && message.iov.as_slice().len() <= 4);
+    let mut rest = bytes.as_slice();
     let mut cursor = Cursor::new();
-    let mut spelled = Vec::new(alloc);
+    let mut stepping = Cursor::new();
+    let mut last = Vec::new(alloc);
+    let mut left = row.pieces.len();
     for piece in row.pieces {
         let (offset, count, size) = *piece;
+        assert_eq!(rt; stepping.is_last(&limits, &message, total), left == 1);
+        assert!(rt; !stepping.is_done(&limits, &message, total));
+        left = left.saturating_sub(1);
         let packet = cursor
             .next(alloc, &limits, &message, &bytes)?
             .expect(rt, "a packet is left");
-        let (at, carried) = piece_of(&packet).expect(rt, "it carries bytes");
+        let (at, carried) = piece_of(&packet);
         assert_eq!(rt; (at, carried.len()), (offset, count));
         rest = rest
             .strip_prefix(carried)
             .expect(rt, "they follow each other");
-        assert!(rt; packet.fits());
-        spelled.clear();
-        packet.write(&mut spelled)?;
-        assert_eq!(rt; spelled.len(), size);
+        last = spelled(rt, alloc, &packet)?;
+        assert_eq!(rt; last.len(), size);
+        let (span, same) = steps(rt, alloc, &mut stepping, &limits, &message, &bytes)?;
+        assert_eq!(rt; (span.offset, span.length), (offset, count as u64));
+        let spelled = spelled(rt, alloc, &same)?;
+        assert_eq!(rt; spelled.as_slice(), last.as_slice());
+        assert!(rt; stepping == cursor);
     }
-    assert!(rt; spelled.starts_with(row.last));
+    assert!(rt; last.starts_with(row.last));
     assert!(rt; cursor.next(alloc, &limits, &message, &bytes)?.is_none());
     assert!(rt; cursor.next(alloc, &limits, &message, &bytes)?.is_none());
+    assert!(rt; stepping.is_done(&limits, &message, total));
+    assert!(rt; !stepping.is_last(&limits, &message, total));
+    assert!(rt; stepping.span(&limits, &message, total).is_none());
+    assert!(rt;
+        stepping
+            .packet(alloc, &limits, &message, total, &[])?
+            .is_none()
+    );
     Ok(())
 }
 
