@@ -15,4 +15,4 @@ mod Waiting
 -- what lending a range and taking it back come to
 pub mod Laws
 -- a range that is lent stays lent over the calls for other ranges
-mod Loans
+mod LoansStay

@@ -3,6 +3,7 @@
 
 mod landing;
 mod lending;
+mod loans;
 mod spans;
 #[cfg(test)]
 mod tests;

@@ -1,4 +1,4 @@
-use Rattle.rdm_land.proofs.Loans.{lend_gives_loan, stay_reserved, stay_placed, stay_filled, stay_lent, stay_landed, stay_unlent}
+use Rattle.rdm_land.proofs.LoansStay.{lend_gives_loan, stay_reserved, stay_placed, stay_filled, stay_lent, stay_landed, stay_unlent}
 use Rattle.rdm_land.proofs.lending.loans_law.Goals as goal
 
 pub returns-clause-given : goal.returns-clause-given

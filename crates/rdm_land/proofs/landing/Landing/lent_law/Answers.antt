@@ -1,5 +1,5 @@
 use Rattle.rdm_land.proofs.LandingViews.{agrees_seen}
-use Rattle.rdm_land.proofs.Loans.{lent_are_loans, loans_are_apart}
+use Rattle.rdm_land.proofs.LoansStay.{lent_are_loans, loans_are_apart}
 use Rattle.rdm_land.proofs.landing.Landing.lent_law.Goals as goal
 
 pub returns-clause-loans : goal.returns-clause-loans

@@ -1,6 +1,6 @@
 use Rattle.std.proofs.Common.{◌≡◌, ℕ, ◌-◌, ◌<◌, ◌≤◌, true}
 use Rattle.rdm_land.proofs.Waiting.{waits}
-use Rattle.rdm_land.proofs.landing.all_wait.Given as goal
+use Rattle.rdm_land.proofs.loans.all_wait.Given as goal
 
 abbrev pub invariant-loop-at : goal.invariant-loop-at
 invariant-loop-at l = (l.off ≤ l.at) × ((k : ℕ) → l.off ≤ k → k < l.at → waits l.gaps.places l.lent k ≡ true)
