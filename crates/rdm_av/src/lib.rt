@@ -2,12 +2,11 @@
 #![tactic(auto)]
 
 ghost use Rattle.std.specs.Prelude.{◌≡◌, ◌⊎◌, None, Some, Err, OnOk, OnErr};
-ghost use Rattle.rdm_num.specs.Lives.{same_life};
 ghost use Rattle.rdm_av.specs.Lives.{no_lives, current_life, with_current, with_superseded, insert_answer, after_insert};
 ghost use Rattle.rdm_av.specs.Lives as Lives;
 ghost use Rattle.rdm_av.specs.Runs.{SupersededOnceCurrent};
 
-use rdm_num::{Connid, Life, NoMemory, PortNo};
+use rdm_num::{Connid, Life, NoMemory, PortNo, is_same_life};
 use std::alloc::Global;
 use std::collections::{BTreeMap, BTreeSet};
 use std::marker::Model;
@@ -102,7 +101,7 @@ impl Av {
                 Ok(Inserted::Inserted)
             }
             Some(old) => {
-                if is_same(old, life) {
+                if is_same_life(old, life) {
                     Ok(Inserted::Same)
                 } else {
                     self.supersede(old, life)?;
@@ -162,14 +161,6 @@ impl Av {
     }
 }
 
-/// The same port and identifier.
-#[tactic(auto, unfolding(rdm_num::specs::Lives::same_life))]
-fn is_same(a: Life, b: Life) -> bool
-    ensures { result ≡ same_life a b }
-{
-    a.port.0 == b.port.0 && a.connid.0 == b.connid.0
-}
-
 /// What a life is beside the current life of its port.
 #[tactic(auto, unfolding(crate::specs::Lives::origin))]
 fn origin_beside(current: Option<Life>, life: Life, has_raw: bool) -> Origin
@@ -177,7 +168,7 @@ fn origin_beside(current: Option<Life>, life: Life, has_raw: bool) -> Origin
 {
     match current {
         Some(now) => {
-            if is_same(now, life) {
+            if is_same_life(now, life) {
                 Origin::Current
             } else {
                 Origin::FromOther

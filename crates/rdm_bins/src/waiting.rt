@@ -6,7 +6,7 @@ ghost use Rattle.rdm_bins.specs.Binning.{tag_bits, recv_bin, bin_of_want, bin_of
 
 use crate::shelf::{Criterion, Shelved};
 use rdm_match::{Arrived, PostedRecv, accepts};
-use rdm_num::{Life, RecvNo, Want};
+use rdm_num::{Life, RecvNo, Want, is_same_life};
 
 impl Shelved for PostedRecv {
     ghost bin_of = { bin_of_recv };
@@ -118,7 +118,7 @@ impl Criterion<Arrived> for ComingFrom {
     ghost test = { λ t a. same_life a.life t.0 };
 
     fn passes(&self, item: &Arrived) -> bool {
-        is_same(item.life, self.0)
+        is_same_life(item.life, self.0)
     }
 }
 
@@ -142,14 +142,6 @@ fn is_number(r: &PostedRecv, id: RecvNo) -> bool
     r.id.0 == id.0
 }
 
-/// The same port and identifier.
-#[tactic(auto, unfolding(rdm_num::specs::Lives::same_life))]
-fn is_same(a: Life, b: Life) -> bool
-    ensures { result ≡ same_life a b }
-{
-    a.port.0 == b.port.0 && a.connid.0 == b.connid.0
-}
-
 /// The source is named, and is that life.
 #[tactic(auto, unfolding(rdm_num::specs::Lives::is_life))]
 fn names(from: Option<Life>, life: Life) -> bool
@@ -157,6 +149,6 @@ fn names(from: Option<Life>, life: Life) -> bool
 {
     match from {
         None => false,
-        Some(from) => is_same(from, life),
+        Some(from) => is_same_life(from, life),
     }
 }

@@ -1,5 +1,5 @@
 -- Of eager deeds: the account of a message is what its one packet said, and stays.
-use Rattle.std.proofs.Common.{◌≡◌, ℕ, zero, suc, ◌-◌, ◌≤◌, true, false, List, [], ◌∷◌, map, length, Option, Some, None, refl, arith, inl, inr, ap, ◌∙◌, sym, take}
+use Rattle.std.proofs.Common.{Bool, ◌≡◌, ℕ, zero, suc, ◌-◌, ◌≤◌, true, false, List, [], ◌∷◌, map, length, Option, Some, None, refl, arith, inl, inr, ap, ◌∙◌, sym, take}
 use Rattle.std.specs.Prelude.{◌==◌, nat_lt, slice_get, unwrap_or, is_some}
 use Rattle.std.proofs.lemmas.Bool.{le-ltb, eq-eqb}
 use Rattle.std.proofs.lemmas.List.{map-append}
@@ -117,22 +117,22 @@ pub record IsTold (own : Own) (log : List Deed) (source : Life) (n : ℕ) (head 
   pub bytes_are : bytes_by own.limits.first log source n ≡ bytes
 
 -- what a deed that takes a message in one packet tells of it
-pub took_told : (own : Own) (before : List Deed) (from : Life) (number : MsgNo) (tag : Option ℕ) (opt : Opt) (bytes : List ℕ)
-    → IsEager own (Took from (Spelled (Rtm number tag opt (Eager bytes))) ∷ before)
-    → IsTold own (Took from (Spelled (Rtm number tag opt (Eager bytes))) ∷ before) from number.0 (head_of tag opt (Eager bytes)) bytes
+pub took_told : (own : Own) (before : List Deed) (from : Life) (number : MsgNo) (tag : Option ℕ) (confirm : Bool) (opt : Opt) (bytes : List ℕ)
+    → IsEager own (Took from (Spelled (Rtm number tag confirm opt (Eager bytes))) ∷ before)
+    → IsTold own (Took from (Spelled (Rtm number tag confirm opt (Eager bytes))) ∷ before) from number.0 (head_of tag confirm opt (Eager bytes)) bytes
 unfolding heard_head is_heard head_by or_else carried_pieces carried_by piece_by piece_of head_of size_of shape_of
-took_told own before from number tag opt bytes h =
-    let d = Took from (Spelled (Rtm number tag opt (Eager bytes))) in
+took_told own before from number tag confirm opt bytes h =
+    let d = Took from (Spelled (Rtm number tag confirm opt (Eager bytes))) in
     let hs = heads_by (d ∷ before) in
     let no : heard_head before from number.0 ≡ None =
     (elim (heard_head before from number.0) as (λ o. is_some o ≡ false → o ≡ None) [ None ↦ λ x. refl | Some x ↦ λ y. cc ]) h.1.1 in
     let s = same_life-refl from in
     let e : (number.0 == number.0) ≡ true = eq-eqb number.0 number.0 refl in
     let none = unheard_nothing own hs before from number.0 h.0 no in
-    let is : heard_head (d ∷ before) from number.0 ≡ Some (head_of tag opt (Eager bytes)) = rw (no, s, e) refl in
+    let is : heard_head (d ∷ before) from number.0 ≡ Some (head_of tag confirm opt (Eager bytes)) = rw (no, s, e) refl in
     let p : carried_pieces own.limits.first hs (d ∷ before) from number.0 ≡ whole bytes ∷ [] = rw (none, s, e) refl in
     record {
       heard = is;
-      head_is = heads_by_heard (d ∷ before) from number.0 (head_of tag opt (Eager bytes)) is;
-      bytes_are = heard_bytes own (d ∷ before) from number.0 (head_of tag opt (Eager bytes)) bytes is refl p;
+      head_is = heads_by_heard (d ∷ before) from number.0 (head_of tag confirm opt (Eager bytes)) is;
+      bytes_are = heard_bytes own (d ∷ before) from number.0 (head_of tag confirm opt (Eager bytes)) bytes is refl p;
     }

@@ -6,6 +6,7 @@ use Rattle.rdm_lists.specs.Lists.{first_case}
 use Rattle.rdm_num.specs.Pieces.{overlaps}
 use Rattle.rdm_num.specs.declared.numbers.PortNo.{PortNo}
 use Rattle.rdm_num.specs.declared.numbers.Life.{Life}
+use Rattle.rdm_num.specs.declared.parts.Span.{Span}
 use Rattle.rdm_num.specs.declared.request.SendReq.{SendReq}
 use Rattle.rdm_num.specs.declared.request.RecvReq.{RecvReq}
 use Rattle.rdm_model.specs.declared.answer.Next.{Next}
@@ -17,6 +18,7 @@ use Rattle.rdm_model.specs.Deeds.{Deed}
 use Rattle.rdm_model.specs.Currents.{current}
 use Rattle.rdm_model.specs.Matches.{receives}
 use Rattle.rdm_model.specs.Sends as Sends
+use Rattle.rdm_model.specs.Dues.{live_sends}
 use Rattle.rdm_model.specs.Completions.{tx_count, rx_count}
 use Rattle.rdm_model.specs.Answers as A
 use Rattle.rdm_model.specs.Local.{heard_by}
@@ -29,6 +31,7 @@ use Rattle.rdm_ep.specs.Answers.{why_of_send, why_of_recv, next_of_send, next_of
 use Rattle.rdm_ep.specs.Keeps.{posted_of, outbound_of, Keeps}
 use Rattle.rdm_ep.proofs.Counts.{tx_agrees, rx_agrees, cq_agrees, regions_agree}
 use Rattle.rdm_lists.proofs.Filters.{list_any-map}
+use Rattle.rdm_lists.proofs.Same.{list_any_same}
 
 -- the answer of a send by its tests and numbers
 unfoldable send_cases : (a b c d e f g : Bool) → (send message : ℕ) → Next
@@ -56,8 +59,8 @@ first_case-map f (c ∷ cs) last =
 
 -- a send answers by the tests of the endpoint
 send_by_cases : (v : EndpointView) (req : SendReq) → next_of_send (Ep.send_answer v req)
-    ≡ send_cases (Ep.has_no_region v req.region.0) (Ep.is_out_of_range v req.region.0 req.at req.len) (is_none (current_in v req.to.0))
-    (Ep.meets_posted v req.region.0 req.at req.len) (Ep.has_no_number v (current_in v req.to.0)) (nat_le v.own.limits.tx (length v.outgoing)) (Ep.cq_is_full v)
+    ≡ send_cases (Ep.names_no_region v req.parts) (Ep.passes_an_end v req.parts) (is_none (current_in v req.to.0))
+    (Ep.meets_a_receive v req.parts) (Ep.has_no_number v (current_in v req.to.0)) (nat_le v.own.limits.tx (length v.outgoing)) (Ep.cq_is_full v)
     v.sends (Ep.number_to_current v (current_in v req.to.0))
 unfolding Ep.send_answer next_of_send why_of_send send_cases
 send_by_cases v req = first_case-map next_of_send _ _
@@ -94,8 +97,32 @@ sends_test : (ports : ℕ) (port_log log : List Deed) (v : EndpointView) (region
     → A.meets_send (life_scene ports v.own port_log log) region at len ≡ Ep.meets_outgoing v region at len
 unfolding A.meets_send Ep.meets_outgoing
 sends_test ports port_log log v region at len k =
-    sym (ap (list_any (λ (o : Outbound). o.req.region.0 == region && overlaps at len o.req.at o.req.len)) k.outgoing_are
-    ∙ list_any-map outbound_of (λ (o : Outbound). o.req.region.0 == region && overlaps at len o.req.at o.req.len) _)
+    let meets : Outbound → Bool = λ o. list_any (λ (p : Span). p.region.0 == region && overlaps at len p.at p.len) o.req.parts in
+    sym (ap (list_any meets) k.outgoing_are ∙ list_any-map outbound_of meets (live_sends v.own (heard_by v.own.limits.first log) log))
+
+-- whether a range of a send is of no region
+no_regions_test : (ports : ℕ) (port_log log : List Deed) (v : EndpointView) (parts : List Span) → Keeps log v
+    → list_any (λ (p : Span). A.has_no_region (life_scene ports v.own port_log log) p.region.0) parts ≡ Ep.names_no_region v parts
+unfolding Ep.names_no_region
+no_regions_test ports port_log log v parts k =
+    list_any_same (λ (p : Span). A.has_no_region (life_scene ports v.own port_log log) p.region.0) (λ (p : Span). Ep.has_no_region v p.region.0) parts
+    (λ p. region_test ports port_log log v p.region.0 k)
+
+-- whether a range of a send passes the end of its region
+ends_test : (ports : ℕ) (port_log log : List Deed) (v : EndpointView) (parts : List Span) → Keeps log v
+    → list_any (λ (p : Span). A.is_out_of_range (life_scene ports v.own port_log log) p.region.0 p.at p.len) parts ≡ Ep.passes_an_end v parts
+unfolding Ep.passes_an_end
+ends_test ports port_log log v parts k =
+    list_any_same (λ (p : Span). A.is_out_of_range (life_scene ports v.own port_log log) p.region.0 p.at p.len) (λ (p : Span). Ep.is_out_of_range v p.region.0 p.at p.len) parts
+    (λ p. range_test ports port_log log v p.region.0 p.at p.len k)
+
+-- whether a range of a send meets that of a live receive
+busy_test : (ports : ℕ) (port_log log : List Deed) (v : EndpointView) (parts : List Span) → Keeps log v
+    → list_any (λ (p : Span). A.meets_receive (life_scene ports v.own port_log log) p.region.0 p.at p.len) parts ≡ Ep.meets_a_receive v parts
+unfolding Ep.meets_a_receive
+busy_test ports port_log log v parts k =
+    list_any_same (λ (p : Span). A.meets_receive (life_scene ports v.own port_log log) p.region.0 p.at p.len) (λ (p : Span). Ep.meets_posted v p.region.0 p.at p.len) parts
+    (λ p. receives_test ports port_log log v p.region.0 p.at p.len k)
 
 -- whether every number to a life is used
 number_test : (ports : ℕ) (port_log log : List Deed) (v : EndpointView) (o : Option Life) → Keeps log v
@@ -126,8 +153,9 @@ nobody_test ports port_log log v (Some port) k = ap (λ (o : Option Life). is_no
 -- a send answers by the tests of the scene
 send_by_tests : (ports : ℕ) (port_log log : List Deed) (v : EndpointView) (req : SendReq)
     → A.send_answer (life_scene ports v.own port_log log) req
-    ≡ send_cases (A.has_no_region (life_scene ports v.own port_log log) req.region.0) (A.is_out_of_range (life_scene ports v.own port_log log) req.region.0 req.at req.len)
-    (is_none (current log req.to.0)) (A.meets_receive (life_scene ports v.own port_log log) req.region.0 req.at req.len)
+    ≡ send_cases (list_any (λ (p : Span). A.has_no_region (life_scene ports v.own port_log log) p.region.0) req.parts)
+    (list_any (λ (p : Span). A.is_out_of_range (life_scene ports v.own port_log log) p.region.0 p.at p.len) req.parts)
+    (is_none (current log req.to.0)) (list_any (λ (p : Span). A.meets_receive (life_scene ports v.own port_log log) p.region.0 p.at p.len) req.parts)
     (A.has_no_number (life_scene ports v.own port_log log) (current log req.to.0)) (nat_le v.own.limits.tx (tx_count v.own (heard_by v.own.limits.first log) log))
     (A.cq_is_full (life_scene ports v.own port_log log)) (length (Sends.sends v.own (heard_by v.own.limits.first log) log))
     (A.next_number (life_scene ports v.own port_log log) (current log req.to.0))
@@ -139,9 +167,9 @@ pub send_agrees : (ports : ℕ) (port_log log : List Deed) (v : EndpointView) (r
     → A.send_answer (life_scene ports v.own port_log log) req ≡ next_of_send (Ep.send_answer v req)
 send_agrees ports port_log log v req k =
     let cur : current log req.to.0 ≡ current_in v req.to.0 = sym (k.currents_are req.to.0) in
-    let a = region_test ports port_log log v req.region.0 k in
-    let b = range_test ports port_log log v req.region.0 req.at req.len k in
-    let d = receives_test ports port_log log v req.region.0 req.at req.len k in
+    let a = no_regions_test ports port_log log v req.parts k in
+    let b = ends_test ports port_log log v req.parts k in
+    let d = busy_test ports port_log log v req.parts k in
     let e = number_test ports port_log log v (current_in v req.to.0) k in
     let f = tx_agrees log v k in
     let g = cq_test ports port_log log v k in

@@ -1,6 +1,6 @@
 -- Lists whose elements have numbers of their own.
 use Rattle.std.proofs.Common.{◌≡◌, ℕ, Bool, true, false, cond, not, List, [], ◌∷◌, ◌++◌, Some, refl, inl, inr, ap, ◌∙◌, sym}
-use Rattle.std.specs.Prelude.{◌==◌, ◌&&◌, ◌||◌, find, filter}
+use Rattle.std.specs.Prelude.{◌==◌, find, filter}
 use Rattle.std.proofs.lemmas.Bool.{eq-eqb, ne_eqb}
 use Rattle.rdm_lists.specs.Lists.{Member, without_first}
 use Rattle.rdm_lists.proofs.Members.{member-append_cases, member-filter, find_member}

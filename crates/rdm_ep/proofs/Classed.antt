@@ -105,13 +105,13 @@ unheard_no_other o head b e = rw e refl
 expected_agrees : (ports : ℕ) (port_log log : List Deed) (v : EndpointView) (from : Life) (item : Item) → IsEagerItem v.own log from item → Keeps log v
     → expected_class (life_scene ports v.own port_log log) from item ≡ load_class v from item
 unfolding expected_class first_case load_class is_bad_key is_no_op is_mismatch is_overlap
-expected_agrees ports port_log log v from (Spelled (Rtm number tag opt (Eager bytes))) h keeps =
+expected_agrees ports port_log log v from (Spelled (Rtm number tag confirm opt (Eager bytes))) h keeps =
     let no : heard_head log from number.0 ≡ None = unheard log from from number.0 number.0 refl refl h.1 in
-    let a = unheard_no_other (heard_head log from number.0) (head_of tag opt (Eager bytes)) (not (is_received (life_scene ports v.own port_log log) from number.0)) no in
+    let a = unheard_no_other (heard_head log from number.0) (head_of tag confirm opt (Eager bytes)) (not (is_received (life_scene ports v.own port_log log) from number.0)) no in
     let b : nat_lt number.0 v.own.limits.first ≡ false = le-ltb number.0 v.own.limits.first (let e = h.0 in omega arith) in
     let c = h.1 in
-    (rw (a, b, c) refl) ∙ sym (message_class log v from number.0 (head_of tag opt (Eager bytes)) bytes keeps h.0 h.1)
-expected_agrees ports port_log log v from (Spelled (Handshake words connid)) h keeps = let e = keeps.known_are from in rw e refl
+    (rw (a, b, c) refl) ∙ sym (message_class log v from number.0 (head_of tag confirm opt (Eager bytes)) bytes keeps h.0 h.1)
+expected_agrees ports port_log log v from (Spelled (Handshake words connid raw)) h keeps = let e = keeps.known_are from in rw e refl
 expected_agrees ports port_log log v from item h keeps = elim h [ ]
 
 -- an eager datagram has the same class

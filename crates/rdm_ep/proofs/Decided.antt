@@ -5,7 +5,7 @@ use Rattle.rdm_lists.specs.Lists.{first_case}
 use Rattle.rdm_num.specs.Lives.{life}
 use Rattle.rdm_num.specs.declared.numbers.Life.{Life}
 use Rattle.rdm_num.specs.declared.numbers.Connid.{Connid}
-use Rattle.rdm_pkt.specs.declared.Packet.TheVariants.{Rtm, Cts, CtsData, Eor, Handshake}
+use Rattle.rdm_pkt.specs.declared.Packet.TheVariants.{Rtm, Cts, CtsData, Eor, Handshake, Receipt}
 use Rattle.rdm_pkt.specs.declared.Form.TheVariants.{Eager, Medium, LongCts, LongRead, Runt}
 use Rattle.rdm_wire.specs.declared.Load.{Load}
 use Rattle.rdm_wire.specs.declared.Body.TheVariants.{Between}
@@ -58,15 +58,16 @@ pub record IsTaken (v : EndpointView) (from : Life) (item : Item) : Type 0 where
 -- what has no class is taken, with its effect
 pub unclassed_taken : (v : EndpointView) (from : Life) (item : Item) → load_class v from item ≡ None → IsTaken v from item
 unfolding load_class rtm_class is_eager accepted_of class_answer_in verdict_answer verdict_effect waits_in needs_place_in taken_in after_take with_item with_features
-unclassed_taken v from (Spelled (Rtm number tag opt (Eager bytes))) h = record { answer = refl; effect = λ w. refl }
-unclassed_taken v from (Spelled (Rtm number tag opt (Medium size offset bytes))) h = absurd (other_form _ _ h)
-unclassed_taken v from (Spelled (Rtm number tag opt (LongCts size send credits bytes))) h = absurd (other_form _ _ h)
-unclassed_taken v from (Spelled (Rtm number tag opt (LongRead size send iov))) h = absurd (other_form _ _ h)
-unclassed_taken v from (Spelled (Rtm number tag opt (Runt size send iov runt offset bytes))) h = absurd (other_form _ _ h)
+unclassed_taken v from (Spelled (Rtm number tag confirm opt (Eager bytes))) h = record { answer = refl; effect = λ w. refl }
+unclassed_taken v from (Spelled (Rtm number tag confirm opt (Medium size offset bytes))) h = absurd (other_form _ _ h)
+unclassed_taken v from (Spelled (Rtm number tag confirm opt (LongCts size send credits bytes))) h = absurd (other_form _ _ h)
+unclassed_taken v from (Spelled (Rtm number tag confirm opt (LongRead size send iov))) h = absurd (other_form _ _ h)
+unclassed_taken v from (Spelled (Rtm number tag confirm opt (Runt size send iov runt offset bytes))) h = absurd (other_form _ _ h)
 unclassed_taken v from (Spelled (Cts send recv size connid)) h = absurd (cc)
 unclassed_taken v from (Spelled (CtsData recv offset connid bytes)) h = absurd (cc)
 unclassed_taken v from (Spelled (Eor send recv connid)) h = absurd (cc)
-unclassed_taken v from (Spelled (Handshake words connid)) h = record { answer = refl; effect = λ w. refl }
+unclassed_taken v from (Spelled (Handshake words connid raw)) h = record { answer = refl; effect = λ w. refl }
+unclassed_taken v from (Spelled (Receipt number connid)) h = absurd (cc)
 unclassed_taken v from (Asks ask) h = absurd (cc)
 unclassed_taken v from (Gives data') h = absurd (cc)
 unclassed_taken v from Garbled h = absurd (cc)
@@ -106,8 +107,8 @@ verdict_handles old new d from to load AgainCopy e h = (rw e (h.0 ∙ verdict_an
 -- what is accepted is from its life
 accepted_from : (from : Life) (item : Item) → IsFrom from (accepted_of from item)
 unfolding accepted_of
-accepted_from from (Spelled (Rtm number tag opt (Eager bytes))) = refl
-accepted_from from (Spelled (Handshake words connid)) = _
+accepted_from from (Spelled (Rtm number tag confirm opt (Eager bytes))) = refl
+accepted_from from (Spelled (Handshake words connid raw)) = _
 accepted_from from _ = _
 
 -- what a class decides is from its life

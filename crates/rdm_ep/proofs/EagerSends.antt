@@ -1,11 +1,11 @@
 -- Of eager deeds: each send is one packet, and the live sends are those whose packet was not pushed.
-use Rattle.std.proofs.Common.{◌≡◌, ℕ, Bool, true, false, cond, not, List, [], ◌∷◌, length, take, drop, Option, Some, None, refl, arith, ◌⊎◌, inl, inr, ap, ◌∙◌, sym, subst, get_or}
+use Rattle.std.proofs.Common.{◌≡◌, ℕ, Bool, true, false, cond, not, List, [], ◌∷◌, length, Option, Some, None, refl, arith, ◌⊎◌, inl, inr, ap, ◌∙◌, sym, subst}
 use Rattle.std.specs.Prelude.{◌||◌, nat_le, filter, is_some}
 use Rattle.std.specs.List.{list_any}
 use Rattle.std.proofs.lemmas.Bool.{leb-true, le-leb}
-use Rattle.std.proofs.lemmas.List.{length-take}
 use Rattle.rdm_lists.specs.Lists.{Member, or_else}
 use Rattle.rdm_num.specs.declared.numbers.Life.{Life}
+use Rattle.rdm_num.specs.declared.parts.Span.{Span}
 use Rattle.rdm_num.specs.declared.request.SendReq.{SendReq}
 use Rattle.rdm_num.specs.declared.limits.EpLimits.{EpLimits}
 use Rattle.rdm_pkt.specs.declared.Packet.{Packet}
@@ -17,13 +17,15 @@ use Rattle.rdm_pkt.specs.Heads.{piece_of}
 use Rattle.rdm_pkt.specs.Openings.{rtm, openings}
 use Rattle.rdm_model.specs.Deeds.{Deed}
 use Rattle.rdm_model.specs.Owns.{Own, Messages}
+use Rattle.rdm_model.specs.Jobs.{spans_length}
 use Rattle.rdm_model.specs.Currents.{is_forgotten}
 use Rattle.rdm_model.specs.Regions.{regions}
-use Rattle.rdm_model.specs.Sends.{Sent, sends_to, known_word, wants_raw, new_sent, range_of, sends}
+use Rattle.rdm_model.specs.Sends.{Sent, sends_to, known_word, wants_raw, new_sent, bytes_of, sends}
 use Rattle.rdm_model.specs.Dues.{Due, Sends, packet_piece, pieces_in, next_packet, ends_send, is_read, is_pushed, is_over, send_due, next_send}
 use Rattle.rdm_model.proofs.Numbers.{NewSent, sends_step, sends_keep, new_number, send_below}
 use Rattle.rdm_ep.specs.Eager.{FitsOnePacket, IsEagerDeed, IsEager}
 use Rattle.rdm_ep.proofs.Apart.{ApartBy, apart_push}
+use Rattle.rdm_ep.proofs.PartsLemmas.{bytes_short}
 use Rattle.rdm_ep.proofs.Accounts.{whole_covers}
 
 -- the number of a send
@@ -50,23 +52,22 @@ choose_eager : (n : ℕ) (tagged cq_data raw : Bool) (own : ℕ) (known : Option
 unfolding choose
 choose_eager n tagged cq_data raw own known limits h = rw h refl
 
--- a range of a region is no longer than it says
-range_fits : (rs : List (List ℕ)) (region at len room : ℕ) → nat_le len room ≡ true → nat_le (length (range_of rs region at len)) room ≡ true
-unfolding range_of
-range_fits rs region at len room h =
-    let l = leb-true len room h in
-    let t = length-take len (drop at (get_or rs region [])) in
-    le-leb (length (take len (drop at (get_or rs region [])))) room (omega arith)
+-- ranges that have room have room with the bytes that they have
+parts_fit : (rs : List (List ℕ)) (parts : List Span) (room : ℕ) → nat_le (spans_length parts) room ≡ true → nat_le (length (bytes_of rs parts)) room ≡ true
+parts_fit rs parts room h =
+    let l = leb-true (spans_length parts) room h in
+    let t = bytes_short rs parts in
+    le-leb (length (bytes_of rs parts)) room (omega arith)
 
 -- a send of one packet is so whatever its headers
 new_eager : (own : Own) (before : List Deed) (n m : ℕ) (req : SendReq) (to : Life) (rs : List (List ℕ)) → FitsOnePacket own req
-    → (new_sent own before n m req to (range_of rs req.region.0 req.at req.len)).kind ≡ Eager
+    → (new_sent own before n m req to (bytes_of rs req.parts)).kind ≡ Eager
 unfolding new_sent
 new_eager own before n m req to rs h =
     let raw : Bool = wants_raw (known_word before to) in
-    let bytes = range_of rs req.region.0 req.at req.len in
+    let bytes = bytes_of rs req.parts in
     choose_eager (length bytes) (is_some req.tag) (is_some req.cq_data) raw own.features (known_word before to) own.limits
-    (range_fits rs req.region.0 req.at req.len (eager_room (is_some req.tag) (is_some req.cq_data) raw own.limits) (h raw))
+    (parts_fit rs req.parts (eager_room (is_some req.tag) (is_some req.cq_data) raw own.limits) (h raw))
 
 -- an eager deed makes a send of one packet
 pub new_sent_eager : (own : Own) (ms : Messages) (before : List Deed) (sents : List Sent) (d : Deed) (s : Sent) → IsEagerDeed own before d

@@ -61,13 +61,13 @@ some_after (Some y) x = refl
 -- what is named by a deed was not heard of, and is heard of by it
 named_new : (before : List Deed) (d : Deed) (m : Name) → Member m (named_by before d) → (is_heard before m.life m.number ≡ false) × (is_heard (d ∷ before) m.life m.number ≡ true)
 unfolding named_by is_heard heard_head head_by or_else
-named_new before (Took from (Spelled (Rtm number tag opt form))) m k =
+named_new before (Took from (Spelled (Rtm number tag confirm opt form))) m k =
     let f = member-filter (λ (x : Name). not (is_heard before x.life x.number)) m (record { life = from; number = number.0 } ∷ []) k in
     let n = not_parts (is_heard before m.life m.number) f.1 in
     elim f.0 [
       | inl is ↦ (
         n,
-        subst (λ (x : Name). is_some (or_else (heard_head before x.life x.number) (then_some (same_life from x.life && number.0 == x.number) (head_of tag opt form))) ≡ true) is
+        subst (λ (x : Name). is_some (or_else (heard_head before x.life x.number) (then_some (same_life from x.life && number.0 == x.number) (head_of tag confirm opt form))) ≡ true) is
             (let s = same_life-refl from in let e : (number.0 == number.0) ≡ true = eq-eqb number.0 number.0 refl in rw (s, e) (some_after (heard_head before from number.0) _)),
       )
       | inr never ↦ elim never [ ]
@@ -77,7 +77,7 @@ named_new before _ m k = elim k [ ]
 -- a deed names one message at most
 named_single : (before : List Deed) (d : Deed) (P : List Name → Type 0) → P [] → ((x : Name) → Member x (named_by before d) → P (x ∷ [])) → P (named_by before d)
 unfolding named_by
-named_single before (Took from (Spelled (Rtm number tag opt form))) P none one =
+named_single before (Took from (Spelled (Rtm number tag confirm opt form))) P none one =
     let x : Name = record { life = from; number = number.0 } in
     (elim (not (is_heard before from number.0)) as (λ b. ((y : Name) → Member y (cond b (x ∷ []) []) → P (y ∷ [])) → P (cond b (x ∷ []) [])) [
       | true ↦ λ f. f x (inl refl)
@@ -116,8 +116,8 @@ name_is a b n k e f = rw (e, f) refl
 first_named : (before : List Deed) (d : Deed) (source : Life) (n : ℕ) (h : Head) → heard_head before source n ≡ None → or_else None (head_by source n d) ≡ Some h
     → Member (record { life = source; number = n }) (named_by before d)
 unfolding or_else head_by named_by is_heard
-first_named before (Took from (Spelled (Rtm number tag opt form))) source n h none is =
-    let t = then_some_parts (same_life from source && number.0 == n) (head_of tag opt form) h is in
+first_named before (Took from (Spelled (Rtm number tag confirm opt form))) source n h none is =
+    let t = then_some_parts (same_life from source && number.0 == n) (head_of tag confirm opt form) h is in
     let p = and_parts (same_life from source) (number.0 == n) t.0 in
     let l = same_life-true from source p.0 in
     let e = eqb-true number.0 n p.1 in

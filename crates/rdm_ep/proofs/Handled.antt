@@ -42,24 +42,24 @@ none_of_three false false true h = cc
 none_of_three false false false h = (refl, refl)
 
 -- a packet that the endpoint takes is a message in one packet that was not heard of
-eager_rtm : (log : List Deed) (v : EndpointView) (from : Life) (number : MsgNo) (tag : Option ℕ) (opt : Opt) (form : Form) → Keeps log v
-    → rtm_class v from number.0 (head_of tag opt form) form ≡ None → IsEagerItem v.own log from (Spelled (Rtm number tag opt form))
+eager_rtm : (log : List Deed) (v : EndpointView) (from : Life) (number : MsgNo) (tag : Option ℕ) (confirm : Bool) (opt : Opt) (form : Form) → Keeps log v
+    → rtm_class v from number.0 (head_of tag confirm opt form) form ≡ None → IsEagerItem v.own log from (Spelled (Rtm number tag confirm opt form))
 unfolding rtm_class is_eager is_heard_in
-eager_rtm log v from number tag opt (Eager bytes) k h =
+eager_rtm log v from number tag confirm opt (Eager bytes) k h =
     let t = none_of_three _ (nat_lt number.0 (next_in v from) || is_held_in v from number.0) false h in
     let p = or_parts (nat_lt number.0 (next_in v from)) (is_held_in v from number.0) t.0 in
     let l = ltb-false number.0 (next_in v from) p.0 in (
       omega arith,
       sym (k.heard_are from number.0) ∙ (rw (p.0, p.1) (ap (λ b. b || false) (and_right (nat_le v.own.limits.first number.0) false refl))),
     )
-eager_rtm log v from number tag opt form k h = let t = none_of_three _ (nat_lt number.0 (next_in v from) || is_held_in v from number.0) true h in absurd (true≢false t.1)
+eager_rtm log v from number tag confirm opt form k h = let t = none_of_three _ (nat_lt number.0 (next_in v from) || is_held_in v from number.0) true h in absurd (true≢false t.1)
 
 -- what the endpoint expects is eager
 eager_load : (log : List Deed) (v : EndpointView) (from : Life) (item : Item) → Keeps log v → is_malformed from item ≡ false → load_class v from item ≡ None
     → IsEagerItem v.own log from item
 unfolding load_class is_malformed
-eager_load log v from (Spelled (Rtm number tag opt form)) k m h = eager_rtm log v from number tag opt form k h
-eager_load log v from (Spelled (Handshake words connid)) k m h = tt
+eager_load log v from (Spelled (Rtm number tag confirm opt form)) k m h = eager_rtm log v from number tag confirm opt form k h
+eager_load log v from (Spelled (Handshake words connid raw)) k m h = tt
 eager_load log v from Garbled k m h = absurd (true≢false m)
 eager_load log v from item k m h = cc
 
@@ -79,8 +79,8 @@ known_none (Some x) h = cc
 took_kept : (log : List Deed) (v : EndpointView) (from : Life) (item : Item) → IsEager v.own log → IsEagerItem v.own log from item → load_class v from item ≡ None → Keeps log v
     → Keeps (Took from item ∷ log) (after_take from item v)
 unfolding load_class
-took_kept log v from (Spelled (Rtm number tag opt (Eager bytes))) h p c k = keeps_message from number tag opt bytes log v (h, p) k
-took_kept log v from (Spelled (Handshake words connid)) h p c k = keeps_handshake from words connid log v h (known_none (peer_in v.peers from).known c) k
+took_kept log v from (Spelled (Rtm number tag confirm opt (Eager bytes))) h p c k = keeps_message from number tag confirm opt bytes log v (h, p) k
+took_kept log v from (Spelled (Handshake words connid raw)) h p c k = keeps_handshake from words connid raw log v h (known_none (peer_in v.peers from).known c) k
 took_kept log v from item h p c k = elim p [ ]
 
 -- after a datagram that has no class was taken

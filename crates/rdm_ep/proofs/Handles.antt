@@ -61,15 +61,15 @@ both_found f g None = refl
 both_found f g (Some x) = refl
 
 -- a posted receive accepts the message, that is next, here and in the matcher
-met_agrees : (ports : ℕ) (port_log log : List Deed) (v : EndpointView) (from : Life) (number : MsgNo) (tag : Option ℕ) (opt : Opt) (bytes : List ℕ)
+met_agrees : (ports : ℕ) (port_log log : List Deed) (v : EndpointView) (from : Life) (number : MsgNo) (tag : Option ℕ) (confirm : Bool) (opt : Opt) (bytes : List ℕ)
     → IsEager v.own log → Keeps log v
-    → is_met (life_scene ports v.own port_log log) from number.0 tag ≡ enters_at_once v (inbound from number.0 tag opt bytes)
+    → is_met (life_scene ports v.own port_log log) from number.0 tag ≡ enters_at_once v (inbound from number.0 tag confirm opt bytes)
 unfolding is_met is_met_in enters_at_once heard_by
-met_agrees ports port_log log v from number tag opt bytes h keeps =
+met_agrees ports port_log log v from number tag confirm opt bytes h keeps =
     let k = kept_of log v keeps in
     let next = next_kept v.own log v.peers v.arrived v.held from k.held in
     let n = next_is v.own.limits.first log from (next_in v from) number.0 next in
-    let i = inbound from number.0 tag opt bytes in
+    let i = inbound from number.0 tag confirm opt bytes in
     let a = arrived_message i in
     let live = own_live v.own log in
     let m = own_matching v.own log in
@@ -88,12 +88,12 @@ places_agree : (ports : ℕ) (port_log log : List Deed) (v : EndpointView) (from
     → (needs_place (life_scene ports v.own port_log log) from item && nat_le v.own.limits.early (early_count v.own (heard_by v.own.limits.first log).head log))
     ≡ needs_place_in v from item
 unfolding needs_place needs_place_in early_is_full
-places_agree ports port_log log v from (Spelled (Rtm number tag opt (Eager bytes))) h p k =
+places_agree ports port_log log v from (Spelled (Rtm number tag confirm opt (Eager bytes))) h p k =
     let a = p.1 in
-    let m = met_agrees ports port_log log v from number tag opt bytes h k in
+    let m = met_agrees ports port_log log v from number tag confirm opt bytes h k in
     let e = early_agrees log v h k in
     rw (a, m, e) refl
-places_agree ports port_log log v from (Spelled (Handshake words connid)) h p k = refl
+places_agree ports port_log log v from (Spelled (Handshake words connid raw)) h p k = refl
 places_agree ports port_log log v from item h p k = elim p [ ]
 
 -- the least of numbers in a row, and their count
@@ -113,28 +113,28 @@ none_entered = refl
 entered_agrees : (log : List Deed) (v : EndpointView) (from : Life) (item : Item) → IsEager v.own log → IsEagerItem v.own log from item → Keeps log v
     → TookAnswer (entered_of (entering v.own.limits.first (Took from item) log from)) ≡ handled_of (taken_in v from item)
 unfolding handled_of taken_in entered_by head_by
-entered_agrees log v from (Spelled (Rtm number tag opt (Eager bytes))) h p keeps =
+entered_agrees log v from (Spelled (Rtm number tag confirm opt (Eager bytes))) h p keeps =
     let k = kept_of log v keeps in
     let next = next_in v from in
     elim (cases_eq number.0 next) [
       | inl same ↦
           let q : (number.0 == next) ≡ true = eq-eqb number.0 next same in
-          let e = entering_next v.own log v.peers v.arrived v.held from number tag opt bytes (record { kept = k.held; is_next = same }) in
+          let e = entering_next v.own log v.peers v.arrived v.held from number tag confirm opt bytes (record { kept = k.held; is_next = same }) in
           let row = entered_row next (length (following (length v.held) v.held from (number.0 + 1))) in
           rw (q, e, row) (ap (λ (n : ℕ). TookAnswer (Some (record { first = record { 0 = n }; count = suc (length (following (length v.held) v.held from (number.0 + 1))) }))) (sym same))
       | inr other ↦
           let q : (number.0 == next) ≡ false = ne_eqb number.0 next other in
-          let e = entering_ahead v.own log v.peers v.arrived v.held from number tag opt bytes k.held other in
+          let e = entering_ahead v.own log v.peers v.arrived v.held from number tag confirm opt bytes k.held other in
           rw (q, e) (ap TookAnswer none_entered)
     ]
-entered_agrees log v from (Spelled (Handshake words connid)) h p keeps =
-    let e = none_enter v.own.limits.first (Took from (Spelled (Handshake words connid))) log from (λ life n. refl) in rw e (ap TookAnswer none_entered)
+entered_agrees log v from (Spelled (Handshake words connid raw)) h p keeps =
+    let e = none_enter v.own.limits.first (Took from (Spelled (Handshake words connid raw))) log from (λ life n. refl) in rw e (ap TookAnswer none_entered)
 entered_agrees log v from item h p keeps = elim p [ ]
 
 -- what is taken does not stay
 taken_not_early : (v : EndpointView) (from : Life) (item : Item) → is_early (taken_in v from item) ≡ false
 unfolding is_early taken_in
-taken_not_early v from (Spelled (Rtm number tag opt (Eager bytes))) = refl
+taken_not_early v from (Spelled (Rtm number tag confirm opt (Eager bytes))) = refl
 taken_not_early v from item = refl
 
 -- what has no class stays where it needs a place

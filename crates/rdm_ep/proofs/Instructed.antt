@@ -1,5 +1,5 @@
 -- What an instruction that registers, inserts, cancels or waits answers, by what the endpoint keeps.
-use Rattle.std.proofs.Common.{◌≡◌, ℕ, Bool, true, false, cond, List, [], length, refl, ap, ◌∙◌, sym}
+use Rattle.std.proofs.Common.{◌≡◌, ℕ, Bool, true, false, cond, List, length, refl, ap, ◌∙◌, sym}
 use Rattle.std.specs.Prelude.{◌==◌, not, nat_lt, find, is_some, option_map}
 use Rattle.rdm_lists.specs.Lists.{first_case}
 use Rattle.rdm_num.specs.declared.numbers.RecvNo.{RecvNo}

@@ -1,5 +1,5 @@
 -- What an endpoint keeps after a message in one packet was taken, by which others enter.
-use Rattle.std.proofs.Common.{◌≡◌, ℕ, inl, inr, List, [], ◌∷◌, ◌++◌, map, length, Option, refl, ap, ◌∙◌, sym, subst}
+use Rattle.std.proofs.Common.{Bool, ◌≡◌, ℕ, inl, inr, List, [], ◌∷◌, ◌++◌, map, length, Option, refl, ap, ◌∙◌, sym, subst}
 use Rattle.std.specs.Prelude.{not}
 use Rattle.std.proofs.lemmas.List.{append-nil}
 use Rattle.rdm_lists.specs.Lists.{Member}
@@ -66,36 +66,36 @@ unfolding heard_by
 heard_told first log i a b = (a, b)
 
 -- what is known where a message in one packet was taken: which messages enter by it, and which lives and held messages there are then
-pub record Comes (own : Own) (log : List Deed) (v : EndpointView) (from : Life) (number : MsgNo) (tag : Option ℕ) (opt : Opt) (bytes : List ℕ) (is : List Inbound) (now : List Peer) (left : List Inbound) : Type 0 where
-  pub arriving_are : arriving own (eager from number tag opt bytes) log ≡ map arrived_message is
-  pub told : (i : Inbound) → Member i is → IsToldBy (heard_by own.limits.first (eager from number tag opt bytes ∷ log)) i
+pub record Comes (own : Own) (log : List Deed) (v : EndpointView) (from : Life) (number : MsgNo) (tag : Option ℕ) (confirm : Bool) (opt : Opt) (bytes : List ℕ) (is : List Inbound) (now : List Peer) (left : List Inbound) : Type 0 where
+  pub arriving_are : arriving own (eager from number tag confirm opt bytes) log ≡ map arrived_message is
+  pub told : (i : Inbound) → Member i is → IsToldBy (heard_by own.limits.first (eager from number tag confirm opt bytes ∷ log)) i
   pub greeted : (life : Life) → (peer_in now life).greeted ≡ (peer_in (greeted_peers from v.peers) life).greeted
   pub known : (life : Life) → (peer_in now life).known ≡ (peer_in v.peers life).known
   pub sent : (life : Life) → (peer_in now life).sent ≡ (peer_in v.peers life).sent
-  pub held : HeldKept own (eager from number tag opt bytes ∷ log) now (after_arrivals (meeting_of v) is).arrived left
+  pub held : HeldKept own (eager from number tag confirm opt bytes ∷ log) now (after_arrivals (meeting_of v) is).arrived left
 
 -- what the arrivals of a message make
-pub arrivals_of : (from : Life) (number : MsgNo) (tag : Option ℕ) (opt : Opt) (bytes : List ℕ) (log : List Deed) (v : EndpointView) (is : List Inbound)
-    → IsEager v.own log → Kept log v → ((i : Inbound) → Member i is → IsToldBy (heard_by v.own.limits.first (eager from number tag opt bytes ∷ log)) i)
-    → Arrivals (heard_by v.own.limits.first (eager from number tag opt bytes ∷ log)) (receives (eager from number tag opt bytes ∷ log)) is (meeting_of v) (own_live v.own log) (own_matching v.own log)
-arrivals_of from number tag opt bytes log v is h k told =
-    arrivals_meet (heard_by v.own.limits.first (eager from number tag opt bytes ∷ log)) (receives (eager from number tag opt bytes ∷ log)) is (meeting_of v) (own_live v.own log) (own_matching v.own log) told
-    (subst (λ (rs : List Receive). AreAmong rs (own_live v.own log)) (sym (took_receives log from (Spelled (Rtm number tag opt (Eager bytes))))) (live_among v.own log))
+pub arrivals_of : (from : Life) (number : MsgNo) (tag : Option ℕ) (confirm : Bool) (opt : Opt) (bytes : List ℕ) (log : List Deed) (v : EndpointView) (is : List Inbound)
+    → IsEager v.own log → Kept log v → ((i : Inbound) → Member i is → IsToldBy (heard_by v.own.limits.first (eager from number tag confirm opt bytes ∷ log)) i)
+    → Arrivals (heard_by v.own.limits.first (eager from number tag confirm opt bytes ∷ log)) (receives (eager from number tag confirm opt bytes ∷ log)) is (meeting_of v) (own_live v.own log) (own_matching v.own log)
+arrivals_of from number tag confirm opt bytes log v is h k told =
+    arrivals_meet (heard_by v.own.limits.first (eager from number tag confirm opt bytes ∷ log)) (receives (eager from number tag confirm opt bytes ∷ log)) is (meeting_of v) (own_live v.own log) (own_matching v.own log) told
+    (subst (λ (rs : List Receive). AreAmong rs (own_live v.own log)) (sym (took_receives log from (Spelled (Rtm number tag confirm opt (Eager bytes))))) (live_among v.own log))
     (record { posted_are = k.receives.posted_are; waiting = waiting_are v.own log h; arrived_are = k.messages.arrived_are })
 
 -- after a message by which those enter
-pub message_kept : (from : Life) (number : MsgNo) (tag : Option ℕ) (opt : Opt) (bytes : List ℕ) (log : List Deed) (v : EndpointView) (is : List Inbound) (now : List Peer) (left : List Inbound)
-    → IsEager v.own (eager from number tag opt bytes ∷ log) → Kept log v → Comes v.own log v from number tag opt bytes is now left
-    → Keeps (eager from number tag opt bytes ∷ log) (with_meeting (after_arrivals (meeting_of v) is) (record (met_view from v) { peers = now; held = left }))
+pub message_kept : (from : Life) (number : MsgNo) (tag : Option ℕ) (confirm : Bool) (opt : Opt) (bytes : List ℕ) (log : List Deed) (v : EndpointView) (is : List Inbound) (now : List Peer) (left : List Inbound)
+    → IsEager v.own (eager from number tag confirm opt bytes ∷ log) → Kept log v → Comes v.own log v from number tag confirm opt bytes is now left
+    → Keeps (eager from number tag confirm opt bytes ∷ log) (with_meeting (after_arrivals (meeting_of v) is) (record (met_view from v) { peers = now; held = left }))
 unfolding region_by is_poll ended_left event_of live_after known_by
-message_kept from number tag opt bytes log v is now left g k c =
+message_kept from number tag confirm opt bytes log v is now left g k c =
     let own = v.own in
-    let d = eager from number tag opt bytes in
-    let item = Spelled (Rtm number tag opt (Eager bytes)) in
+    let d = eager from number tag confirm opt bytes in
+    let item = Spelled (Rtm number tag confirm opt (Eager bytes)) in
     let ms = heard_by own.limits.first (d ∷ log) in
     let rs = receives (d ∷ log) in
     let m = own_matching own log in
-    let a = arrivals_of from number tag opt bytes log v is g.0 k c.told in
+    let a = arrivals_of from number tag confirm opt bytes log v is g.0 k c.told in
     let events : event_of own d log ≡ arrivals is = ap (map Arrive) c.arriving_are in
     let pairs : new_pairs own log d ≡ met_by_all m (arrivals is) = ap (met_by_all m) events in
     let w : EndpointView = with_meeting (after_arrivals (meeting_of v) is) (record (met_view from v) { peers = now; held = left }) in

@@ -13,7 +13,7 @@ use Rattle.rdm_model.specs.Deeds.{Deed, Did}
 use Rattle.rdm_model.specs.Owns.{Own}
 use Rattle.rdm_model.specs.Currents.{current}
 use Rattle.rdm_model.specs.Regions.{region_by}
-use Rattle.rdm_model.specs.Sends.{Sent, sends_to, known_word, wants_raw, opt_for, new_sent, sent_to_current, range_of, sent_by}
+use Rattle.rdm_model.specs.Sends.{Sent, sends_to, known_word, wants_raw, opt_for, new_sent, sent_to_current, bytes_of, sent_by}
 use Rattle.rdm_model.specs.Completions.{recv_completions, is_poll}
 use Rattle.rdm_ep.specs.declared.state.Outbound.{Outbound}
 use Rattle.rdm_ep.specs.View.{EndpointView, current_in}
@@ -36,13 +36,13 @@ outbound_by own req to number message known regions =
       number = record { 0 = number };
       to = to;
       req = req;
-      packet = Rtm (record { 0 = message }) req.tag (opt_for own.life (wants_raw known) req.cq_data) (Eager (range_of regions req.region.0 req.at req.len));
+      packet = Rtm (record { 0 = message }) req.tag req.confirm (opt_for own.life (wants_raw known) req.cq_data) (Eager (bytes_of regions req.parts));
     }
 
 -- the send that a deed makes to a life
 abbrev pub send_to : Own → List Deed → SendReq → Life → Sent
 send_to own log req to =
-    new_sent own log (length (own_sends own log)) (length (sends_to (own_sends own log) to)) req to (range_of (own_regions own log) req.region.0 req.at req.len)
+    new_sent own log (length (own_sends own log)) (length (sends_to (own_sends own log) to)) req to (bytes_of (own_regions own log) req.parts)
 
 -- the send of the definitions, as the endpoint keeps it
 send_to_is : (own : Own) (log : List Deed) (req : SendReq) (to : Life)
@@ -163,10 +163,10 @@ unsent_kept req log v g made k =
 
 -- the send that is made to the current life
 new_by : (own : Own) (log : List Deed) (req : SendReq) (o : Option Life) → current log req.to.0 ≡ o
-    → new_sends own log (Did (Send req)) ≡ sent_to_current own log (own_sends own log) req o (range_of (own_regions own log) req.region.0 req.at req.len)
+    → new_sends own log (Did (Send req)) ≡ sent_to_current own log (own_sends own log) req o (bytes_of (own_regions own log) req.parts)
 unfolding sent_by
 new_by own log req o e =
-    ap (λ (x : Option Life). sent_to_current own log (own_sends own log) req x (range_of (own_regions own log) req.region.0 req.at req.len)) e
+    ap (λ (x : Option Life). sent_to_current own log (own_sends own log) req x (bytes_of (own_regions own log) req.parts)) e
 
 -- after a send, by the current life of its port
 send_by : (req : SendReq) (log : List Deed) (v : EndpointView) (o : Option Life) → IsEager v.own (Did (Send req) ∷ log) → current log req.to.0 ≡ o → Kept log v

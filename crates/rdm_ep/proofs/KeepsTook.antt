@@ -6,6 +6,7 @@ use Rattle.std.proofs.lemmas.Bool.{eq-eqb, ne_eqb, cases_lt, cases_eq, le-leb, l
 use Rattle.std.proofs.lemmas.List.{length-append}
 use Rattle.rdm_lists.specs.Lists.{Member}
 use Rattle.rdm_num.specs.Lives.{same_life}
+use Rattle.rdm_num.specs.declared.numbers.PortNo.{PortNo}
 use Rattle.rdm_num.specs.declared.numbers.Life.{Life}
 use Rattle.rdm_num.specs.declared.numbers.MsgNo.{MsgNo}
 use Rattle.rdm_num.specs.declared.numbers.Connid.{Connid}
@@ -93,15 +94,15 @@ heard_here own log peers arrived held from number n low c =
     ]
 
 -- the messages that enter by one that is next are told
-entering_told : (from : Life) (number : MsgNo) (tag : Option ℕ) (opt : Opt) (bytes : List ℕ) (log : List Deed) (v : EndpointView) → IsEager v.own (eager from number tag opt bytes ∷ log) → Kept log v
-    → (i : Inbound) → Member i (entering_by (inbound from number.0 tag opt bytes) v.held) → IsToldBy (heard_by v.own.limits.first (eager from number tag opt bytes ∷ log)) i
+entering_told : (from : Life) (number : MsgNo) (tag : Option ℕ) (confirm : Bool) (opt : Opt) (bytes : List ℕ) (log : List Deed) (v : EndpointView) → IsEager v.own (eager from number tag confirm opt bytes ∷ log) → Kept log v
+    → (i : Inbound) → Member i (entering_by (inbound from number.0 tag confirm opt bytes) v.held) → IsToldBy (heard_by v.own.limits.first (eager from number tag confirm opt bytes ∷ log)) i
 unfolding head_of size_of shape_of
-entering_told from number tag opt bytes log v g k i (inl is) =
-    let d = eager from number tag opt bytes in
-    let t = took_told v.own log from number tag opt bytes g in
-    subst (IsToldBy (heard_by v.own.limits.first (d ∷ log))) is (heard_told v.own.limits.first (d ∷ log) (inbound from number.0 tag opt bytes) t.head_is t.bytes_are)
-entering_told from number tag opt bytes log v g k i (inr m) =
-    let d = eager from number tag opt bytes in
+entering_told from number tag confirm opt bytes log v g k i (inl is) =
+    let d = eager from number tag confirm opt bytes in
+    let t = took_told v.own log from number tag confirm opt bytes g in
+    subst (IsToldBy (heard_by v.own.limits.first (d ∷ log))) is (heard_told v.own.limits.first (d ∷ log) (inbound from number.0 tag confirm opt bytes) t.head_is t.bytes_are)
+entering_told from number tag confirm opt bytes log v g k i (inr m) =
+    let d = eager from number tag confirm opt bytes in
     let s = held_stays v.own d log v.peers v.arrived v.held i g k.held (following_member (length v.held) v.held from (number.0 + 1) i m) in
     heard_told v.own.limits.first (d ∷ log) i s.0 s.1
 
@@ -120,16 +121,16 @@ entered_then from number peers held life =
     ∙ ap (λ (n : ℕ). cond (same_life from life) ((peer_in peers from).entered + count) n) (entered_met from peers life)
 
 -- how many were heard of then
-count_then : (from : Life) (number : MsgNo) (tag : Option ℕ) (opt : Opt) (bytes : List ℕ) (log : List Deed) (v : EndpointView) (is left : List Inbound) → IsEager v.own (eager from number tag opt bytes ∷ log) → Kept log v
-    → arriving v.own (eager from number tag opt bytes) log ≡ map arrived_message is → ((i : Inbound) → Member i is → IsToldBy (heard_by v.own.limits.first (eager from number tag opt bytes ∷ log)) i)
+count_then : (from : Life) (number : MsgNo) (tag : Option ℕ) (confirm : Bool) (opt : Opt) (bytes : List ℕ) (log : List Deed) (v : EndpointView) (is left : List Inbound) → IsEager v.own (eager from number tag confirm opt bytes ∷ log) → Kept log v
+    → arriving v.own (eager from number tag confirm opt bytes) log ≡ map arrived_message is → ((i : Inbound) → Member i is → IsToldBy (heard_by v.own.limits.first (eager from number tag confirm opt bytes ∷ log)) i)
     → length is + length left ≡ length v.held + 1
-    → length (after_arrivals (meeting_of v) is).arrived + length left + length (own_matching v.own (eager from number tag opt bytes ∷ log)).pairs ≡ length (heard_names (eager from number tag opt bytes ∷ log))
+    → length (after_arrivals (meeting_of v) is).arrived + length left + length (own_matching v.own (eager from number tag confirm opt bytes ∷ log)).pairs ≡ length (heard_names (eager from number tag confirm opt bytes ∷ log))
 unfolding event_of heard_names named_by
-count_then from number tag opt bytes log v is left g k are told more =
+count_then from number tag confirm opt bytes log v is left g k are told more =
     let own = v.own in
-    let d = eager from number tag opt bytes in
+    let d = eager from number tag confirm opt bytes in
     let m = own_matching own log in
-    let a = arrivals_of from number tag opt bytes log v is g.0 k told in
+    let a = arrivals_of from number tag confirm opt bytes log v is g.0 k told in
     let events : event_of own d log ≡ arrivals is = ap (map Arrive) are in
     let step = ap length (pairs_step own d log g) in
     let l = length-append m.pairs (new_pairs own log d) in
@@ -146,10 +147,10 @@ or_assoc true b c = refl
 or_assoc false b c = refl
 
 -- whether a message was heard of, after one that is next
-heard_then : (from : Life) (number : MsgNo) (tag : Option ℕ) (opt : Opt) (bytes : List ℕ) (log : List Deed) (v : EndpointView) (life : Life) (n : ℕ) → IsEager v.own (eager from number tag opt bytes ∷ log)
+heard_then : (from : Life) (number : MsgNo) (tag : Option ℕ) (confirm : Bool) (opt : Opt) (bytes : List ℕ) (log : List Deed) (v : EndpointView) (life : Life) (n : ℕ) → IsEager v.own (eager from number tag confirm opt bytes ∷ log)
     → ComesNext v.own log v.peers v.arrived v.held from number
-    → heard_of v.own.limits.first (next_peers from number v.peers v.held) (left_held (length v.held) v.held from (number.0 + 1)) life n ≡ is_heard (eager from number tag opt bytes ∷ log) life n
-heard_then from number tag opt bytes log v life n g c =
+    → heard_of v.own.limits.first (next_peers from number v.peers v.held) (left_held (length v.held) v.held from (number.0 + 1)) life n ≡ is_heard (eager from number tag confirm opt bytes ∷ log) life n
+heard_then from number tag confirm opt bytes log v life n g c =
     let first = v.own.limits.first in
     let held = v.held in
     let k = c.kept in
@@ -158,8 +159,8 @@ heard_then from number tag opt bytes log v life n g c =
     let left = left_held (length held) held from (number.0 + 1) in
     let after = number_after held from number in
     let entered = entered_then from number v.peers held life in
-    let with' = heard_with log from number tag opt bytes life n in
-    (elim (same_life from life) as (λ b. same_life from life ≡ b → heard_of first (next_peers from number v.peers held) left life n ≡ is_heard (eager from number tag opt bytes ∷ log) life n) [
+    let with' = heard_with log from number tag confirm opt bytes life n in
+    (elim (same_life from life) as (λ b. same_life from life ≡ b → heard_of first (next_peers from number v.peers held) left life n ≡ is_heard (eager from number tag confirm opt bytes ∷ log) life n) [
       | false ↦ λ s.
           let stays = left_any (length held) held from life (number.0 + 1) n (λ i lt t q. let z : true ≡ false = sym t ∙ s in cc) in
           let same : (peer_in (next_peers from number v.peers held) life).entered ≡ (peer_in v.peers life).entered = entered ∙ ap (λ b. cond b ((peer_in v.peers from).entered + suc len) (peer_in v.peers life).entered) s in
@@ -168,7 +169,7 @@ heard_then from number tag opt bytes log v life n g c =
           let is : from ≡ life = same_life-true from life s in
           let more : (peer_in (next_peers from number v.peers held) life).entered ≡ (peer_in v.peers from).entered + suc len = entered ∙ ap (λ b. cond b ((peer_in v.peers from).entered + suc len) (peer_in v.peers life).entered) s in
           let to : first + (peer_in (next_peers from number v.peers held) life).entered ≡ after = omega arith in
-          let mine : is_heard (eager from number tag opt bytes ∷ log) life n ≡ (is_heard log from n || (number.0 == n)) = with' ∙ (rw (s, ← is) refl) in
+          let mine : is_heard (eager from number tag confirm opt bytes ∷ log) life n ≡ (is_heard log from n || (number.0 == n)) = with' ∙ (rw (s, ← is) refl) in
           ap (λ x. (nat_le first n && nat_lt n x) || held_of left life n) to
           ∙ ap (λ (l : Life). (nat_le first n && nat_lt n after) || held_of left l n) (sym is)
           ∙ heard_here v.own log v.peers v.arrived held from number n g.1.0 c
@@ -176,24 +177,24 @@ heard_then from number tag opt bytes log v life n g c =
     ]) refl
 
 -- what is held after a message that is next
-held_next : (from : Life) (number : MsgNo) (tag : Option ℕ) (opt : Opt) (bytes : List ℕ) (log : List Deed) (v : EndpointView) → IsEager v.own (eager from number tag opt bytes ∷ log) → Kept log v
+held_next : (from : Life) (number : MsgNo) (tag : Option ℕ) (confirm : Bool) (opt : Opt) (bytes : List ℕ) (log : List Deed) (v : EndpointView) → IsEager v.own (eager from number tag confirm opt bytes ∷ log) → Kept log v
     → ComesNext v.own log v.peers v.arrived v.held from number
-    → HeldKept v.own (eager from number tag opt bytes ∷ log) (next_peers from number v.peers v.held) (after_arrivals (meeting_of v) (entering_by (inbound from number.0 tag opt bytes) v.held)).arrived
-    (left_by (inbound from number.0 tag opt bytes) v.held)
-held_next from number tag opt bytes log v g k c =
+    → HeldKept v.own (eager from number tag confirm opt bytes ∷ log) (next_peers from number v.peers v.held) (after_arrivals (meeting_of v) (entering_by (inbound from number.0 tag confirm opt bytes) v.held)).arrived
+    (left_by (inbound from number.0 tag confirm opt bytes) v.held)
+held_next from number tag confirm opt bytes log v g k c =
     let own = v.own in
     let first = own.limits.first in
-    let d = eager from number tag opt bytes in
+    let d = eager from number tag confirm opt bytes in
     let held = v.held in
     let len = length (following (length held) held from (number.0 + 1)) in
     let left = left_held (length held) held from (number.0 + 1) in
     let fc = following_count (length held) held from (number.0 + 1) in
-    let told = entering_told from number tag opt bytes log v g k in
+    let told = entering_told from number tag confirm opt bytes log v g k in
     let e = c.is_next in
     record {
       heads_are = λ i m. (held_stays own d log v.peers v.arrived held i g k.held (left_member (length held) held from (number.0 + 1) i m)).0;
       bytes_are = λ i m. (held_stays own d log v.peers v.arrived held i g k.held (left_member (length held) held from (number.0 + 1) i m)).1;
-      heard_are = λ life n. heard_then from number tag opt bytes log v life n g c;
+      heard_are = λ life n. heard_then from number tag confirm opt bytes log v life n g c;
       next_are = λ life.
           let entered = entered_then from number v.peers held life in
           (elim (same_life from life) as (λ b. same_life from life ≡ b → is_heard (d ∷ log) life (next_of first (next_peers from number v.peers held) life) ≡ false) [
@@ -202,11 +203,11 @@ held_next from number tag opt bytes log v g k c =
                 let more : (peer_in (next_peers from number v.peers held) life).entered ≡ (peer_in v.peers from).entered + suc len = entered ∙ ap (λ b. cond b ((peer_in v.peers from).entered + suc len) (peer_in v.peers life).entered) s in
                 let to : number_after held from number ≡ first + (peer_in (next_peers from number v.peers held) life).entered = omega arith in
                 subst (λ (x : ℕ). is_heard (d ∷ log) life x ≡ false) to
-                (subst (λ (l : Life). is_heard (d ∷ log) l (number_after held from number) ≡ false) is (next_then own log v.peers v.arrived held from number tag opt bytes c).at)
+                (subst (λ (l : Life). is_heard (d ∷ log) l (number_after held from number) ≡ false) is (next_then own log v.peers v.arrived held from number tag confirm opt bytes c).at)
             | false ↦ λ s.
                 let same : (peer_in (next_peers from number v.peers held) life).entered ≡ (peer_in v.peers life).entered = entered ∙ ap (λ b. cond b ((peer_in v.peers from).entered + suc len) (peer_in v.peers life).entered) s in
                 let z = k.held.next_are life in
-                rw same (heard_with log from number tag opt bytes life (next_of first v.peers life) ∙ (rw (s, z) refl))
+                rw same (heard_with log from number tag confirm opt bytes life (next_of first v.peers life) ∙ (rw (s, z) refl))
           ]) refl;
       within = λ life.
           let entered = entered_then from number v.peers held life in
@@ -216,21 +217,21 @@ held_next from number tag opt bytes log v g k c =
             | true ↦ λ s. (let x = entered ∙ ap (λ b. cond b ((peer_in v.peers from).entered + suc len) (peer_in v.peers life).entered) s in omega arith)
             | false ↦ λ s. (let x = entered ∙ ap (λ b. cond b ((peer_in v.peers from).entered + suc len) (peer_in v.peers life).entered) s in omega arith)
           ]) refl;
-      count = count_then from number tag opt bytes log v (entering_by (inbound from number.0 tag opt bytes) held) left g k
-          (arriving_next own log v.peers v.arrived held from number tag opt bytes c (λ j m. ap (λ (h : Head). h.tag) (told_heard first (d ∷ log) j (told j m)).0)) told (omega arith);
+      count = count_then from number tag confirm opt bytes log v (entering_by (inbound from number.0 tag confirm opt bytes) held) left g k
+          (arriving_next own log v.peers v.arrived held from number tag confirm opt bytes c (λ j m. ap (λ (h : Head). h.tag) (told_heard first (d ∷ log) j (told j m)).0)) told (omega arith);
     }
 
 -- what is held after a message that comes before it is next
-held_ahead : (from : Life) (number : MsgNo) (tag : Option ℕ) (opt : Opt) (bytes : List ℕ) (log : List Deed) (v : EndpointView) → IsEager v.own (eager from number tag opt bytes ∷ log) → Kept log v
+held_ahead : (from : Life) (number : MsgNo) (tag : Option ℕ) (confirm : Bool) (opt : Opt) (bytes : List ℕ) (log : List Deed) (v : EndpointView) → IsEager v.own (eager from number tag confirm opt bytes ∷ log) → Kept log v
     → (number.0 ≡ next_of v.own.limits.first v.peers from → ⊥)
-    → HeldKept v.own (eager from number tag opt bytes ∷ log) (greeted_peers from v.peers) v.arrived (v.held ++ inbound from number.0 tag opt bytes ∷ [])
+    → HeldKept v.own (eager from number tag confirm opt bytes ∷ log) (greeted_peers from v.peers) v.arrived (v.held ++ inbound from number.0 tag confirm opt bytes ∷ [])
 unfolding after_arrivals head_of size_of shape_of
-held_ahead from number tag opt bytes log v g k other =
+held_ahead from number tag confirm opt bytes log v g k other =
     let own = v.own in
     let first = own.limits.first in
-    let d = eager from number tag opt bytes in
-    let i = inbound from number.0 tag opt bytes in
-    let t = took_told own log from number tag opt bytes g in
+    let d = eager from number tag confirm opt bytes in
+    let i = inbound from number.0 tag confirm opt bytes in
+    let t = took_told own log from number tag confirm opt bytes g in
     let l = length-append v.held (i ∷ []) in
     let was = next_kept own log v.peers v.arrived v.held from k.held in
     record {
@@ -246,7 +247,7 @@ held_ahead from number tag opt bytes log v g k other =
           let e = entered_met from v.peers life in
           let p = list_any-push (is_message life n) v.held i in
           rw (e, p) (or_assoc (nat_le first n && nat_lt n (next_of first v.peers life)) (held_of v.held life n) (same_life from life && number.0 == n)
-          ∙ ap (λ b. b || (same_life from life && number.0 == n)) (k.held.heard_are life n) ∙ sym (heard_with log from number tag opt bytes life n));
+          ∙ ap (λ b. b || (same_life from life && number.0 == n)) (k.held.heard_are life n) ∙ sym (heard_with log from number tag confirm opt bytes life n));
       next_are = λ life.
           let e = entered_met from v.peers life in
           let z = k.held.next_are life in
@@ -257,57 +258,57 @@ held_ahead from number tag opt bytes log v g k other =
                 ne_eqb number.0 (next_of first v.peers life) (λ x. other (x ∙ ap (next_of first v.peers) (sym is)))
             | false ↦ λ s. refl
           ]) refl in
-          rw e (heard_with log from number tag opt bytes life (next_of first v.peers life) ∙ (rw (z, apart) refl));
+          rw e (heard_with log from number tag confirm opt bytes life (next_of first v.peers life) ∙ (rw (z, apart) refl));
       within = λ life. (let e = entered_met from v.peers life in let w = k.held.within life in omega arith);
-      count = count_then from number tag opt bytes log v [] (v.held ++ i ∷ []) g k (arriving_ahead own log v.peers v.arrived v.held from number tag opt bytes k.held other) (λ j m. elim m [ ]) (omega arith);
+      count = count_then from number tag confirm opt bytes log v [] (v.held ++ i ∷ []) g k (arriving_ahead own log v.peers v.arrived v.held from number tag confirm opt bytes k.held other) (λ j m. elim m [ ]) (omega arith);
     }
 
 -- after a message in one packet was taken
-pub keeps_message : (from : Life) (number : MsgNo) (tag : Option ℕ) (opt : Opt) (bytes : List ℕ) (log : List Deed) (v : EndpointView)
-    → IsEager v.own (eager from number tag opt bytes ∷ log) → Keeps log v → Keeps (eager from number tag opt bytes ∷ log) (after_take from (Spelled (Rtm number tag opt (Eager bytes))) v)
+pub keeps_message : (from : Life) (number : MsgNo) (tag : Option ℕ) (confirm : Bool) (opt : Opt) (bytes : List ℕ) (log : List Deed) (v : EndpointView)
+    → IsEager v.own (eager from number tag confirm opt bytes ∷ log) → Keeps log v → Keeps (eager from number tag confirm opt bytes ∷ log) (after_take from (Spelled (Rtm number tag confirm opt (Eager bytes))) v)
 unfolding after_take with_item with_message with_next with_ahead after_arrivals
-keeps_message from number tag opt bytes log v g keeps =
+keeps_message from number tag confirm opt bytes log v g keeps =
     let k = kept_of log v keeps in
     let own = v.own in
     let first = own.limits.first in
-    let d = eager from number tag opt bytes in
-    let i = inbound from number.0 tag opt bytes in
+    let d = eager from number tag confirm opt bytes in
+    let i = inbound from number.0 tag confirm opt bytes in
     let met = met_is from v in
     elim (cases_eq number.0 (next_of first v.peers from)) [
       | inl same ↦
           let q : (number.0 == next_of first v.peers from) ≡ true = eq-eqb number.0 (next_of first v.peers from) same in
           let c : ComesNext own log v.peers v.arrived v.held from number = record { kept = k.held; is_next = same } in
-          let told = entering_told from number tag opt bytes log v g k in
+          let told = entering_told from number tag confirm opt bytes log v g k in
           let count = suc (length (following (length v.held) v.held from (number.0 + 1))) in
           let peers = greeted_peers from v.peers in
-          rw (q, met) (message_kept from number tag opt bytes log v (entering_by i v.held) (next_peers from number v.peers v.held) (left_by i v.held) g k (record {
-            arriving_are = arriving_next own log v.peers v.arrived v.held from number tag opt bytes c (λ j m. ap (λ (h : Head). h.tag) (told_heard first (d ∷ log) j (told j m)).0);
+          rw (q, met) (message_kept from number tag confirm opt bytes log v (entering_by i v.held) (next_peers from number v.peers v.held) (left_by i v.held) g k (record {
+            arriving_are = arriving_next own log v.peers v.arrived v.held from number tag confirm opt bytes c (λ j m. ap (λ (h : Head). h.tag) (told_heard first (d ∷ log) j (told j m)).0);
             told = told;
             greeted = λ life. peer_kept (λ p. p.greeted) (entered_peer count) from peers life (λ p. refl) (λ p. refl);
             known = λ life. peer_kept (λ p. p.known) (entered_peer count) from peers life (λ p. refl) (λ p. refl) ∙ known_met from v.peers life;
             sent = λ life. peer_kept (λ p. p.sent) (entered_peer count) from peers life (λ p. refl) (λ p. refl) ∙ sent_met from v.peers life;
-            held = held_next from number tag opt bytes log v g k c;
+            held = held_next from number tag confirm opt bytes log v g k c;
           }))
       | inr other ↦
           let q : (number.0 == next_of first v.peers from) ≡ false = ne_eqb number.0 (next_of first v.peers from) other in
-          rw (q, met) (message_kept from number tag opt bytes log v [] (greeted_peers from v.peers) (v.held ++ i ∷ []) g k (record {
-            arriving_are = arriving_ahead own log v.peers v.arrived v.held from number tag opt bytes k.held other;
+          rw (q, met) (message_kept from number tag confirm opt bytes log v [] (greeted_peers from v.peers) (v.held ++ i ∷ []) g k (record {
+            arriving_are = arriving_ahead own log v.peers v.arrived v.held from number tag confirm opt bytes k.held other;
             told = λ j m. elim m [ ];
             greeted = λ life. refl;
             known = known_met from v.peers;
             sent = sent_met from v.peers;
-            held = held_ahead from number tag opt bytes log v g k other;
+            held = held_ahead from number tag confirm opt bytes log v g k other;
           }))
     ]
 
 -- after a handshake was taken, of a life of which nothing was known
-pub keeps_handshake : (from : Life) (words : List ℕ) (connid : Connid) (log : List Deed) (v : EndpointView) → IsEager v.own log → (peer_in v.peers from).known ≡ None
-    → Keeps log v → Keeps (Took from (Spelled (Handshake words connid)) ∷ log) (after_take from (Spelled (Handshake words connid)) v)
+pub keeps_handshake : (from : Life) (words : List ℕ) (connid : Connid) (raw : Option PortNo) (log : List Deed) (v : EndpointView) → IsEager v.own log → (peer_in v.peers from).known ≡ None
+    → Keeps log v → Keeps (Took from (Spelled (Handshake words connid raw)) ∷ log) (after_take from (Spelled (Handshake words connid raw)) v)
 unfolding after_take with_item region_by is_poll known_by
-keeps_handshake from words connid log v h none keeps =
+keeps_handshake from words connid raw log v h none keeps =
     let k = kept_of log v keeps in
     let own = v.own in
-    let item = Spelled (Handshake words connid) in
+    let item = Spelled (Handshake words connid raw) in
     let d = Took from item in
     let g : IsEager own (d ∷ log) = (h, tt) in
     let word = slice_get words 0 in

@@ -4,6 +4,7 @@ pub mod PeersLemmas
 pub mod SendingLemmas
 pub mod SoundLemmas
 pub mod RegionLemmas
+pub mod PartsLemmas
 pub mod Landing
 pub mod MeetingLemmas
 pub mod Follows

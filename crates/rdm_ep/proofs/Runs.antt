@@ -1,5 +1,5 @@
 -- The messages that enter by one that came are those that the definitions let arrive.
-use Rattle.std.proofs.Common.{◌≡◌, ℕ, zero, suc, ◌+◌, ◌-◌, ◌≤◌, true, false, List, [], ◌∷◌, ◌++◌, map, length, Option, Some, None, refl, arith, inl, inr, ap, ◌∙◌, sym, subst}
+use Rattle.std.proofs.Common.{Bool, ◌≡◌, ℕ, zero, suc, ◌+◌, ◌-◌, ◌≤◌, true, false, List, [], ◌∷◌, ◌++◌, map, length, Option, Some, None, refl, arith, inl, inr, ap, ◌∙◌, sym, subst}
 use Rattle.std.proofs.Math.Bool.{or-true}
 use Rattle.std.specs.Prelude.{◌==◌, ◌&&◌, ◌||◌, nat_le, nat_lt, is_some}
 use Rattle.std.specs.Bool.{then_some}
@@ -31,16 +31,16 @@ use Rattle.rdm_ep.proofs.Groups.{next_of, held_of, HeldKept}
 use Rattle.rdm_num.proofs.Lives.{same_life-true, same_life-refl}
 
 -- the deed of a message in one packet
-abbrev pub eager : Life → MsgNo → Option ℕ → Opt → List ℕ → Deed
-eager from number tag opt bytes = Took from (Spelled (Rtm number tag opt (Eager bytes)))
+abbrev pub eager : Life → MsgNo → Option ℕ → Bool → Opt → List ℕ → Deed
+eager from number tag confirm opt bytes = Took from (Spelled (Rtm number tag confirm opt (Eager bytes)))
 
 -- one message more was heard of
-pub heard_with : (log : List Deed) (from : Life) (number : MsgNo) (tag : Option ℕ) (opt : Opt) (bytes : List ℕ) (life : Life) (n : ℕ)
-    → is_heard (eager from number tag opt bytes ∷ log) life n ≡ (is_heard log life n || (same_life from life && number.0 == n))
+pub heard_with : (log : List Deed) (from : Life) (number : MsgNo) (tag : Option ℕ) (confirm : Bool) (opt : Opt) (bytes : List ℕ) (life : Life) (n : ℕ)
+    → is_heard (eager from number tag confirm opt bytes ∷ log) life n ≡ (is_heard log life n || (same_life from life && number.0 == n))
 unfolding is_heard heard_head head_by or_else
-heard_with log from number tag opt bytes life n =
-    elim (heard_head log life n) as (λ o. is_some (or_else o (then_some (same_life from life && number.0 == n) (head_of tag opt (Eager bytes)))) ≡ (is_some o || (same_life from life && number.0 == n))) [
-      | None ↦ elim (same_life from life && number.0 == n) as (λ b. is_some (then_some b (head_of tag opt (Eager bytes))) ≡ b) [ true ↦ refl | false ↦ refl ]
+heard_with log from number tag confirm opt bytes life n =
+    elim (heard_head log life n) as (λ o. is_some (or_else o (then_some (same_life from life && number.0 == n) (head_of tag confirm opt (Eager bytes)))) ≡ (is_some o || (same_life from life && number.0 == n))) [
+      | None ↦ elim (same_life from life && number.0 == n) as (λ b. is_some (then_some b (head_of tag confirm opt (Eager bytes))) ≡ b) [ true ↦ refl | false ↦ refl ]
       | Some x ↦ refl
     ]
 
@@ -109,11 +109,11 @@ abbrev pub number_after : List Inbound → Life → MsgNo → ℕ
 number_after held from number = number.0 + 1 + length (following (length held) held from (number.0 + 1))
 
 -- the next number then
-pub next_then : (own : Own) (log : List Deed) (peers : List Peer) (arrived held : List Inbound) (from : Life) (number : MsgNo) (tag : Option ℕ) (opt : Opt) (bytes : List ℕ)
-    → ComesNext own log peers arrived held from number → IsNext own.limits.first (eager from number tag opt bytes ∷ log) from (number_after held from number)
-next_then own log peers arrived held from number tag opt bytes c =
+pub next_then : (own : Own) (log : List Deed) (peers : List Peer) (arrived held : List Inbound) (from : Life) (number : MsgNo) (tag : Option ℕ) (confirm : Bool) (opt : Opt) (bytes : List ℕ)
+    → ComesNext own log peers arrived held from number → IsNext own.limits.first (eager from number tag confirm opt bytes ∷ log) from (number_after held from number)
+next_then own log peers arrived held from number tag confirm opt bytes c =
     let first = own.limits.first in
-    let d = eager from number tag opt bytes in
+    let d = eager from number tag confirm opt bytes in
     let k = c.kept in
     let e = c.is_next in
     let was = next_kept own log peers arrived held from k in
@@ -126,7 +126,7 @@ next_then own log peers arrived held from number tag opt bytes c =
           | inl same ↦
               let q : (number.0 == n) ≡ true = eq-eqb number.0 n same in
               let s = same_life-refl from in
-              heard_with log from number tag opt bytes from n ∙ (rw (s, q) (or-true (is_heard log from n)))
+              heard_with log from number tag confirm opt bytes from n ∙ (rw (s, q) (or-true (is_heard log from n)))
           | inr other ↦
               let z : number.0 + 1 + (n - (number.0 + 1)) ≡ n = omega arith in
               let h = following_any (length held) held from (number.0 + 1) (n - (number.0 + 1)) (omega arith) in
@@ -139,51 +139,51 @@ next_then own log peers arrived held from number tag opt bytes c =
           let b = following_ends (length held) held from (number.0 + 1) (omega arith) in
           let q : (number.0 == n) ≡ false = ne_eqb number.0 n (λ x. omega arith) in
           let s = same_life-refl from in
-          heard_with log from number tag opt bytes from n ∙ (rw (a, b, s, q) refl);
+          heard_with log from number tag confirm opt bytes from n ∙ (rw (a, b, s, q) refl);
     }
 
 -- the numbers that enter by a message that is next
-pub entering_next : (own : Own) (log : List Deed) (peers : List Peer) (arrived held : List Inbound) (from : Life) (number : MsgNo) (tag : Option ℕ) (opt : Opt) (bytes : List ℕ)
+pub entering_next : (own : Own) (log : List Deed) (peers : List Peer) (arrived held : List Inbound) (from : Life) (number : MsgNo) (tag : Option ℕ) (confirm : Bool) (opt : Opt) (bytes : List ℕ)
     → ComesNext own log peers arrived held from number
-    → entering own.limits.first (eager from number tag opt bytes) log from ≡ map (λ k. next_of own.limits.first peers from + k) (below (length (entering_by (inbound from number.0 tag opt bytes) held)))
-entering_next own log peers arrived held from number tag opt bytes c =
+    → entering own.limits.first (eager from number tag confirm opt bytes) log from ≡ map (λ k. next_of own.limits.first peers from + k) (below (length (entering_by (inbound from number.0 tag confirm opt bytes) held)))
+entering_next own log peers arrived held from number tag confirm opt bytes c =
     let first = own.limits.first in
-    let d = eager from number tag opt bytes in
+    let d = eager from number tag confirm opt bytes in
     let k = c.kept in
     let e = c.is_next in
     let was = next_kept own log peers arrived held from k in
-    let now = next_then own log peers arrived held from number tag opt bytes c in
+    let now = next_then own log peers arrived held from number tag confirm opt bytes c in
     let next = next_of first peers from in
     let w = k.within from in
     let n = following_count (length held) held from (number.0 + 1) in
-    let is = entering_by (inbound from number.0 tag opt bytes) held in
+    let is = entering_by (inbound from number.0 tag confirm opt bytes) held in
     let size : number_after held from number - next ≡ length is = omega arith in
     entering_is first d log from next (number_after held from number) was now (omega arith) (omega arith) ∙ ap (λ x. map (λ k. next + k) (below x)) size
 
 -- the messages that arrive are those that enter
-pub arriving_next : (own : Own) (log : List Deed) (peers : List Peer) (arrived held : List Inbound) (from : Life) (number : MsgNo) (tag : Option ℕ) (opt : Opt) (bytes : List ℕ)
+pub arriving_next : (own : Own) (log : List Deed) (peers : List Peer) (arrived held : List Inbound) (from : Life) (number : MsgNo) (tag : Option ℕ) (confirm : Bool) (opt : Opt) (bytes : List ℕ)
     → ComesNext own log peers arrived held from number
-    → ((j : Inbound) → Member j (entering_by (inbound from number.0 tag opt bytes) held) → (heads_by (eager from number tag opt bytes ∷ log) j.life j.no.0).tag ≡ j.tag)
-    → arriving own (eager from number tag opt bytes) log ≡ map arrived_message (entering_by (inbound from number.0 tag opt bytes) held)
+    → ((j : Inbound) → Member j (entering_by (inbound from number.0 tag confirm opt bytes) held) → (heads_by (eager from number tag confirm opt bytes ∷ log) j.life j.no.0).tag ≡ j.tag)
+    → arriving own (eager from number tag confirm opt bytes) log ≡ map arrived_message (entering_by (inbound from number.0 tag confirm opt bytes) held)
 unfolding arriving
-arriving_next own log peers arrived held from number tag opt bytes c t =
-    let d = eager from number tag opt bytes in
+arriving_next own log peers arrived held from number tag confirm opt bytes c t =
+    let d = eager from number tag confirm opt bytes in
     let e = c.is_next in
     let next = next_of own.limits.first peers from in
-    let is = entering_by (inbound from number.0 tag opt bytes) held in
+    let is = entering_by (inbound from number.0 tag confirm opt bytes) held in
     let s = same_life-refl from in
     let q : (number.0 == next) ≡ true = eq-eqb number.0 next e in
     let run : InRun from next is = (and_from (same_life from from) (number.0 == next) s q, subst (λ (x : ℕ). InRun from (x + 1) (following (length held) held from (number.0 + 1))) e (following_run (length held) held from (number.0 + 1))) in
-    ap (map (message_by (heads_by (d ∷ log)) from)) (entering_next own log peers arrived held from number tag opt bytes c)
+    ap (map (message_by (heads_by (d ∷ log)) from)) (entering_next own log peers arrived held from number tag confirm opt bytes c)
     ∙ run_messages (heads_by (d ∷ log)) from next is run t
 
 -- no number enters by a message that is not next
-pub entering_ahead : (own : Own) (log : List Deed) (peers : List Peer) (arrived held : List Inbound) (from : Life) (number : MsgNo) (tag : Option ℕ) (opt : Opt) (bytes : List ℕ)
-    → HeldKept own log peers arrived held → (number.0 ≡ next_of own.limits.first peers from → ⊥) → entering own.limits.first (eager from number tag opt bytes) log from ≡ []
+pub entering_ahead : (own : Own) (log : List Deed) (peers : List Peer) (arrived held : List Inbound) (from : Life) (number : MsgNo) (tag : Option ℕ) (confirm : Bool) (opt : Opt) (bytes : List ℕ)
+    → HeldKept own log peers arrived held → (number.0 ≡ next_of own.limits.first peers from → ⊥) → entering own.limits.first (eager from number tag confirm opt bytes) log from ≡ []
 unfolding below
-entering_ahead own log peers arrived held from number tag opt bytes k other =
+entering_ahead own log peers arrived held from number tag confirm opt bytes k other =
     let first = own.limits.first in
-    let d = eager from number tag opt bytes in
+    let d = eager from number tag confirm opt bytes in
     let next = next_of first peers from in
     let was = next_kept own log peers arrived held from k in
     let q : (number.0 == next) ≡ false = ne_eqb number.0 next other in
@@ -193,15 +193,15 @@ entering_ahead own log peers arrived held from number tag opt bytes k other =
     record {
       from = was.from;
       below = λ n low less. heard_stays d log from n (was.below n low less);
-      at = heard_with log from number tag opt bytes from next ∙ (rw (a, s, q) refl);
+      at = heard_with log from number tag confirm opt bytes from next ∙ (rw (a, s, q) refl);
     } in
     let w = k.within from in
     let z : next - next ≡ 0 = omega arith in
     entering_is first d log from next next was now (omega arith) (omega arith) ∙ ap (λ x. map (λ k. next + k) (below x)) z
 
 -- so none arrives
-pub arriving_ahead : (own : Own) (log : List Deed) (peers : List Peer) (arrived held : List Inbound) (from : Life) (number : MsgNo) (tag : Option ℕ) (opt : Opt) (bytes : List ℕ)
-    → HeldKept own log peers arrived held → (number.0 ≡ next_of own.limits.first peers from → ⊥) → arriving own (eager from number tag opt bytes) log ≡ []
+pub arriving_ahead : (own : Own) (log : List Deed) (peers : List Peer) (arrived held : List Inbound) (from : Life) (number : MsgNo) (tag : Option ℕ) (confirm : Bool) (opt : Opt) (bytes : List ℕ)
+    → HeldKept own log peers arrived held → (number.0 ≡ next_of own.limits.first peers from → ⊥) → arriving own (eager from number tag confirm opt bytes) log ≡ []
 unfolding arriving
-arriving_ahead own log peers arrived held from number tag opt bytes k other =
-    ap (map (message_by (heads_by (eager from number tag opt bytes ∷ log)) from)) (entering_ahead own log peers arrived held from number tag opt bytes k other)
+arriving_ahead own log peers arrived held from number tag confirm opt bytes k other =
+    ap (map (message_by (heads_by (eager from number tag confirm opt bytes ∷ log)) from)) (entering_ahead own log peers arrived held from number tag confirm opt bytes k other)

@@ -1,9 +1,9 @@
 -- An accepted send as the endpoint keeps it.
-use Rattle.std.proofs.Common.{◌≡◌, ℕ, ◌+◌, List, [], ◌∷◌, ◌++◌, get_or, take, drop, Some, refl}
+use Rattle.std.proofs.Common.{◌≡◌, ℕ, ◌+◌, List, [], ◌∷◌, ◌++◌, Some, refl}
 use Rattle.rdm_num.specs.declared.request.SendReq.{SendReq}
 use Rattle.rdm_pkt.specs.declared.Packet.TheVariants.{Rtm}
 use Rattle.rdm_pkt.specs.declared.Form.TheVariants.{Eager}
-use Rattle.rdm_model.specs.Sends.{wants_raw, opt_for, range_of}
+use Rattle.rdm_model.specs.Sends.{wants_raw, opt_for, bytes_of}
 use Rattle.rdm_ep.specs.declared.state.Peer.{Peer}
 use Rattle.rdm_ep.specs.declared.state.Outbound.{Outbound}
 use Rattle.rdm_ep.specs.declared.state.AcceptedSend.{AcceptedSend}
@@ -14,11 +14,11 @@ use Rattle.rdm_ep.proofs.PeersLemmas.{with_peer_put}
 
 -- the send with the packet that the code makes is the one that the endpoint is to keep
 pub outbound_made : (v : EndpointView) (req : SendReq) (a : AcceptedSend) (bytes : List ℕ) → v.own.limits.first + (peer_in v.peers a.to).sent ≡ a.msg.0
-    → bytes ≡ take req.len (drop req.at (get_or v.regions req.region.0 []))
+    → bytes ≡ bytes_of v.regions req.parts
     → ◌≡◌ {A = Outbound}
-    (record { number = record { 0 = v.sends }; to = a.to; req = req; packet = Rtm a.msg req.tag (opt_for v.own.life (wants_raw (peer_in v.peers a.to).known) req.cq_data) (Eager bytes) })
+    (record { number = record { 0 = v.sends }; to = a.to; req = req; packet = Rtm a.msg req.tag req.confirm (opt_for v.own.life (wants_raw (peer_in v.peers a.to).known) req.cq_data) (Eager bytes) })
     (outbound v req a.to)
-unfolding outbound number_to range_of
+unfolding outbound number_to
 outbound_made v req a bytes n b = rw (n, b) refl
 
 -- the endpoint with the life's count one more and the send last is the one after the send

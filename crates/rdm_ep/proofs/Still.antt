@@ -63,7 +63,7 @@ SendsNothing _ = Unit {0}
 abbrev pub MeetsNothing : Deed → Type 0
 MeetsNothing (Did (Recv req)) = ⊥
 MeetsNothing (Did (Cancel recv)) = ⊥
-MeetsNothing (Took from (Spelled (Rtm number tag opt form))) = ⊥
+MeetsNothing (Took from (Spelled (Rtm number tag confirm opt form))) = ⊥
 MeetsNothing _ = Unit {0}
 
 -- the deed neither takes a datagram nor pushes
@@ -122,13 +122,13 @@ and_not_self false = refl
 -- an item that is no message tells of none
 silent_item : (from : Life) (item : Item) → MeetsNothing (Took from item) → (life : Life) (n : ℕ) → head_by life n (Took from item) ≡ None
 unfolding head_by
-silent_item from (Spelled (Rtm number tag opt form)) h life n = elim h [ ]
+silent_item from (Spelled (Rtm number tag confirm opt form)) h life n = elim h [ ]
 silent_item from item h life n = refl
 
 -- and names none
 unnamed_item : (before : List Deed) (from : Life) (item : Item) → MeetsNothing (Took from item) → named_by before (Took from item) ≡ []
 unfolding named_by
-unnamed_item before from (Spelled (Rtm number tag opt form)) h = elim h [ ]
+unnamed_item before from (Spelled (Rtm number tag confirm opt form)) h = elim h [ ]
 unnamed_item before from item h = refl
 
 -- a deed that tells of no message lets none enter
@@ -150,7 +150,7 @@ pub unmet : (own : Own) (d : Deed) (before : List Deed) → MeetsNothing d
 unfolding event_of arriving receives with_received received_by live_after live_arrivals head_by named_by
 unmet own (Did (Recv req)) before n = elim n [ ]
 unmet own (Did (Cancel recv)) before n = elim n [ ]
-unmet own (Took from (Spelled (Rtm number tag opt form))) before n = elim n [ ]
+unmet own (Took from (Spelled (Rtm number tag confirm opt form))) before n = elim n [ ]
 unmet own (Took from item) before n =
     let e = none_enter own.limits.first (Took from item) before from (silent_item from item n) in
     (rw e refl, append-nil (receives before), λ live m. rw e refl, silent_item from item n, unnamed_item before from item n)

@@ -50,13 +50,13 @@ unheard before from source k n s e h =
 pub tells_or_silent : (own : Own) (before : List Deed) (ps : List Pair) (source : Life) (n : ℕ) (d : Deed) → IsEagerDeed own before d
     → Tells own before ps source n d ⊎ IsSilent ps source n d
 unfolding head_by carried_by piece_by head_of shape_of size_of piece_of
-tells_or_silent own before ps source n (Took from (Spelled (Rtm number tag opt (Eager bytes)))) h =
+tells_or_silent own before ps source n (Took from (Spelled (Rtm number tag confirm opt (Eager bytes)))) h =
     (elim (same_life from source) as (λ b. same_life from source ≡ b →
-    Tells own before ps source n (Took from (Spelled (Rtm number tag opt (Eager bytes)))) ⊎ IsSilent ps source n (Took from (Spelled (Rtm number tag opt (Eager bytes))))) [
+    Tells own before ps source n (Took from (Spelled (Rtm number tag confirm opt (Eager bytes)))) ⊎ IsSilent ps source n (Took from (Spelled (Rtm number tag confirm opt (Eager bytes))))) [
       | true ↦ λ s. (elim (number.0 == n) as (λ b. (number.0 == n) ≡ b →
-          Tells own before ps source n (Took from (Spelled (Rtm number tag opt (Eager bytes)))) ⊎ IsSilent ps source n (Took from (Spelled (Rtm number tag opt (Eager bytes))))) [
+          Tells own before ps source n (Took from (Spelled (Rtm number tag confirm opt (Eager bytes)))) ⊎ IsSilent ps source n (Took from (Spelled (Rtm number tag confirm opt (Eager bytes))))) [
             | true ↦ λ e. inl (record {
-              head = head_of tag opt (Eager bytes);
+              head = head_of tag confirm opt (Eager bytes);
               bytes = bytes;
               is_new = unheard before from source number.0 n (same_life-true from source s) (eqb-true number.0 n e) h.1;
               told = rw (s, e) refl;
@@ -68,7 +68,7 @@ tells_or_silent own before ps source n (Took from (Spelled (Rtm number tag opt (
           ]) refl
       | false ↦ λ s. inr (record { told = rw s refl; carried = rw s refl })
     ]) refl
-tells_or_silent own before ps source n (Took from (Spelled (Handshake words connid))) h =
+tells_or_silent own before ps source n (Took from (Spelled (Handshake words connid raw))) h =
     inr (record { told = refl; carried = elim (same_life from source) as (λ b. cond {A = Option Piece} b None None ≡ None) [ true ↦ refl | false ↦ refl ] })
 tells_or_silent own before ps source n (Took from item) h = elim h [ ]
 tells_or_silent own before ps source n _ h = inr (record { told = refl; carried = refl })

@@ -2,6 +2,7 @@
 use Rattle.std.specs.Prelude.{◌≡◌, ◌<◌, ◌≤◌, ℕ, ◌+◌, IsTrue, List, [], length, get_or}
 use Rattle.rdm_lists.specs.Lists.{Member}
 use Rattle.rdm_pkt.specs.Grammar.{packet_fits}
+use Rattle.rdm_num.specs.declared.parts.Span.{Span}
 use Rattle.rdm_num.specs.declared.completion.Completion.{Completion}
 use Rattle.rdm_ep.specs.declared.state.Posted.{Posted}
 use Rattle.rdm_ep.specs.declared.state.Outbound.{Outbound}
@@ -13,6 +14,10 @@ pub record CountsFit (cq capacity sends receives polled : ℕ) (posted : List Po
   pub room : cq ≤ capacity
   pub few_sends : sends ≤ 4294967295
   pub few_receives : receives ≤ 4294967295
+
+-- a range lies in its region
+abbrev pub LiesIn : List (List ℕ) → Span → Type 0
+LiesIn regions s = (s.region.0 < length regions) × (s.at + s.len ≤ length (get_or regions s.region.0 []))
 
 -- a receive lies in its region
 abbrev pub IsInRange : List (List ℕ) → Posted → Type 0

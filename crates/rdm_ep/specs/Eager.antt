@@ -10,6 +10,7 @@ use Rattle.rdm_num.specs.declared.request.SendReq.{SendReq}
 use Rattle.rdm_model.specs.declared.job.Instr.{Instr}
 use Rattle.rdm_model.specs.declared.job.Instr.TheVariants.{OpenLife, Insert, Send, Cancel, CloseLife}
 use Rattle.rdm_model.specs.Owns.{Own}
+use Rattle.rdm_model.specs.Jobs.{spans_length}
 use Rattle.rdm_model.specs.Deeds.{Deed, Did, Took, Item, Spelled}
 use Rattle.rdm_model.specs.Currents.{forgotten_by}
 use Rattle.rdm_model.specs.Heard.{is_heard}
@@ -18,7 +19,7 @@ use Rattle.rdm_model.specs.Local.{heads_by}
 
 -- the message has room in one packet, whatever its headers
 abbrev pub FitsOnePacket : Own → SendReq → Type 0
-FitsOnePacket own req = (raw : Bool) → nat_le req.len (eager_room (is_some req.tag) (is_some req.cq_data) raw own.limits) ≡ true
+FitsOnePacket own req = (raw : Bool) → nat_le (spans_length req.parts) (eager_room (is_some req.tag) (is_some req.cq_data) raw own.limits) ≡ true
 
 -- an instruction that is built
 abbrev pub IsEagerInstr : Own → List Deed → Instr → Type 0
@@ -31,8 +32,8 @@ IsEagerInstr own before _ = Unit {0}
 
 -- a message in one packet that was not heard of, or a handshake
 abbrev pub IsEagerItem : Own → List Deed → Life → Item → Type 0
-IsEagerItem own before from (Spelled (Rtm number tag opt (Eager bytes))) = (own.limits.first ≤ number.0) × (is_heard before from number.0 ≡ false)
-IsEagerItem own before from (Spelled (Handshake words connid)) = Unit {0}
+IsEagerItem own before from (Spelled (Rtm number tag confirm opt (Eager bytes))) = (own.limits.first ≤ number.0) × (is_heard before from number.0 ≡ false)
+IsEagerItem own before from (Spelled (Handshake words connid raw)) = Unit {0}
 IsEagerItem own before from _ = ⊥
 
 -- a deed that is built

@@ -25,7 +25,7 @@ outgoing_out (o ∷ os) = Some (record { to = o.to; packet = o.packet })
 -- the next handshake, or else the next send's packet
 unfoldable pub out_by : EndpointView → List Life → Option Leaving
 out_by v [] = outgoing_out v.outgoing
-out_by v (life ∷ lives) = Some (record { to = life; packet = Handshake (v.own.features ∷ []) v.own.life.connid })
+out_by v (life ∷ lives) = Some (record { to = life; packet = Handshake (v.own.features ∷ []) v.own.life.connid None })
 
 -- what goes out next
 unfoldable pub out_of : EndpointView → Option Leaving

@@ -30,7 +30,7 @@ use Rattle.rdm_ep.specs.Entering.{next_in, is_message, is_held_in, with_message,
 
 -- what the packet of a message said of it
 abbrev pub inbound_head : Inbound → Head
-inbound_head i = record { tag = i.tag; cq_data = i.cq_data; length = length i.bytes; shape = S.Eager }
+inbound_head i = record { tag = i.tag; confirm = i.confirm; cq_data = i.cq_data; length = length i.bytes; shape = S.Eager }
 
 -- the message is one of these, and its packet said something else
 unfoldable pub is_other_message : List Inbound → Life → (number : ℕ) → Head → Bool
@@ -58,8 +58,8 @@ rtm_class v from number head form =
 
 -- the class of what only a live operation can take, or of a packet
 unfoldable pub load_class : EndpointView → Life → Item → Option Class
-load_class v from (Spelled (Rtm number tag opt form)) = rtm_class v from number.0 (head_of tag opt form) form
-load_class v from (Spelled (Handshake words connid)) = if is_some (peer_in v.peers from).known then Some Mismatch else None
+load_class v from (Spelled (Rtm number tag confirm opt form)) = rtm_class v from number.0 (head_of tag confirm opt form) form
+load_class v from (Spelled (Handshake words connid raw)) = if is_some (peer_in v.peers from).known then Some Mismatch else None
 load_class v from (Asks ask) = Some BadKey
 load_class v from _ = Some NoOp
 
@@ -75,8 +75,8 @@ item_class_in v from to item =
     (load_class v from item)
 
 -- the message with its bytes
-abbrev pub inbound : Life → (number : ℕ) → Option ℕ → Opt → List ℕ → Inbound
-inbound from number tag opt bytes = record { life = from; no = record { 0 = number }; tag = tag; cq_data = opt.cq_data; bytes = bytes }
+abbrev pub inbound : Life → (number : ℕ) → Option ℕ → (confirm : Bool) → Opt → List ℕ → Inbound
+inbound from number tag confirm opt bytes = record { life = from; no = record { 0 = number }; tag = tag; confirm = confirm; cq_data = opt.cq_data; bytes = bytes }
 
 -- a posted receive accepts the message
 unfoldable pub is_met_in : EndpointView → Inbound → Bool
@@ -92,12 +92,12 @@ enters_at_once v i = (i.no.0 == next_in v i.life) && is_met_in v i
 
 -- the message would wait, and as many wait as may
 unfoldable pub needs_place_in : EndpointView → Life → Item → Bool
-needs_place_in v from (Spelled (Rtm number tag opt (Eager bytes))) = not (enters_at_once v (inbound from number.0 tag opt bytes)) && early_is_full v
+needs_place_in v from (Spelled (Rtm number tag confirm opt (Eager bytes))) = not (enters_at_once v (inbound from number.0 tag confirm opt bytes)) && early_is_full v
 needs_place_in v from _ = false
 
 -- what a taken datagram answers: the numbers that enter by it
 unfoldable pub taken_in : EndpointView → Life → Item → HandleAnswer
-taken_in v from (Spelled (Rtm number tag opt (Eager bytes))) = Took (entered_by (number.0 == next_in v from) (inbound from number.0 tag opt bytes) v.held)
+taken_in v from (Spelled (Rtm number tag confirm opt (Eager bytes))) = Took (entered_by (number.0 == next_in v from) (inbound from number.0 tag confirm opt bytes) v.held)
 taken_in v from _ = Took None
 
 -- what a datagram answers, by its class
@@ -122,8 +122,8 @@ with_greeting from v =
 
 -- what was taken has its effect, where that number is the next one of its life
 unfoldable pub with_item : (next : ℕ) → Life → Item → EndpointView → EndpointView
-with_item next from (Spelled (Rtm number tag opt (Eager bytes))) v = with_message (number.0 == next) (inbound from number.0 tag opt bytes) v
-with_item next from (Spelled (Handshake words connid)) v = record v { peers = with_peer (known_peer (slice_get words 0)) from v.peers }
+with_item next from (Spelled (Rtm number tag confirm opt (Eager bytes))) v = with_message (number.0 == next) (inbound from number.0 tag confirm opt bytes) v
+with_item next from (Spelled (Handshake words connid raw)) v = record v { peers = with_peer (known_peer (slice_get words 0)) from v.peers }
 with_item next from _ v = v
 
 -- the endpoint after a datagram that was taken

@@ -1,5 +1,5 @@
 -- What an endpoint keeps of the deeds of its life.
-use Rattle.std.specs.Prelude.{◌≡◌, ◌≤◌, ◌+◌, ℕ, false, List, [], ◌∷◌, map, length, drop}
+use Rattle.std.specs.Prelude.{None, ◌≡◌, ◌≤◌, ◌+◌, ℕ, false, List, [], ◌∷◌, map, length, drop}
 use Rattle.std.specs.List.{list_any}
 use Rattle.rdm_lists.specs.Lists.{Member}
 use Rattle.rdm_num.specs.declared.numbers.Life.{Life}
@@ -38,7 +38,7 @@ outbound_of s = record { number = record { 0 = s.number }; to = s.to; req = s.re
 
 -- the handshake that is owed to a life
 abbrev pub greeting : Own → Life → Reply
-greeting own life = reply life (Spelled (Handshake (own.features ∷ []) own.life.connid))
+greeting own life = reply life (Spelled (Handshake (own.features ∷ []) own.life.connid None))
 
 -- the message that waits has the head and the bytes of that account
 abbrev pub IsToldBy : Messages → Inbound → Type 0

@@ -1,16 +1,17 @@
 -- What the calls that register, insert and send make of an endpoint.
-use Rattle.std.specs.Prelude.{◌≡◌, ◌<◌, ◌≤◌, ⊤, ℕ, ◌+◌, Bool, true, false, not, ◌&&◌, ◌==◌, nat_lt, nat_le, List, [], ◌∷◌, ◌++◌, length, get_or, Option, Some, None, is_none, Result, Ok, Err, if◌then◌else◌}
+use Rattle.std.specs.Prelude.{◌≡◌, ◌<◌, ⊤, ℕ, ◌+◌, Bool, true, false, not, ◌&&◌, ◌==◌, nat_lt, nat_le, List, [], ◌∷◌, ◌++◌, length, get_or, Option, Some, None, is_none, Result, Ok, Err, if◌then◌else◌}
 use Rattle.std.specs.List.{list_any}
 use Rattle.rdm_lists.specs.Lists.{first_case}
 use Rattle.rdm_num.specs.Pieces.{overlaps}
 use Rattle.rdm_num.specs.Lives.{same_life}
 use Rattle.rdm_num.specs.declared.numbers.Life.{Life}
+use Rattle.rdm_num.specs.declared.parts.Span.{Span}
 use Rattle.rdm_num.specs.declared.request.SendReq.{SendReq}
 use Rattle.rdm_pkt.specs.declared.Packet.TheVariants.{Rtm}
 use Rattle.rdm_pkt.specs.declared.Form.TheVariants.{Eager}
 use Rattle.rdm_model.specs.declared.answer.SendWhy.TheVariants as Why
 use Rattle.rdm_model.specs.declared.answer.PoolName.TheVariants as Pool
-use Rattle.rdm_model.specs.Sends.{wants_raw, opt_for, range_of}
+use Rattle.rdm_model.specs.Sends.{wants_raw, opt_for, bytes_of}
 use Rattle.rdm_ep.specs.declared.state.Posted.{Posted}
 use Rattle.rdm_ep.specs.declared.state.Outbound.{Outbound}
 use Rattle.rdm_ep.specs.declared.state.AcceptedSend.{AcceptedSend}
@@ -53,9 +54,22 @@ is_out_of_range v region at len = nat_lt (length (get_or v.regions region [])) (
 unfoldable pub meets_posted : EndpointView → (region at len : ℕ) → Bool
 meets_posted v region at len = list_any (λ (p : Posted). p.req.region.0 == region && overlaps at len p.req.at p.req.len) v.posted
 
--- the range shares a place with that of a send
+-- the range shares a place with one of a send
 unfoldable pub meets_outgoing : EndpointView → (region at len : ℕ) → Bool
-meets_outgoing v region at len = list_any (λ (o : Outbound). o.req.region.0 == region && overlaps at len o.req.at o.req.len) v.outgoing
+meets_outgoing v region at len =
+    list_any (λ (o : Outbound). list_any (λ (p : Span). p.region.0 == region && overlaps at len p.at p.len) o.req.parts) v.outgoing
+
+-- one of the ranges is of a region that was not registered
+unfoldable pub names_no_region : EndpointView → List Span → Bool
+names_no_region v parts = list_any (λ (p : Span). has_no_region v p.region.0) parts
+
+-- one of the ranges passes the end of its region
+unfoldable pub passes_an_end : EndpointView → List Span → Bool
+passes_an_end v parts = list_any (λ (p : Span). is_out_of_range v p.region.0 p.at p.len) parts
+
+-- one of the ranges shares a place with that of a receive
+unfoldable pub meets_a_receive : EndpointView → List Span → Bool
+meets_a_receive v parts = list_any (λ (p : Span). meets_posted v p.region.0 p.at p.len) parts
 
 -- the number of the next message to a life
 unfoldable pub number_to : EndpointView → Life → ℕ
@@ -75,14 +89,14 @@ has_no_number v (Some to) = nat_le 4294967296 (number_to v to)
 unfoldable pub cq_is_full : EndpointView → Bool
 cq_is_full v = nat_le v.own.limits.cq (cq_in v)
 
--- what a send answers
+-- what a send answers. Its ranges may meet each other and those of other sends, and no receive
 unfoldable pub send_answer : EndpointView → SendReq → SendAnswer
 send_answer v req =
     first_case
-    ((has_no_region v req.region.0, Refused Why.NoRegion)
-    ∷ (is_out_of_range v req.region.0 req.at req.len, Refused Why.Range)
+    ((names_no_region v req.parts, Refused Why.NoRegion)
+    ∷ (passes_an_end v req.parts, Refused Why.Range)
     ∷ (is_none (current_in v req.to.0), Refused Why.NoEntry)
-    ∷ (meets_posted v req.region.0 req.at req.len, Refused Why.Busy)
+    ∷ (meets_a_receive v req.parts, Refused Why.Busy)
     ∷ (has_no_number v (current_in v req.to.0), Refused Why.Numbers)
     ∷ (nat_le v.own.limits.tx (length v.outgoing), Again Pool.Tx)
     ∷ (cq_is_full v, Again Pool.Cq)
@@ -96,8 +110,8 @@ outbound v req to =
       number = record { 0 = v.sends };
       to = to;
       req = req;
-      packet = Rtm (record { 0 = number_to v to }) req.tag (opt_for v.own.life (wants_raw (peer_in v.peers to).known) req.cq_data)
-          (Eager (range_of v.regions req.region.0 req.at req.len));
+      packet = Rtm (record { 0 = number_to v to }) req.tag req.confirm (opt_for v.own.life (wants_raw (peer_in v.peers to).known) req.cq_data)
+          (Eager (bytes_of v.regions req.parts));
     }
 
 -- the endpoint after a send to a life
@@ -126,8 +140,8 @@ pub record CanSend (v : EndpointView) (req : SendReq) (a : AcceptedSend) : Type 
   pub answer : send_answer v req ≡ Did (record { 0 = v.sends }) a.msg
   pub current : current_in v req.to.0 ≡ Some a.to
   pub number : v.own.limits.first + (peer_in v.peers a.to).sent ≡ a.msg.0
-  pub region : req.region.0 < length v.regions
-  pub range : req.at + req.len ≤ length (get_or v.regions req.region.0 [])
+  pub regions : names_no_region v req.parts ≡ false
+  pub ranges : passes_an_end v req.parts ≡ false
   pub room : v.sends + v.receives < v.own.limits.cq + v.polled
 
 -- a send that was not accepted

@@ -22,8 +22,8 @@ use Rattle.rdm_ep.specs.Handling.{load_class, item_class_in, inbound, early_is_f
 
 -- what is taken: a message in one packet, or a handshake
 unfoldable pub accepted_of : Life → Item → Verdict
-accepted_of from (Spelled (Rtm number tag opt (Eager bytes))) = Message (inbound from number.0 tag opt bytes)
-accepted_of from (Spelled (Handshake words connid)) = Features (slice_get words 0)
+accepted_of from (Spelled (Rtm number tag confirm opt (Eager bytes))) = Message (inbound from number.0 tag confirm opt bytes)
+accepted_of from (Spelled (Handshake words connid raw)) = Features (slice_get words 0)
 accepted_of from _ = Refuse Malformed
 
 -- what has a class is refused

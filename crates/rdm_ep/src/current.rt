@@ -2,17 +2,8 @@
 ghost use Rattle.std.specs.Prelude.{◌≡◌, ◌==◌, find};
 ghost use Rattle.std.specs.List.{position_from};
 ghost use Rattle.rdm_ep.specs.Places.{IsPlace};
-ghost use Rattle.rdm_num.specs.Lives as Lives;
 
 use rdm_num::{Life, PortNo};
-
-/// The same port and identifier.
-#[tactic(auto, unfolding(rdm_num::specs::Lives::same_life))]
-pub fn is_same_life(a: Life, b: Life) -> bool
-    ensures { result ≡ Lives.same_life a b }
-{
-    a.port.0 == b.port.0 && a.connid.0 == b.connid.0
-}
 
 /// Searches for the current life of a port.
 fn search(currents: &[Life], port: PortNo) -> Option<usize>

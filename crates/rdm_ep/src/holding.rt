@@ -5,10 +5,9 @@ ghost use Rattle.rdm_ep.specs.Places.{IsPlace};
 ghost use Rattle.rdm_ep.specs.Entering as Entering;
 ghost use Rattle.rdm_ep.specs.Entering.{following, left_held};
 
-use crate::current::is_same_life;
 use crate::receiving::take_out;
 use crate::state::Inbound;
-use rdm_num::Life;
+use rdm_num::{Life, is_same_life};
 
 /// The message is that number of the life.
 pub fn is_message(inbound: &Inbound, from: Life, number: u64) -> bool

@@ -27,5 +27,6 @@ pub use answer::{
     CancelAnswer, HandleAnswer, InsertRefused, Inserted, Outgoing, RecvAnswer, SendAnswer,
 };
 pub use endpoint::Endpoint;
+pub use ranges::total_length;
 pub use state::{Inbound, Outbound, Peer, Posted};
 pub use twin::{Twin, TwinBytes};

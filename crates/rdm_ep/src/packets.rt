@@ -1,5 +1,5 @@
 //! The packets that an endpoint makes.
-ghost use Rattle.std.specs.Prelude.{◌≡◌, [], ◌∷◌, IfOk, IsTrue};
+ghost use Rattle.std.specs.Prelude.{◌≡◌, [], ◌∷◌, IfOk, IsTrue, None};
 ghost use Rattle.rdm_pkt.specs.Grammar.{packet_fits};
 ghost use Rattle.rdm_pkt.specs.declared.Packet.TheVariants as PacketKind;
 ghost use Rattle.rdm_pkt.specs.declared.Form.TheVariants as FormKind;
@@ -8,7 +8,7 @@ ghost use Rattle.rdm_ep.specs.Going.{outgoing_of};
 
 use crate::answer::Outgoing;
 use crate::peers::{opt_for, wants_raw};
-use rdm_num::{Bytes, Connid, Life, MsgNo, NoMemory, Words};
+use rdm_num::{Bytes, Connid, Life, MsgNo, NoMemory, SendReq, Words};
 use rdm_pkt::{Form, Packet};
 use rdm_wire::Load;
 use std::alloc::Global;
@@ -16,30 +16,28 @@ use std::alloc::Global;
 /// Tells a life these features.
 #[tactic(auto, unfolding(rdm_pkt::specs::Grammar::packet_fits))]
 pub fn handshake(alloc: Global, features: u64, connid: Connid) -> Result<Packet, NoMemory>
-    ensures packet { IfOk result (λ p. p ≡ PacketKind.Handshake (features ∷ []) connid) }
+    ensures packet { IfOk result (λ p. p ≡ PacketKind.Handshake (features ∷ []) connid None) }
     ensures fits { IfOk result (λ p. IsTrue (packet_fits p)) }
 {
     let words = Words::from_slice(alloc, &[features])?;
-    Ok(Packet::Handshake { words, connid })
+    Ok(Packet::Handshake {
+        words,
+        connid,
+        raw: None,
+    })
 }
 
 /// Carries a whole message from a life, to one of which this is known.
-#[tactic(auto, unfolding(rdm_pkt::specs::Grammar::packet_fits, rdm_pkt::specs::Grammar::opt_fits, rdm_pkt::specs::Grammar::form_fits))]
-pub fn eager(
-    life: Life,
-    known: Option<u64>,
-    no: MsgNo,
-    tag: Option<u64>,
-    cq_data: Option<u64>,
-    bytes: Bytes,
-) -> Packet
-    ensures packet { result ≡ PacketKind.Rtm no tag (Sends.opt_for life (Sends.wants_raw known) cq_data) (FormKind.Eager bytes) }
+#[tactic(auto, unfolding(rdm_pkt::specs::Grammar::packet_fits, rdm_pkt::specs::Grammar::confirm_fits, rdm_pkt::specs::Grammar::opt_fits, rdm_pkt::specs::Grammar::form_fits))]
+pub fn eager(life: Life, known: Option<u64>, no: MsgNo, request: &SendReq, bytes: Bytes) -> Packet
+    ensures packet { result ≡ PacketKind.Rtm no request.now.tag request.now.confirm (Sends.opt_for life (Sends.wants_raw known) request.now.cq_data) (FormKind.Eager bytes) }
     ensures fits { IsTrue (packet_fits result) }
 {
-    let opt = opt_for(life, wants_raw(known), cq_data);
+    let opt = opt_for(life, wants_raw(known), request.cq_data);
     Packet::Rtm {
         no,
-        tag,
+        tag: request.tag,
+        confirm: request.confirm,
         opt,
         form: Form::Eager { bytes },
     }

@@ -1,6 +1,8 @@
 //! Receives, and messages that meet them.
-ghost use Rattle.std.specs.Prelude.{◌≡◌, ◌⊎◌, ◌<◌, ◌≤◌, ◌+◌, ◌++◌, ◌∷◌, [], map, take, length, get_or, IfOk, OnOk, OnErr, MatchResult, Some, None, slice_get, remove, vec_len, vec_capacity};
-ghost use Rattle.std.specs.List.{position_from};
+ghost use Rattle.std.specs.Prelude.{◌≡◌, ◌⊎◌, ◌<◌, ◌≤◌, ◌+◌, ◌++◌, ◌∷◌, [], map, take, length, get_or, ◌==◌, ◌&&◌, IfOk, OnOk, OnErr, MatchResult, Some, None, slice_get, remove, vec_len, vec_capacity};
+ghost use Rattle.std.specs.List.{position_from, list_any};
+ghost use Rattle.rdm_num.specs.Pieces as Pieces;
+ghost use Rattle.rdm_num.specs.declared.parts.Span.{Span};
 ghost use Rattle.rdm_model.specs.Regions.{change_at, put};
 ghost use Rattle.rdm_ep.specs.Places.{IsPlace, IsPlaced};
 ghost use Rattle.rdm_ep.specs.Counts.{IsInRange};
@@ -17,7 +19,7 @@ use crate::state::{Inbound, Posted};
 use crate::twin::Twin;
 use rdm_match::{Arrived, PostedRecv, accepts};
 use rdm_model::{PoolName, RecvWhy};
-use rdm_num::{Life, NoMemory, PortNo, RecvNo, RecvReq, RegionNo};
+use rdm_num::{Life, NoMemory, PortNo, RecvNo, RecvReq, RegionNo, Span};
 
 /// The receive takes the message.
 #[tactic(auto, unfolding(crate::specs::Receiving::takes))]
@@ -141,15 +143,17 @@ impl Endpoint {
         }
     }
 
-    /// The range shares a place with that of a send.
+    /// The range shares a place with one of a send.
     #[tactic(auto, unfolding(crate::specs::Sending::meets_outgoing))]
     fn meets_outgoing(&self, region: RegionNo, at: u64, len: u64) -> bool
         ensures { result ≡ Sending.meets_outgoing self.now region.0 at len }
     {
-        self.outgoing.iter().any(|outbound| {
-            outbound.req.region.0 == region.0
-                && overlaps(at, len, outbound.req.at, outbound.req.len)
-        })
+        self.outgoing.iter().any(|outbound| meets_part(
+            outbound.req.parts.as_slice(),
+            region,
+            at,
+            len,
+        ))
     }
 
     /// The life that an accepted receive names, or why the receive is not accepted.
@@ -247,6 +251,13 @@ impl Endpoint {
         complete(&mut self.completions, completion_of(&posted, inbound));
         self.receives += 1;
     }
+}
+
+/// The range shares a place with one of these.
+fn meets_part(parts: &[Span], region: RegionNo, at: u64, len: u64) -> bool
+    ensures { result ≡ list_any (λ (p : Span). p.region.0 == region.0 && Pieces.overlaps at len p.at p.len) parts.now }
+{
+    parts.iter().any(|part| part.region.0 == region.0 && overlaps(at, len, part.at, part.len))
 }
 
 /// Takes out a message.

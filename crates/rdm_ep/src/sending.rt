@@ -4,14 +4,14 @@ ghost use Rattle.rdm_ep.specs.Sending as Sending;
 ghost use Rattle.rdm_ep.specs.Sending.{after_reg, after_send_to, InsertsAs, SendsAs, CanSend, IsNoSend, is_again};
 
 use crate::answer::{InsertRefused, Inserted, SendAnswer};
-use crate::current::{current_of, is_same_life};
+use crate::current::current_of;
 use crate::endpoint::Endpoint;
 use crate::packets::eager;
 use crate::peers::{peer_of, write_peer};
-use crate::ranges::{overlaps, passes_end, range, region_of};
+use crate::ranges::{gather, overlaps, passes_end, region_of};
 use crate::state::{AcceptedSend, Outbound, Peer};
 use rdm_model::{PoolName, SendWhy};
-use rdm_num::{Bytes, Life, MsgNo, NoMemory, RegionNo, SendNo, SendReq};
+use rdm_num::{Life, MsgNo, NoMemory, RegionNo, SendNo, SendReq, Span, is_same_life};
 use std::alloc::Global;
 
 impl Endpoint {
@@ -47,7 +47,7 @@ impl Endpoint {
         }
     }
 
-    /// Accepts a send or says why not. Its bytes are those that its range has now.
+    /// Accepts a send or says why not. Its bytes are those that its ranges have now.
     #[tactic(auto, unfolding(crate::specs::Sending::after_send))]
     pub fn send(&mut self, alloc: Global, s: &SendReq) -> SendAnswer
         requires { self.old.sends < 4294967295 }
@@ -92,20 +92,21 @@ impl Endpoint {
     }
 
     /// The life and the number of a send's message, or why the send is not accepted.
-    #[tactic(auto, unfolding(crate::specs::Sending::send_answer, crate::specs::Sending::has_no_region, crate::specs::Sending::is_out_of_range, crate::specs::Sending::meets_posted, crate::specs::Sending::has_no_number, crate::specs::Sending::number_to, crate::specs::Sending::number_to_current, crate::specs::Sending::cq_is_full, crate::specs::View::cq_in, crate::specs::View::current_in, rdm_lists::specs::Lists::first_case))]
+    #[tactic(auto, unfolding(crate::specs::Sending::send_answer, crate::specs::Sending::has_no_number, crate::specs::Sending::number_to, crate::specs::Sending::number_to_current, crate::specs::Sending::cq_is_full, crate::specs::View::cq_in, crate::specs::View::current_in, rdm_lists::specs::Lists::first_case))]
     fn check_send(&self, s: &SendReq) -> Result<AcceptedSend, SendAnswer>
         ensures { MatchResult result (λ a. CanSend self.now s.now a) (λ r. (r ≡ Sending.send_answer self.now s.now) × IsNoSend r) }
     {
-        let Some(region) = region_of(&self.regions, s.region) else {
+        let parts = s.parts.as_slice();
+        if self.names_no_region(parts) {
             return Err(SendAnswer::Refused(SendWhy::NoRegion));
-        };
-        if passes_end(region, s.at, s.len) {
+        }
+        if self.passes_an_end(parts) {
             return Err(SendAnswer::Refused(SendWhy::Range));
         }
         let Some(to) = current_of(&self.currents, s.to) else {
             return Err(SendAnswer::Refused(SendWhy::NoEntry));
         };
-        if self.meets_posted(s.region, s.at, s.len) {
+        if self.meets_a_receive(parts) {
             return Err(SendAnswer::Refused(SendWhy::Busy));
         }
         let number = u64::from(self.limits.first).saturating_add(peer_of(&self.peers, to).sent);
@@ -125,7 +126,7 @@ impl Endpoint {
     }
 
     /// Keeps an accepted send, with its packet.
-    #[tactic(auto, using(crate::proofs::PeersLemmas::with_peer_put), unfolding(crate::specs::Sending::after_send_to, crate::specs::Sending::outbound, crate::specs::Sending::number_to, rdm_model::specs::Sends::range_of))]
+    #[tactic(auto, using(crate::proofs::PeersLemmas::with_peer_put), unfolding(crate::specs::Sending::after_send_to, crate::specs::Sending::outbound, crate::specs::Sending::number_to))]
     fn accept_send(
         &mut self,
         alloc: Global,
@@ -140,23 +141,66 @@ impl Endpoint {
     {
         self.outgoing.reserve(1)?;
         self.peers.reserve(1)?;
-        let Some(region) = region_of(&self.regions, s.region) else {
-            unreachable!()
-        };
-        let bytes = Bytes::from_slice(alloc, range(region, s.at, s.len))?;
+        let req = s.clone()?;
+        let bytes = gather(alloc, &self.regions, &s.parts)?;
         let peer = peer_of(&self.peers, accepted.to);
-        let packet = eager(self.life, peer.known, accepted.msg, s.tag, s.cq_data, bytes);
+        let packet = eager(self.life, peer.known, accepted.msg, s, bytes);
         let number = SendNo(self.sends);
         let sent = peer.sent + 1;
         write_peer(&mut self.peers, accepted.to, Peer { sent, ..peer });
         self.outgoing.push_reserved(Outbound {
             number,
             to: accepted.to,
-            req: *s,
+            req,
             packet,
         });
         self.sends += 1;
         Ok(number)
+    }
+
+    /// One of the ranges is of a region that was not registered.
+    #[tactic(auto, unfolding(crate::specs::Sending::names_no_region))]
+    fn names_no_region(&self, parts: &[Span]) -> bool
+        ensures { result ≡ Sending.names_no_region self.now parts.now }
+    {
+        parts.iter().any(|part| self.has_no_region(part.region))
+    }
+
+    /// No region of that number was registered.
+    #[tactic(auto, unfolding(crate::specs::Sending::has_no_region))]
+    fn has_no_region(&self, region: RegionNo) -> bool
+        ensures { result ≡ Sending.has_no_region self.now region.0 }
+    {
+        self.regions.len() <= region.0 as usize
+    }
+
+    /// One of the ranges passes the end of its region.
+    #[tactic(auto, unfolding(crate::specs::Sending::passes_an_end))]
+    fn passes_an_end(&self, parts: &[Span]) -> bool
+        ensures { result ≡ Sending.passes_an_end self.now parts.now }
+    {
+        parts.iter().any(|part| self.is_out_of_range(part.region, part.at, part.len))
+    }
+
+    /// The range passes the end of its region.
+    #[tactic(auto, unfolding(crate::specs::Sending::is_out_of_range))]
+    fn is_out_of_range(&self, region: RegionNo, at: u64, len: u64) -> bool
+        ensures { result ≡ Sending.is_out_of_range self.now region.0 at len }
+    {
+        match region_of(&self.regions, region) {
+            Some(bytes) => passes_end(bytes, at, len),
+            None => passes_end(&[], at, len),
+        }
+    }
+
+    /// One of the ranges shares a place with that of a receive.
+    #[tactic(auto, unfolding(crate::specs::Sending::meets_a_receive))]
+    fn meets_a_receive(&self, parts: &[Span]) -> bool
+        ensures { result ≡ Sending.meets_a_receive self.now parts.now }
+    {
+        parts
+            .iter()
+            .any(|part| self.meets_posted(part.region, part.at, part.len))
     }
 
     /// The range shares a place with that of a receive.

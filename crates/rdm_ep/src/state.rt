@@ -33,6 +33,8 @@ pub struct Inbound {
     pub life: Life,
     pub no: MsgNo,
     pub tag: Option<u64>,
+    /// Whether its sender waits for a receipt.
+    pub confirm: bool,
     pub cq_data: Option<u64>,
     pub bytes: TwinBytes,
 }

@@ -3,9 +3,9 @@ ghost use Rattle.std.specs.Prelude.{◌≡◌, length};
 ghost use Rattle.rdm_ep.specs.View.{current_in, cq_in};
 ghost use Rattle.rdm_ep.specs.Sending as Sending;
 
-use crate::current::{current_of, is_same_life};
+use crate::current::current_of;
 use crate::endpoint::Endpoint;
-use rdm_num::{Connid, Life};
+use rdm_num::{Connid, Life, is_same_life};
 
 impl Endpoint {
     /// The identifier of its life.

@@ -1,7 +1,7 @@
 use crate::{CancelAnswer, HandleAnswer, Inserted, RecvAnswer, SendAnswer};
-use rdm_model::{Class, Entered};
+use rdm_model::{Class, Entered, RecvWhy, SendWhy};
 use rdm_num::{
-    Connid, EpLimits, Life, MsgNo, PortNo, RecvNo, RecvReq, RegionNo, SendNo, SendReq, Want,
+    Connid, EpLimits, Life, MsgNo, PortNo, RecvNo, RecvReq, RegionNo, SendNo, Span, Want,
 };
 use std::test::Fail;
 
@@ -56,6 +56,12 @@ const LIMITS: EpLimits = EpLimits {
     cq: 4,
 };
 
+/// The first send is accepted.
+const DID: SendAnswer = SendAnswer::Did {
+    send: SendNo(0),
+    msg: MsgNo(0),
+};
+
 /// The one message with the number 0 entered, and as many after it as are wanted.
 fn took(count: u64) -> HandleAnswer {
     HandleAnswer::Took(Some(Entered {
@@ -76,6 +82,15 @@ fn receive(at: u64, want: Option<Want>) -> RecvReq {
         at,
         len: 4,
         want,
+    }
+}
+
+/// A range of the first region.
+fn span(at: u64, len: u64) -> Span {
+    Span {
+        region: RegionNo(0),
+        at,
+        len,
     }
 }
 
@@ -156,29 +171,35 @@ fn a_receive_that_waits_is_cancelled_once(rt: HostRuntime) -> Result<(), Fail> {
 
 #[test]
 fn a_send_completes_when_it_is_pushed(rt: HostRuntime) -> Result<(), Fail> {
-    let request = SendReq {
-        to: PortNo(1),
-        region: RegionNo(0),
-        at: 0,
-        len: 5,
-        tag: Some(7),
-        cq_data: None,
-    };
-    let did = SendAnswer::Did {
-        send: SendNo(0),
-        msg: MsgNo(0),
-    };
+    let whole = [span(0, 5), span(5, 0)];
     let calls = [
         Call::Register(b"hello"),
         Call::Insert(ONE, Inserted::Inserted),
-        Call::WaitsSend(request, false),
-        Call::Send(request, did),
+        Call::WaitsSend(whole, false),
+        Call::Send(whole, DID),
         Call::Insert(ONE, Inserted::Same),
         Call::HasCompletion(false),
         Call::Out(ONE, &hello(5, 0)),
         Call::Sent,
         Call::Poll(Some(Ended::Sent)),
         Call::Poll(None),
+    ];
+    run(&rt, rt.alloc(), ZERO, &LIMITS, &calls)?;
+    Ok(())
+}
+
+#[test]
+fn a_send_has_the_bytes_of_its_ranges(rt: HostRuntime) -> Result<(), Fail> {
+    let (front, back) = (span(0, 2), span(8, 3));
+    let calls = [
+        Call::Register(b"lo______hel"),
+        Call::Insert(ONE, Inserted::Inserted),
+        Call::Recv(receive(4, None), RecvAnswer::Did(RecvNo(0))),
+        Call::Send([back, span(9, 3)], SendAnswer::Refused(SendWhy::Range)),
+        Call::Send([back, span(7, 1)], SendAnswer::Refused(SendWhy::Busy)),
+        Call::Send([back, front], DID),
+        Call::Recv(receive(0, None), RecvAnswer::Refused(RecvWhy::Busy)),
+        Call::Out(ONE, &hello(5, 0)),
     ];
     run(&rt, rt.alloc(), ZERO, &LIMITS, &calls)?;
     Ok(())

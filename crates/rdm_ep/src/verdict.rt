@@ -12,7 +12,7 @@ ghost use Rattle.rdm_ep.specs.Handling as Handling;
 ghost use Rattle.rdm_ep.specs.Handling.{rtm_class, inbound_head};
 ghost use Rattle.rdm_ep.specs.Verdicts.{verdict_in, known_verdict, verdict_of};
 
-use crate::current::{current_of, is_same_life};
+use crate::current::current_of;
 use crate::endpoint::Endpoint;
 use crate::holding::is_message;
 use crate::peers::peer_of;
@@ -20,7 +20,7 @@ use crate::state::{Inbound, Verdict};
 use crate::twin::TwinBytes;
 use rdm_hdr::Opt;
 use rdm_model::Class;
-use rdm_num::{Connid, Life, MsgNo, NoMemory};
+use rdm_num::{Connid, Life, MsgNo, NoMemory, PortNo, is_same_life};
 use rdm_pkt::{Form, Packet};
 use rdm_wire::Load;
 use std::alloc::Global;
@@ -75,15 +75,23 @@ impl Endpoint {
             return Ok(Verdict::Refuse(Class::Unknown));
         }
         match packet {
-            Packet::Rtm { no, tag, opt, form } => self.opening_verdict(from, no, tag, opt, form),
-            Packet::Handshake { words, connid: _ } => {
+            Packet::Rtm {
+                no,
+                tag,
+                confirm,
+                opt,
+                form,
+            } => self.opening_verdict(from, no, tag, confirm, opt, form),
+            Packet::Handshake { words, .. } => {
                 if peer_of(&self.peers, from).known.is_some() {
                     return Ok(Verdict::Refuse(Class::Mismatch));
                 }
                 Ok(Verdict::Features(words.as_slice().first().copied()))
             }
             Packet::CtsData { bytes: _bytes, .. } => Ok(Verdict::Refuse(Class::NoOp)),
-            Packet::Cts { .. } | Packet::Eor { .. } => Ok(Verdict::Refuse(Class::NoOp)),
+            Packet::Cts { .. } | Packet::Eor { .. } | Packet::Receipt { .. } => {
+                Ok(Verdict::Refuse(Class::NoOp))
+            }
         }
     }
 
@@ -94,13 +102,14 @@ impl Endpoint {
         from: Life,
         no: MsgNo,
         tag: Option<u64>,
+        confirm: bool,
         opt: Opt,
         form: Form,
     ) -> Result<Verdict, NoMemory>
-        ensures { IfOk result (λ r. r ≡ verdict_of from (Spelled (Rtm no tag opt form)) (rtm_class self.now from no.0 (head_of tag opt form) form)) }
+        ensures { IfOk result (λ r. r ≡ verdict_of from (Spelled (Rtm no tag confirm opt form)) (rtm_class self.now from no.0 (head_of tag confirm opt form) form)) }
     {
-        if is_other_message(&self.arrived, from, no, tag, &opt, &form)
-            || is_other_message(&self.held, from, no, tag, &opt, &form)
+        if is_other_message(&self.arrived, from, no, tag, confirm, &opt, &form)
+            || is_other_message(&self.held, from, no, tag, confirm, &opt, &form)
         {
             return Ok(Verdict::Refuse(Class::Mismatch));
         }
@@ -112,6 +121,7 @@ impl Endpoint {
                 life: from,
                 no,
                 tag,
+                confirm,
                 cq_data: opt.cq_data,
                 bytes: TwinBytes::copied(bytes)?,
             })),
@@ -153,24 +163,26 @@ fn is_other_message(
     from: Life,
     no: MsgNo,
     tag: Option<u64>,
+    confirm: bool,
     opt: &Opt,
     form: &Form,
 ) -> bool
-    ensures { result ≡ Handling.is_other_message messages.now from no.0 (head_of tag opt.now form.now) }
+    ensures { result ≡ Handling.is_other_message messages.now from no.0 (head_of tag confirm opt.now form.now) }
 {
     messages.iter().any(|inbound| {
-        is_message(inbound, from, no.0 as u64) && !has_head(inbound, tag, opt, form)
+        is_message(inbound, from, no.0 as u64) && !has_head(inbound, tag, confirm, opt, form)
     })
 }
 
 /// A message that waits is what the packet says of it.
-#[tactic(auto, unfolding(rdm_model::specs::Heads::same_head, rdm_model::specs::Heads::same_option, rdm_model::specs::Heads::same_shape, rdm_pkt::specs::Heads::head_of, rdm_pkt::specs::Heads::size_of, rdm_pkt::specs::Heads::shape_of))]
-fn has_head(inbound: &Inbound, tag: Option<u64>, opt: &Opt, form: &Form) -> bool
-    ensures { result ≡ same_head (inbound_head inbound.now) (head_of tag opt.now form.now) }
+#[tactic(auto, unfolding(rdm_model::specs::Heads::same_head, rdm_model::specs::Heads::same_truth, rdm_model::specs::Heads::same_option, rdm_model::specs::Heads::same_shape, rdm_pkt::specs::Heads::head_of, rdm_pkt::specs::Heads::size_of, rdm_pkt::specs::Heads::shape_of))]
+fn has_head(inbound: &Inbound, tag: Option<u64>, confirm: bool, opt: &Opt, form: &Form) -> bool
+    ensures { result ≡ same_head (inbound_head inbound.now) (head_of tag confirm opt.now form.now) }
 {
     match form {
         Form::Eager { bytes } => {
             same_option(inbound.tag, tag)
+                && inbound.confirm == confirm
                 && same_option(inbound.cq_data, opt.cq_data)
                 && inbound.bytes.len() == bytes.len()
         }
@@ -212,7 +224,21 @@ fn names_source(from: Life, packet: &Packet) -> bool
         Packet::Cts { connid, .. }
         | Packet::CtsData { connid, .. }
         | Packet::Eor { connid, .. }
-        | Packet::Handshake { connid, .. } => connid.0 == from.connid.0,
+        | Packet::Receipt { connid, .. } => connid.0 == from.connid.0,
+        Packet::Handshake { connid, raw, .. } => {
+            connid.0 == from.connid.0 && is_port_of(from, *raw)
+        }
+    }
+}
+
+/// No port, or that of the life.
+#[tactic(auto, unfolding(rdm_model::specs::Sources::is_port_of))]
+fn is_port_of(from: Life, raw: Option<PortNo>) -> bool
+    ensures { result ≡ Sources.is_port_of from raw }
+{
+    match raw {
+        Some(port) => port.0 == from.port.0,
+        None => true,
     }
 }
 
@@ -238,16 +264,15 @@ fn is_connid_of(from: Life, connid: Option<u32>) -> bool
     }
 }
 
-/// A packet that opens a message and has a raw address.
+/// A packet that opens a message or a handshake, with a raw address.
 #[tactic(auto, unfolding(rdm_model::specs::Sources::has_raw))]
 fn has_raw(packet: &Packet) -> bool
     ensures { result ≡ Sources.has_raw (Spelled packet.now) }
 {
     match packet {
         Packet::Rtm { opt, .. } => opt.raw.is_some(),
-        Packet::Cts { .. }
-        | Packet::CtsData { .. }
-        | Packet::Eor { .. }
-        | Packet::Handshake { .. } => false,
+        Packet::Handshake { raw, .. } => raw.is_some(),
+        Packet::Cts { .. } | Packet::CtsData { .. } | Packet::Eor { .. } | Packet::Receipt { .. } =>
+            false,
     }
 }

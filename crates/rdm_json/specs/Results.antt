@@ -53,5 +53,5 @@ GivesAs see (Ok x) said = said ≡ Ok (see x)
 GivesAs see (Err why) said = RefusedFor why said
 
 -- these, and then what was read
-abbrev pub with_front : {A : Type 0} → List A → Result (List A) BadScript → Result (List A) BadScript
+abbrev pub with_front : {A E : Type 0} → List A → Result (List A) E → Result (List A) E
 with_front front r = r >>= λ xs. Ok (front ++ xs)

@@ -2,11 +2,11 @@
 use Rattle.std.specs.Prelude.{ℕ, ◌^◌, Bool, true, false, ◌&&◌, ◌||◌, bytes_eq, nat_lt, ⊤, List, [], ◌∷◌, codes, Option, Some, None, option_map, option_and_then, Result, Ok}
 use Rattle.std.specs.List.{list_all}
 use Rattle.serde_json.specs.Data.{Data, Items, no_items, item, Members, no_members, member}
-use Rattle.serde_json.specs.Find.{get, as_number, as_u64, as_object, as_str, as_array}
+use Rattle.serde_json.specs.Find.{get, as_bool, as_number, as_u64, as_object, as_str, as_array}
 use Rattle.rdm_json.specs.declared.refusal.Reason.{Reason}
 use Rattle.rdm_json.specs.declared.refusal.Reason.TheVariants.{Shape}
 use Rattle.rdm_json.specs.declared.value.Form.{Form}
-use Rattle.rdm_json.specs.declared.value.Form.TheVariants.{Script, Pools, Rank, Open, Insert, RegText, RegHex, RegZero, RegFill, Send, Recv, Cancel, Note, Await, Wait, Close}
+use Rattle.rdm_json.specs.declared.value.Form.TheVariants.{Script, Pools, Rank, RankWithPools, OwnPools, Open, Insert, RegText, RegHex, RegZero, RegFill, Send, SendOfParts, Recv, Cancel, Note, Await, Wait, Close}
 use Rattle.rdm_json.specs.Results.{◌>>=◌, ◌>>◌, tested, present}
 
 -- a whole number below 2^64, written without sign, point and exponent
@@ -66,6 +66,15 @@ abbrev pub number_or : (default : ℕ) → Option Data → Result ℕ Reason
 number_or default None = Ok default
 number_or default (Some d) = number_of d
 
+-- a truth value that is false where it is absent
+abbrev pub set_if_there : Option Data → Result Bool Reason
+set_if_there None = Ok false
+set_if_there (Some d) = present Shape (as_bool d)
+
+-- whether a key that may be absent is there and true
+abbrev pub is_set : (key : List ℕ) → Data → Result Bool Reason
+is_set key d = set_if_there (get key d)
+
 -- the value at a key of an object that may be absent
 abbrev pub found_at : (key : List ℕ) → Option Data → Option Data
 found_at key found = option_and_then (get key) found
@@ -78,6 +87,8 @@ has_key Script k =
     || bytes_eq k (codes "choices")
 has_key Pools k = bytes_eq k (codes "tx") || bytes_eq k (codes "rx") || bytes_eq k (codes "early") || bytes_eq k (codes "cq") || bytes_eq k (codes "inbox")
 has_key Rank k = bytes_eq k (codes "ops") || bytes_eq k (codes "features")
+has_key RankWithPools k = bytes_eq k (codes "ops") || bytes_eq k (codes "features") || bytes_eq k (codes "pools")
+has_key OwnPools k = bytes_eq k (codes "tx") || bytes_eq k (codes "rx") || bytes_eq k (codes "early") || bytes_eq k (codes "cq")
 has_key Open k = bytes_eq k (codes "op") || bytes_eq k (codes "connid")
 has_key Insert k = bytes_eq k (codes "op") || bytes_eq k (codes "port") || bytes_eq k (codes "connid")
 has_key RegText k = bytes_eq k (codes "op") || bytes_eq k (codes "text")
@@ -86,7 +97,10 @@ has_key RegZero k = bytes_eq k (codes "op") || bytes_eq k (codes "zero")
 has_key RegFill k = bytes_eq k (codes "op") || bytes_eq k (codes "fill")
 has_key Send k =
     bytes_eq k (codes "op") || bytes_eq k (codes "to") || bytes_eq k (codes "region") || bytes_eq k (codes "at") || bytes_eq k (codes "len")
-    || bytes_eq k (codes "tag") || bytes_eq k (codes "data")
+    || bytes_eq k (codes "tag") || bytes_eq k (codes "data") || bytes_eq k (codes "confirm")
+has_key SendOfParts k =
+    bytes_eq k (codes "op") || bytes_eq k (codes "to") || bytes_eq k (codes "parts") || bytes_eq k (codes "tag") || bytes_eq k (codes "data")
+    || bytes_eq k (codes "confirm")
 has_key Recv k =
     bytes_eq k (codes "op") || bytes_eq k (codes "from") || bytes_eq k (codes "region") || bytes_eq k (codes "at") || bytes_eq k (codes "len")
     || bytes_eq k (codes "tag") || bytes_eq k (codes "ignore")

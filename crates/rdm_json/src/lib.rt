@@ -9,6 +9,6 @@ mod value;
 pub use place::{FieldName, Place};
 pub use refusal::{BadScript, Reason, ScriptRefused, placed};
 pub use value::{
-    Form, array, array_of, found_at, keys_known, known, number, number_of, number_or, optional,
-    present, text, text_of,
+    Form, array, array_of, found_at, is_set, keys_known, known, number, number_of, number_or,
+    optional, present, text, text_of,
 };

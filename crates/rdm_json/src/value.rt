@@ -15,6 +15,9 @@ pub enum Form {
     Script,
     Pools,
     Rank,
+    /// A rank that may have pools of its own.
+    RankWithPools,
+    OwnPools,
     Open,
     Insert,
     RegText,
@@ -22,6 +25,8 @@ pub enum Form {
     RegZero,
     RegFill,
     Send,
+    /// A send whose ranges stand in an array.
+    SendOfParts,
     Recv,
     Cancel,
     Note,
@@ -38,13 +43,21 @@ impl Form {
             Form::Script => is_script_key(key),
             Form::Pools => matches!(key, "tx" | "rx" | "early" | "cq" | "inbox"),
             Form::Rank => matches!(key, "ops" | "features"),
+            Form::RankWithPools => matches!(key, "ops" | "features" | "pools"),
+            Form::OwnPools => matches!(key, "tx" | "rx" | "early" | "cq"),
             Form::Open => matches!(key, "op" | "connid"),
             Form::Insert => matches!(key, "op" | "port" | "connid"),
             Form::RegText => matches!(key, "op" | "text"),
             Form::RegHex => matches!(key, "op" | "hex"),
             Form::RegZero => matches!(key, "op" | "zero"),
             Form::RegFill => matches!(key, "op" | "fill"),
-            Form::Send => matches!(key, "op" | "to" | "region" | "at" | "len" | "tag" | "data"),
+            Form::Send => matches!(
+                key,
+                "op" | "to" | "region" | "at" | "len" | "tag" | "data" | "confirm"
+            ),
+            Form::SendOfParts => {
+                matches!(key, "op" | "to" | "parts" | "tag" | "data" | "confirm")
+            }
             Form::Recv => matches!(
                 key,
                 "op" | "from" | "region" | "at" | "len" | "tag" | "ignore"
@@ -196,6 +209,19 @@ pub fn number_or(default: u64, found: Option<&Value>) -> Result<u64, Reason>
     match found {
         Some(value) => number_of(value),
         None => Ok(default),
+    }
+}
+
+/// Whether a key that may be absent is there and true.
+pub fn is_set(value: &Value, key: &str) -> Result<bool, Reason>
+    ensures { result ≡ Values.is_set key.now (view value.now) }
+{
+    match value.get(key) {
+        Some(found) => match found.as_bool() {
+            Some(set) => Ok(set),
+            None => Err(Reason::Shape),
+        },
+        None => Ok(false),
     }
 }
 

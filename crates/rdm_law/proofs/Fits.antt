@@ -5,8 +5,9 @@ pub mod SmallBytes
 pub mod RegionsFit
 pub mod RegionSizes
 pub mod AnswersFit
-pub mod SentFits
 pub mod PacketsFit
+pub mod Spans
+pub mod SentFits
 pub mod RepliesFit
 pub mod Headers
 pub mod OpeningsFit

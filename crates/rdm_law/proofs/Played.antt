@@ -24,3 +24,4 @@ pub mod PlaysRight
 pub mod JointWorlds
 pub mod Came
 pub mod Stopped
+pub mod Logs

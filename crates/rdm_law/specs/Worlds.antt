@@ -1,10 +1,12 @@
 -- What holds of worlds that have not ended, and of ports that stopped without a replay.
-use Rattle.std.specs.Prelude.{◌≡◌, ℕ, ◌<◌, Bool, IsTrue, List, slice_get, Some}
+use Rattle.std.specs.Prelude.{◌≡◌, ℕ, ◌<◌, Bool, IsTrue, List, [], ◌∷◌, slice_get, Some}
 use Rattle.rdm_lists.specs.Lists.{Member}
 use Rattle.rdm_wire.specs.declared.Datagram.{Datagram}
 use Rattle.rdm_model.specs.declared.job.Job.{Job}
 use Rattle.rdm_model.specs.declared.job.Choice.{Choice}
 use Rattle.rdm_model.specs.declared.entry.Entry.{Entry}
+use Rattle.rdm_model.specs.declared.entry.Act.{Act}
+use Rattle.rdm_model.specs.declared.entry.Act.TheVariants.{Handle}
 use Rattle.rdm_model.specs.declared.report.Report.{Report}
 use Rattle.rdm_model.specs.Owns.{port_count}
 use Rattle.rdm_model.specs.Classes.{class_of}
@@ -34,6 +36,27 @@ LawfulAfterRounds =
     → IsJoint (rounds count job (after_choices job new_world choices)).logs history
     → Lawful job history
 
+-- what the port handles was pushed to it by its source, at whatever time, and was not handled by it before
+abbrev pub WasPushed : (ℕ → List Entry) → ℕ → List Entry → Act → Type 0
+WasPushed logs port before (Handle d answer) = (d.dst.0 ≡ port) × PushedIn d (logs d.src.0) × IsUnhandled d before
+WasPushed logs port before _ = Unit {0}
+
+-- a log took what was pushed to its port, each datagram once, as from an inbox that all ports share
+abbrev pub TookOnce : (ℕ → List Entry) → ℕ → List Entry → Type 0
+TookOnce logs port [] = Unit {0}
+TookOnce logs port (e ∷ before) = TookOnce logs port before × WasPushed logs port before e.act
+
+-- Where each log is right by itself and took what was pushed to its port, each datagram once, the wire delivered in their
+-- joint history, and in a fair job it is lawful. Nothing is said of which log came first, nor of any order between logs.
+abbrev pub LogsAreDelivered : Type 0
+LogsAreDelivered =
+    (job : Job) (logs : ℕ → List Entry) (history : List Entry)
+    → IsTrue (is_fair law_ops job)
+    → IsJoint logs history
+    → ((port : ℕ) → Local job port (logs port))
+    → ((port : ℕ) → TookOnce logs port (logs port))
+    → IsDelivered logs history × Lawful job history
+
 -- the datagram was pushed to that port by its source, and the port did not handle it
 abbrev pub IsWaiting : (ℕ → List Entry) → ℕ → Datagram → Type 0
 IsWaiting logs port d = (d.dst.0 ≡ port) × PushedIn d (logs d.src.0) × IsUnhandled d (logs port)
@@ -62,5 +85,16 @@ StoppedIsRight =
     → IsReportOf job w report
     → IsDelivered w.logs report.history
     → ((port : ℕ) → Local job port (w.logs port))
+    → HasStopped job w
+    → RightReport job report
+
+-- So it is where each log took what was pushed to its port, each datagram once: what ranks on threads of their own leave.
+abbrev pub StoppedLogsAreRight : Type 0
+StoppedLogsAreRight =
+    (job : Job) (w : World) (report : Report)
+    → IsTrue (is_fair law_ops job)
+    → IsReportOf job w report
+    → ((port : ℕ) → Local job port (w.logs port))
+    → ((port : ℕ) → TookOnce w.logs port (w.logs port))
     → HasStopped job w
     → RightReport job report

@@ -4,6 +4,7 @@ use Rattle.rdm_lists.specs.Lists.{Member, without_first}
 use Rattle.std.specs.Prelude.{filter, flat_map, find, is_some}
 use Rattle.std.specs.List.{list_any}
 use Rattle.std.proofs.lemmas.Bool.{or_cases, or_left, or_right}
+use Rattle.rdm_lists.proofs.Bools.{or_false}
 
 -- an element of the first list is one of both in a row
 pub member-append_left : {A : Type 0} (x : A) (xs ys : List A) → Member x xs → Member x (xs ++ ys)
@@ -122,3 +123,9 @@ member_take zero xs x m = elim m [ ]
 member_take (suc n) [] x m = elim m [ ]
 member_take (suc n) (y ∷ ys) x (inl is) = inl is
 member_take (suc n) (y ∷ ys) x (inr m) = inr (member_take n ys x m)
+
+-- no element of a list passes a test that none passes
+pub list_any_false : {A : Type 0} (p : A → Bool) (xs : List A) → list_any p xs ≡ false → (x : A) → Member x xs → p x ≡ false
+list_any_false p [] h x m = elim m [ ]
+list_any_false p (y ∷ ys) h x (inl is) = subst (λ z. p z ≡ false) is (or_false (p y) (list_any p ys) h).0
+list_any_false p (y ∷ ys) h x (inr m) = list_any_false p ys (or_false (p y) (list_any p ys) h).1 x m

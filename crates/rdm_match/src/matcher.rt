@@ -7,7 +7,7 @@ ghost use Rattle.rdm_match.specs.Matcher as Plain;
 ghost use Rattle.rdm_match.specs.Waiting.{nothing_waits, waiting_after, taken_by, taker_of, is_posted, messages_of, receives_naming, CallsAreThePlainMatcher};
 
 use crate::{Arrived, ArrivedList, Forgotten, PostedList, PostedRecv, accepts};
-use rdm_num::{Life, NoMemory, RecvNo};
+use rdm_num::{Life, NoMemory, RecvNo, is_same_life};
 use std::alloc::Global;
 use std::marker::Model;
 
@@ -162,14 +162,6 @@ fn take_number(posted: &mut Vec<PostedRecv>, id: RecvNo) -> Option<PostedRecv>
     Some(posted.remove(at))
 }
 
-/// The same port and identifier.
-#[tactic(auto, unfolding(rdm_num::specs::Lives::same_life))]
-fn is_same(a: Life, b: Life) -> bool
-    ensures { result ≡ same_life a b }
-{
-    a.port.0 == b.port.0 && a.connid.0 == b.connid.0
-}
-
 /// The receive names that life.
 #[tactic(auto, unfolding(rdm_num::specs::Lives::is_life))]
 fn names(r: &PostedRecv, life: Life) -> bool
@@ -177,7 +169,7 @@ fn names(r: &PostedRecv, life: Life) -> bool
 {
     match r.from {
         None => false,
-        Some(from) => is_same(from, life),
+        Some(from) => is_same_life(from, life),
     }
 }
 
@@ -188,7 +180,7 @@ fn copy_messages(alloc: Global, arrived: &[Arrived], life: Life) -> Result<Vec<A
     arrived
         .iter()
         .copied()
-        .filter(|a| is_same(a.life, life))
+        .filter(|a| is_same_life(a.life, life))
         .collect(alloc)
 }
 
@@ -211,7 +203,7 @@ fn copy_receives(
 fn drop_messages(arrived: &mut Vec<Arrived>, life: Life)
     ensures { arrived.new.items ≡ filter (λ a. not (same_life a.life life)) arrived.old.items }
 {
-    arrived.retain(|a| !is_same(a.life, life));
+    arrived.retain(|a| !is_same_life(a.life, life));
 }
 
 /// Takes out the receives that name a life.

@@ -7,7 +7,7 @@ use Rattle.rdm_lists.specs.Lists.{Member, or_else}
 use Rattle.rdm_num.specs.Lives.{op_id}
 use Rattle.rdm_num.specs.Pieces.{Piece, piece_bytes}
 use Rattle.rdm_pkt.specs.declared.Packet.{Packet}
-use Rattle.rdm_pkt.specs.declared.Packet.TheVariants.{Rtm, Cts, CtsData, Eor, Handshake}
+use Rattle.rdm_pkt.specs.declared.Packet.TheVariants.{Rtm, Cts, CtsData, Eor, Handshake, Receipt}
 use Rattle.rdm_pkt.specs.declared.Kind.{Kind}
 use Rattle.rdm_pkt.specs.declared.Kind.TheVariants.{Eager, Medium, LongCts, LongRead, Runt}
 use Rattle.rdm_pkt.specs.Openings.{openings}
@@ -118,11 +118,12 @@ granted_is own gs s pushed (Runt runt) p e h = cc
 
 -- packets of granted bytes
 abbrev pub IsData : Packet → Type 0
-IsData (Rtm number tag opt form) = ⊥
+IsData (Rtm number tag confirm opt form) = ⊥
 IsData (Cts send recv size connid) = ⊥
 IsData (CtsData recv offset connid bytes) = Unit {0}
 IsData (Eor send recv connid) = ⊥
-IsData (Handshake words connid) = ⊥
+IsData (Handshake words connid raw) = ⊥
+IsData (Receipt number connid) = ⊥
 
 -- all packets have granted bytes
 abbrev pub AllData : List Packet → Type 0

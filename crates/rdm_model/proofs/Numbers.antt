@@ -14,18 +14,18 @@ use Rattle.rdm_model.specs.Owns.{Own, Messages}
 use Rattle.rdm_model.specs.Deeds.{Deed, Did}
 use Rattle.rdm_model.specs.Currents.{current}
 use Rattle.rdm_model.specs.Regions.{regions}
-use Rattle.rdm_model.specs.Sends.{Sent, sends_to, known_word, wants_raw, opt_for, new_sent, sent_to_current, range_of, sent_by, with_sent, sends}
+use Rattle.rdm_model.specs.Sends.{Sent, sends_to, known_word, wants_raw, opt_for, new_sent, sent_to_current, read_list, bytes_of, sent_by, with_sent, sends}
 use Rattle.rdm_lists.proofs.Members.{member-append_cases}
 use Rattle.rdm_lists.proofs.Places.{slice_get-append, slice_get_seam}
 use Rattle.rdm_num.proofs.Lives.{same_life-refl}
 
--- a send that a deed makes: it goes to the current life of its port, and has the bytes of its range
+-- a send that a deed makes: it goes to the current life of its port, and has the bytes of its ranges
 pub record NewSent (own : Own) (ms : Messages) (before : List Deed) (sents : List Sent) (d : Deed) (s : Sent) : Type 0 where
   pub req : SendReq
   pub to : Life
   pub by : d ≡ Did (Send req)
   pub current : current before req.to.0 ≡ Some to
-  pub is : s ≡ new_sent own before (length sents) (length (sends_to sents to)) req to (range_of (regions own.limits.first ms before) req.region.0 req.at req.len)
+  pub is : s ≡ new_sent own before (length sents) (length (sends_to sents to)) req to (bytes_of (regions own.limits.first ms before) req.parts)
 
 -- a send to the current life is the only one
 sent_to_is : (own : Own) (before : List Deed) (sents : List Sent) (req : SendReq) (o : Option Life) (bytes : List ℕ)
@@ -40,7 +40,7 @@ pub sent_by_is : (own : Own) (ms : Messages) (before : List Deed) (sents : List 
     → (sent_by own ms before sents d ≡ []) ⊎ ((s : Sent) × NewSent own ms before sents d s × (sent_by own ms before sents d ≡ s ∷ []))
 unfolding sent_by
 sent_by_is own ms before sents (Did (Send req)) =
-    elim (sent_to_is own before sents req (current before req.to.0) (range_of (regions own.limits.first ms before) req.region.0 req.at req.len)) [
+    elim (sent_to_is own before sents req (current before req.to.0) (bytes_of (regions own.limits.first ms before) req.parts)) [
       | inl a ↦ inl a
       | inr a ↦ inr (_, record { req = req; to = a.0; by = refl; current = a.1; is = refl }, a.2)
     ]
@@ -171,7 +171,7 @@ IsOf own before s =
     (s.message.send ≡ op_id s.number)
     × (s.message.tag ≡ s.req.tag)
     × (s.message.opt ≡ opt_for own.life (wants_raw (known_word before s.to)) s.req.cq_data)
-    × (s.message.iov ≡ record { offset = s.req.at; length = s.req.len; key = s.req.region.0 } ∷ [])
+    × (s.message.iov ≡ read_list s.req.parts)
     × (s.kind ≡ choose (length s.message.bytes) (is_some s.req.tag) (is_some s.req.cq_data) (wants_raw (known_word before s.to)) own.features (known_word before s.to) own.limits)
 
 -- the parts of a new send
@@ -183,4 +183,4 @@ new_is_of own before n m req to bytes = (refl, refl, refl, refl, refl)
 pub sent_is_of : (own : Own) (ms : Messages) (log : List Deed) (s : Sent) (m : Made own ms log s) → IsOf own m.before s
 sent_is_of own ms log s m =
     subst (IsOf own m.before) (sym m.new.is)
-    (new_is_of own m.before (length (sends own ms m.before)) (length (sends_to (sends own ms m.before) m.new.to)) m.new.req m.new.to (range_of (regions own.limits.first ms m.before) m.new.req.region.0 m.new.req.at m.new.req.len))
+    (new_is_of own m.before (length (sends own ms m.before)) (length (sends_to (sends own ms m.before) m.new.to)) m.new.req m.new.to (bytes_of (regions own.limits.first ms m.before) m.new.req.parts))

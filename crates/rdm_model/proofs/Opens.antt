@@ -12,7 +12,7 @@ use Rattle.rdm_pkt.specs.declared.Form.TheVariants as F
 use Rattle.rdm_pkt.specs.declared.Kind.{Kind}
 use Rattle.rdm_pkt.specs.declared.Kind.TheVariants.{Eager, Medium, LongCts, LongRead, Runt}
 use Rattle.rdm_pkt.specs.Heads.{shape_of, size_of, head_of, piece_of}
-use Rattle.rdm_pkt.specs.Openings.{Message, medium_form, runt_form, long_cts_form, no_bytes, rtm, room_in, openings, shape_by, message_head}
+use Rattle.rdm_pkt.specs.Openings.{Message, medium_form, runt_form, long_cts_form, no_bytes, read_rtm, says_confirm, rtm, room_in, openings, shape_by, message_head}
 use Rattle.rdm_model.specs.Dues.{packet_piece, pieces_in}
 use Rattle.rdm_model.proofs.Cuts.{InRow, rest_part, front_part, pieces_in_row, pieces_bytes, pieces_some, row_of_front}
 use Rattle.rdm_lists.proofs.Members.{member-map}
@@ -30,8 +30,8 @@ pieces_in_one p x h = rw h refl
 -- the packet opens the message, and tells its head
 pub record Opening (limits : EpLimits) (m : Message) (kind : Kind) (p : Packet) : Type 0 where
   pub form : Form
-  pub is : p ≡ Rtm m.no m.tag m.opt form
-  pub head_is : head_of m.tag m.opt form ≡ message_head limits m kind
+  pub is : p ≡ Rtm m.no m.tag (says_confirm kind m.confirm) m.opt form
+  pub head_is : head_of m.tag (says_confirm kind m.confirm) m.opt form ≡ message_head limits m kind
 
 -- segments, each with its piece
 segments_open : (limits : EpLimits) (m : Message) (p : Packet) (ps : List Piece) → Member p (map (λ (x : Piece). rtm m (medium_form m x)) ps) → Opening limits m Medium p
@@ -41,14 +41,14 @@ segments_open limits m p ps h =
     record { form = medium_form m r.0; is = sym r.2; head_is = refl }
 
 -- so do the segments of a first part
-runts_open : (limits : EpLimits) (m : Message) (runt : ℕ) (p : Packet) (ps : List Piece) → Member p (map (λ (x : Piece). rtm m (runt_form m runt x)) ps) → Opening limits m (Runt runt) p
+runts_open : (limits : EpLimits) (m : Message) (runt : ℕ) (p : Packet) (ps : List Piece) → Member p (map (λ (x : Piece). read_rtm m (runt_form m runt x)) ps) → Opening limits m (Runt runt) p
 unfolding head_of size_of shape_of message_head shape_by
 runts_open limits m runt p ps h =
-    let r = member-map (λ (x : Piece). rtm m (runt_form m runt x)) p ps h in
+    let r = member-map (λ (x : Piece). read_rtm m (runt_form m runt x)) p ps h in
     record { form = runt_form m runt r.0; is = sym r.2; head_is = refl }
 
 -- a single packet that tells the head opens its message
-single_open : (limits : EpLimits) (m : Message) (kind : Kind) (form : Form) (p : Packet) → head_of m.tag m.opt form ≡ message_head limits m kind → Member p (rtm m form ∷ []) → Opening limits m kind p
+single_open : (limits : EpLimits) (m : Message) (kind : Kind) (form : Form) (p : Packet) → head_of m.tag (says_confirm kind m.confirm) m.opt form ≡ message_head limits m kind → Member p (Rtm m.no m.tag (says_confirm kind m.confirm) m.opt form ∷ []) → Opening limits m kind p
 single_open limits m kind form p e (inl a) = record { form = form; is = sym a; head_is = e }
 single_open limits m kind form p e (inr a) = elim a [ ]
 
@@ -59,7 +59,7 @@ opening_is limits m Eager p h = single_open limits m Eager (F.Eager m.bytes) p r
 opening_is limits m Medium p h = segments_open limits m p (pieces (room_in limits (rtm m (medium_form m no_bytes))) m.bytes) h
 opening_is limits m LongCts p h = single_open limits m LongCts (long_cts_form limits m (take (room_in limits (rtm m (long_cts_form limits m []))) m.bytes)) p refl h
 opening_is limits m LongRead p h = single_open limits m LongRead (F.LongRead (length m.bytes) m.send m.iov) p refl h
-opening_is limits m (Runt runt) p h = runts_open limits m runt p (pieces (room_in limits (rtm m (runt_form m runt no_bytes))) (take runt m.bytes)) h
+opening_is limits m (Runt runt) p h = runts_open limits m runt p (pieces (room_in limits (read_rtm m (runt_form m runt no_bytes))) (take runt m.bytes)) h
 
 -- segments have the pieces that they were made of
 segment_pieces : (m : Message) (ps : List Piece) → pieces_in (map (λ (x : Piece). rtm m (medium_form m x)) ps) ≡ ps
@@ -68,7 +68,7 @@ segment_pieces m [] = refl
 segment_pieces m (p ∷ ps) = ap (λ (xs : List Piece). p ∷ xs) (segment_pieces m ps)
 
 -- and so do segments of a first part
-runt_pieces : (m : Message) (runt : ℕ) (ps : List Piece) → pieces_in (map (λ (x : Piece). rtm m (runt_form m runt x)) ps) ≡ ps
+runt_pieces : (m : Message) (runt : ℕ) (ps : List Piece) → pieces_in (map (λ (x : Piece). read_rtm m (runt_form m runt x)) ps) ≡ ps
 unfolding pieces_in packet_piece piece_of
 runt_pieces m runt [] = refl
 runt_pieces m runt (p ∷ ps) = ap (λ (xs : List Piece). p ∷ xs) (runt_pieces m runt ps)
@@ -85,7 +85,7 @@ openings_in_row limits m LongCts =
     (refl, front_part m.bytes (take size m.bytes) size 0 refl, tt)
 openings_in_row limits m LongRead = tt
 openings_in_row limits m (Runt runt) =
-    let size : ℕ = room_in limits (rtm m (runt_form m runt no_bytes)) in
+    let size : ℕ = room_in limits (read_rtm m (runt_form m runt no_bytes)) in
     subst (λ (xs : List Piece). InRow m.bytes 0 xs) (sym (runt_pieces m runt (pieces size (take runt m.bytes))))
     (row_of_front runt m.bytes 0 (pieces size (take runt m.bytes)) (pieces_in_row size (take runt m.bytes)))
 
@@ -107,7 +107,7 @@ openings_bytes limits m Medium =
 openings_bytes limits m LongCts = omega arith
 openings_bytes limits m LongRead = refl
 openings_bytes limits m (Runt runt) =
-    let size : ℕ = room_in limits (rtm m (runt_form m runt no_bytes)) in
+    let size : ℕ = room_in limits (read_rtm m (runt_form m runt no_bytes)) in
     ap piece_bytes (runt_pieces m runt (pieces size (take runt m.bytes))) ∙ pieces_bytes size (take runt m.bytes)
 
 -- there is an opening
@@ -122,7 +122,7 @@ some_opening limits m Medium =
 some_opening limits m LongCts = omega arith
 some_opening limits m LongRead = omega arith
 some_opening limits m (Runt runt) =
-    let size : ℕ = room_in limits (rtm m (runt_form m runt no_bytes)) in
-    let l = length-map (pieces size (take runt m.bytes)) (λ (x : Piece). rtm m (runt_form m runt x)) in
+    let size : ℕ = room_in limits (read_rtm m (runt_form m runt no_bytes)) in
+    let l = length-map (pieces size (take runt m.bytes)) (λ (x : Piece). read_rtm m (runt_form m runt x)) in
     let k = pieces_some size (take runt m.bytes) in
     omega arith

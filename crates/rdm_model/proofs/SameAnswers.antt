@@ -3,6 +3,8 @@ use Rattle.std.proofs.Common.{◌≡◌, ℕ, Option, Some, None, refl}
 use Rattle.rdm_num.specs.declared.numbers.Life.{Life}
 use Rattle.rdm_num.specs.declared.numbers.PortNo.{PortNo}
 use Rattle.rdm_num.specs.declared.numbers.Connid.{Connid}
+use Rattle.rdm_lists.proofs.Same.{list_any_same}
+use Rattle.rdm_num.specs.declared.parts.Span.{Span}
 use Rattle.rdm_num.specs.declared.request.SendReq.{SendReq}
 use Rattle.rdm_num.specs.declared.request.RecvReq.{RecvReq}
 use Rattle.rdm_pkt.specs.declared.Packet.TheVariants.{Rtm}
@@ -78,9 +80,9 @@ cq_same s ns a = let r = cq_count_same s.own s.ms ns s.log a in rw r refl
 send_answer_same : (s : Scene) (ns : Messages) (req : SendReq) → AgreesIn s ns → send_answer s req ≡ send_answer (by_account s ns) req
 unfolding send_answer
 send_answer_same s ns req a =
-    let region = no_region_same s ns req.region.0 a in
-    let range = range_same s ns req.region.0 req.at req.len a in
-    let busy = meets_receive_same s ns req.region.0 req.at req.len a in
+    let region = list_any_same (λ (p : Span). has_no_region s p.region.0) (λ (p : Span). has_no_region (by_account s ns) p.region.0) req.parts (λ p. no_region_same s ns p.region.0 a) in
+    let range = list_any_same (λ (p : Span). is_out_of_range s p.region.0 p.at p.len) (λ (p : Span). is_out_of_range (by_account s ns) p.region.0 p.at p.len) req.parts (λ p. range_same s ns p.region.0 p.at p.len a) in
+    let busy = list_any_same (λ (p : Span). meets_receive s p.region.0 p.at p.len) (λ (p : Span). meets_receive (by_account s ns) p.region.0 p.at p.len) req.parts (λ p. meets_receive_same s ns p.region.0 p.at p.len a) in
     let numbers = no_number_same s ns (current s.log req.to.0) a in
     let tx = tx_count_same s.own s.ms ns s.log a in
     let cq = cq_same s ns a in
@@ -146,7 +148,7 @@ is_met_same s ns from number tag a = let m = matching_same s.own.limits.first s.
 -- an item needs an early place by both or by neither
 needs_place_same : (s : Scene) (ns : Messages) (from : Life) (item : Item) → AgreesIn s ns → needs_place s from item ≡ needs_place (by_account s ns) from item
 unfolding needs_place
-needs_place_same s ns from (Spelled (Rtm number tag opt form)) a = let m = is_met_same s ns from number.0 tag a in rw m refl
+needs_place_same s ns from (Spelled (Rtm number tag confirm opt form)) a = let m = is_met_same s ns from number.0 tag a in rw m refl
 needs_place_same s ns from _ a = refl
 
 -- so does a datagram

@@ -1,5 +1,5 @@
 -- What was pushed of a send: openings, of which only segments are more than one, and bytes that were granted.
-use Rattle.std.proofs.Common.{◌≡◌, ℕ, zero, suc, ◌+◌, ◌-◌, ◌<◌, ◌≤◌, min, true, false, cond, ◌&&◌, List, [], ◌∷◌, ◌++◌, length, drop, Option, Some, refl, arith, ◌⊎◌, inl, inr, sym, ◌∙◌, ap, subst}
+use Rattle.std.proofs.Common.{◌≡◌, ℕ, zero, suc, ◌+◌, ◌-◌, ◌<◌, ◌≤◌, min, true, false, cond, Bool, ◌&&◌, List, [], ◌∷◌, ◌++◌, length, drop, Option, Some, refl, arith, ◌⊎◌, inl, inr, sym, ◌∙◌, ap, subst}
 use Rattle.std.specs.Prelude.{slice_get, ◌==◌}
 use Rattle.std.proofs.lemmas.List.{length-append, length-take, length-drop}
 use Rattle.std.proofs.lemmas.Bool.{cases_lt, and_parts, eqb-true}
@@ -19,7 +19,7 @@ use Rattle.rdm_pkt.specs.declared.Form.{Form}
 use Rattle.rdm_pkt.specs.declared.Kind.{Kind}
 use Rattle.rdm_pkt.specs.declared.Kind.TheVariants.{Eager, Medium, LongCts, LongRead, Runt}
 use Rattle.rdm_pkt.specs.Heads.{head_of}
-use Rattle.rdm_pkt.specs.Openings.{openings, message_head}
+use Rattle.rdm_pkt.specs.Openings.{openings, message_head, says_confirm}
 use Rattle.rdm_model.specs.Deeds.{Deed, Took, Spelled}
 use Rattle.rdm_model.specs.Owns.{Own, Messages}
 use Rattle.rdm_model.specs.Sends.{Sent, sends}
@@ -138,19 +138,26 @@ push_is own ms s p k (d ∷ before) (inr a) =
     elim (push_is own ms s p k before a) [ inl b ↦ inl b | inr b ↦ inr (data_later own d before s p b) ]
 
 -- a packet that opens a message and was pushed tells the head of its send's message
-pub rtm_push : (own : Own) (ms : Messages) (s : Sent) (number : MsgNo) (tag : Option ℕ) (opt : Opt) (form : Form) (k : ℕ) (log : List Deed)
-    → PushedAt own ms (Sends s (Rtm number tag opt form)) k log
-    → (number ≡ s.message.no) × (tag ≡ s.message.tag) × (opt ≡ s.message.opt) × (head_of tag opt form ≡ message_head own.limits s.message s.kind)
-rtm_push own ms s number tag opt form k log h =
-    elim (push_is own ms s (Rtm number tag opt form) k log h) [
+pub rtm_push : (own : Own) (ms : Messages) (s : Sent) (number : MsgNo) (tag : Option ℕ) (confirm : Bool) (opt : Opt) (form : Form) (k : ℕ) (log : List Deed)
+    → PushedAt own ms (Sends s (Rtm number tag confirm opt form)) k log
+    → (number ≡ s.message.no) × (tag ≡ s.message.tag) × (opt ≡ s.message.opt) × (head_of tag confirm opt form ≡ message_head own.limits s.message s.kind)
+rtm_push own ms s number tag confirm opt form k log h =
+    elim (push_is own ms s (Rtm number tag confirm opt form) k log h) [
       | inl a ↦ (
-          let o = opening_is own.limits s.message s.kind (Rtm number tag opt form) a in
+          let o = opening_is own.limits s.message s.kind (Rtm number tag confirm opt form) a in
           let is = o.is in
           let n : number ≡ s.message.no = cc in
           let t : tag ≡ s.message.tag = cc in
+          let c : confirm ≡ says_confirm s.kind s.message.confirm = cc in
           let p : opt ≡ s.message.opt = cc in
-          let f : form ≡ o.form = cc in
-          (n, t, p, ap (λ (x : Option ℕ). head_of x opt form) t ∙ ap (λ (x : Opt). head_of s.message.tag x form) p ∙ ap (λ (x : Form). head_of s.message.tag s.message.opt x) f ∙ o.head_is))
+          let f : form ≡ o.form = cc in (
+            n,
+            t,
+            p,
+            ap (λ (x : Option ℕ). head_of x confirm opt form) t ∙ ap (λ (x : Bool). head_of s.message.tag x opt form) c
+                ∙ ap (λ (x : Opt). head_of s.message.tag (says_confirm s.kind s.message.confirm) x form) p
+                ∙ ap (λ (x : Form). head_of s.message.tag (says_confirm s.kind s.message.confirm) s.message.opt x) f ∙ o.head_is,
+          ))
       | inr a ↦ (let is = a.is in cc)
     ]
 
@@ -176,18 +183,18 @@ all_data (q ∷ ps) p a (inl e) = subst IsData e a.0
 all_data (q ∷ ps) p a (inr h) = all_data ps p a.1 h
 
 -- a packet that opens a message stands among the openings of its send
-pub rtm_place : (own : Own) (ms : Messages) (s : Sent) (number : MsgNo) (tag : Option ℕ) (opt : Opt) (form : Form) (i k : ℕ) (log : List Deed)
-    → Member s (sends own ms log) → ServedAt own ms s (Rtm number tag opt form) i k log → i < length (openings own.limits s.message s.kind)
-rtm_place own ms s number tag opt form i k log m h =
-    let stands = served_stands own ms s (Rtm number tag opt form) i k log h in
-    let within = slice_get_within (pushed_of own ms log s.number) i (Rtm number tag opt form) stands in
+pub rtm_place : (own : Own) (ms : Messages) (s : Sent) (number : MsgNo) (tag : Option ℕ) (confirm : Bool) (opt : Opt) (form : Form) (i k : ℕ) (log : List Deed)
+    → Member s (sends own ms log) → ServedAt own ms s (Rtm number tag confirm opt form) i k log → i < length (openings own.limits s.message s.kind)
+rtm_place own ms s number tag confirm opt form i k log m h =
+    let stands = served_stands own ms s (Rtm number tag confirm opt form) i k log h in
+    let within = slice_get_within (pushed_of own ms log s.number) i (Rtm number tag confirm opt form) stands in
     elim (underway own ms log s m).how [
       | inl a ↦ (let l = ap length a.1 in let r = length-append (pushed_of own ms log s.number) a.0 in omega arith)
       | inr a ↦ elim (cases_lt i (length (openings own.limits s.message s.kind))) [
         | inl less ↦ less
         | inr more ↦ (
-            let at : slice_get (openings own.limits s.message s.kind ++ a.0) i ≡ Some (Rtm number tag opt form) = ap (λ (xs : List Packet). slice_get xs i) (sym a.1) ∙ stands in
-            let never : IsData (Rtm number tag opt form) = all_data a.0 (Rtm number tag opt form) a.3 (past_front (openings own.limits s.message s.kind) a.0 i (Rtm number tag opt form) more at) in
+            let at : slice_get (openings own.limits s.message s.kind ++ a.0) i ≡ Some (Rtm number tag confirm opt form) = ap (λ (xs : List Packet). slice_get xs i) (sym a.1) ∙ stands in
+            let never : IsData (Rtm number tag confirm opt form) = all_data a.0 (Rtm number tag confirm opt form) a.3 (past_front (openings own.limits s.message s.kind) a.0 i (Rtm number tag confirm opt form) more at) in
             elim never [ ])
       ]
     ]
@@ -210,14 +217,14 @@ single_length own s LongRead i = refl
 single_length own s (Runt runt) i = elim i [ ]
 
 -- the one packet that opens a message is pushed once
-pub opening_once : (own : Own) (ms : Messages) (s : Sent) (number number' : MsgNo) (tag tag' : Option ℕ) (opt opt' : Opt) (form form' : Form) (k l : ℕ) (log : List Deed)
-    → IsSingle s.kind → PushedAt own ms (Sends s (Rtm number tag opt form)) k log → PushedAt own ms (Sends s (Rtm number' tag' opt' form')) l log → k ≡ l
-opening_once own ms s number number' tag tag' opt opt' form form' k l log single h j =
-    let m = push_member own ms s (Rtm number tag opt form) k log h in
-    let a = served_at own ms s (Rtm number tag opt form) k log h in
-    let b = served_at own ms s (Rtm number' tag' opt' form') l log j in
+pub opening_once : (own : Own) (ms : Messages) (s : Sent) (number number' : MsgNo) (tag tag' : Option ℕ) (confirm confirm' : Bool) (opt opt' : Opt) (form form' : Form) (k l : ℕ) (log : List Deed)
+    → IsSingle s.kind → PushedAt own ms (Sends s (Rtm number tag confirm opt form)) k log → PushedAt own ms (Sends s (Rtm number' tag' confirm' opt' form')) l log → k ≡ l
+opening_once own ms s number number' tag tag' confirm confirm' opt opt' form form' k l log single h j =
+    let m = push_member own ms s (Rtm number tag confirm opt form) k log h in
+    let a = served_at own ms s (Rtm number tag confirm opt form) k log h in
+    let b = served_at own ms s (Rtm number' tag' confirm' opt' form') l log j in
     let one = single_length own s s.kind single in
-    let x = rtm_place own ms s number tag opt form a.0 k log m a.1 in
-    let y = rtm_place own ms s number' tag' opt' form' b.0 l log m b.1 in
+    let x = rtm_place own ms s number tag confirm opt form a.0 k log m a.1 in
+    let y = rtm_place own ms s number' tag' confirm' opt' form' b.0 l log m b.1 in
     let same : b.0 ≡ a.0 = omega arith in
-    served_once own ms s s (Rtm number tag opt form) (Rtm number' tag' opt' form') a.0 k l log refl a.1 (subst (λ (i : ℕ). ServedAt own ms s (Rtm number' tag' opt' form') i l log) same b.1)
+    served_once own ms s s (Rtm number tag confirm opt form) (Rtm number' tag' confirm' opt' form') a.0 k l log refl a.1 (subst (λ (i : ℕ). ServedAt own ms s (Rtm number' tag' confirm' opt' form') i l log) same b.1)

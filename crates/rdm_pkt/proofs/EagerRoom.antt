@@ -10,7 +10,7 @@ use Rattle.rdm_pkt.specs.Choice.{opt_like}
 
 -- the size of an eager packet that carries nothing
 pub eager_header_size : (tagged cq_data raw : Bool)
-    → length (spelling (Rtm (record { 0 = 0 }) (then_some tagged 0) (opt_like cq_data raw) (Eager []))) ≡ 8 + (if tagged then 8 else 0) + (if cq_data then 8 else 0) + (if raw then 36 else 4)
+    → length (spelling (Rtm (record { 0 = 0 }) (then_some tagged 0) false (opt_like cq_data raw) (Eager []))) ≡ 8 + (if tagged then 8 else 0) + (if cq_data then 8 else 0) + (if raw then 36 else 4)
 unfolding spelling layout head_fields base_fields form_fields tag_fields last_fields opt_fields raw_fields cq_data_fields connid_fields fields_bytes field_bytes
 eager_header_size true true true = refl
 eager_header_size true true false = refl

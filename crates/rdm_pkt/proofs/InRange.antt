@@ -1,6 +1,6 @@
 -- Numbers within their ranges.
-use Rattle.std.proofs.Common.{◌≡◌, ℕ, suc, ◌+◌, ◌<◌, ◌≤◌, ◌^◌, true, List, [], ◌∷◌, ◌++◌, length, take, get_or, Some, None, if◌then◌else◌, Option, refl, add-one, arith}
-use Rattle.std.specs.Prelude.{map, flat_map, nat_le, nat_lt, is_some}
+use Rattle.std.proofs.Common.{◌≡◌, ℕ, suc, ◌+◌, ◌<◌, ◌≤◌, ◌^◌, Bool, true, false, List, [], ◌∷◌, ◌++◌, length, take, get_or, Some, None, if◌then◌else◌, Option, refl, add-one, arith}
+use Rattle.std.specs.Prelude.{◌&&◌, map, flat_map, nat_le, nat_lt, is_some}
 use Rattle.std.proofs.lemmas.Grind.{flat_map-append}
 use Rattle.std.proofs.Math.Seq.{take-suc}
 use Rattle.std.specs.List.{list_all}
@@ -9,14 +9,15 @@ use Rattle.rdm_num.specs.declared.lists.IovEntry.{IovEntry}
 use Rattle.rdm_num.specs.declared.numbers.OpId.{OpId}
 use Rattle.rdm_num.specs.declared.numbers.MsgNo.{MsgNo}
 use Rattle.rdm_num.specs.declared.numbers.Connid.{Connid}
+use Rattle.rdm_num.specs.declared.numbers.PortNo.{PortNo}
 use Rattle.rdm_hdr.specs.declared.Opt.{Opt}
 use Rattle.rdm_hdr.specs.Fields.{Field, Number, Data, field_fits, fields_fit}
-use Rattle.rdm_hdr.specs.Headers.{base_fields, raw_fields, cq_data_fields, connid_fields, opt_fields}
-use Rattle.rdm_pkt.specs.declared.Packet.TheVariants.{Rtm, Cts, CtsData, Eor, Handshake}
+use Rattle.rdm_hdr.specs.Headers.{base_fields, raw_fields, cq_data_fields, connid_fields, opt_fields, opt_flags}
+use Rattle.rdm_pkt.specs.declared.Packet.TheVariants.{Rtm, Cts, CtsData, Eor, Handshake, Receipt}
 use Rattle.rdm_pkt.specs.declared.Form.{Form}
 use Rattle.rdm_pkt.specs.declared.Form.TheVariants.{Eager, Medium, LongCts, LongRead, Runt}
-use Rattle.rdm_pkt.specs.Grammar.{type_of, rtm_flags, head_fields, tag_fields, entry_fields, form_fields, last_fields, layout, opt_fits, form_fits, packet_fits}
-use Rattle.rdm_pkt.proofs.Openers.{flags-small, one-more}
+use Rattle.rdm_pkt.specs.Grammar.{type_of, rtm_flags, head_fields, sender_opt, tag_fields, entry_fields, form_fields, last_fields, layout, confirm_fits, opt_fits, form_fits, packet_fits}
+use Rattle.rdm_pkt.proofs.Openers.{flags-small, one-more, opt_flags-small}
 use Rattle.rdm_pkt.proofs.Rows.{fit-nothing, fit-append}
 
 -- a number in its range and more
@@ -105,33 +106,36 @@ unfolding head_fields base_fields fields_fit field_fits
 fit_head kind flags a b = rw (le-leb (suc kind) 256 (omega arith), le-leb (suc flags) 65536 (omega arith)) refl
 
 -- types of packets that open messages have one more type after them
-type_small : (form : Form) → type_of form < 255
+type_small : (confirm : Bool) (form : Form) → type_of confirm form < 255
 unfolding type_of
-type_small (Eager bytes) = omega arith
-type_small (Medium size offset bytes) = omega arith
-type_small (LongCts size send credits bytes) = omega arith
-type_small (LongRead size send iov) = omega arith
-type_small (Runt size send iov runt offset bytes) = omega arith
+type_small true (Eager bytes) = omega arith
+type_small false (Eager bytes) = omega arith
+type_small true (Medium size offset bytes) = omega arith
+type_small false (Medium size offset bytes) = omega arith
+type_small true (LongCts size send credits bytes) = omega arith
+type_small false (LongCts size send credits bytes) = omega arith
+type_small confirm (LongRead size send iov) = omega arith
+type_small confirm (Runt size send iov runt offset bytes) = omega arith
 
 -- a packet that opens a message is in its ranges where its parts are
-pub fit_rtm : (number : MsgNo) (tag : Option ℕ) (opt : Opt) (form : Form) → number.0 < 2 ^ 32 → fields_fit (tag_fields tag) ≡ true → fields_fit (opt_fields opt) ≡ true
-    → fields_fit (form_fields form) ≡ true → fields_fit (last_fields form) ≡ true → fields_fit (layout (Rtm number tag opt form)) ≡ true
+pub fit_rtm : (number : MsgNo) (tag : Option ℕ) (confirm : Bool) (opt : Opt) (form : Form) → number.0 < 2 ^ 32 → fields_fit (tag_fields tag) ≡ true → fields_fit (opt_fields opt) ≡ true
+    → fields_fit (form_fields form) ≡ true → fields_fit (last_fields form) ≡ true → fields_fit (layout (Rtm number tag confirm opt form)) ≡ true
 unfolding layout
-fit_rtm number tag opt form small a b d e =
+fit_rtm number tag confirm opt form small a b d e =
     fit-append _ (last_fields form)
     (fit-append _ (opt_fields opt)
     (fit-append _ (tag_fields tag)
-    (fit-append (head_fields (type_of form + (if is_some tag then 1 else 0)) (rtm_flags tag opt)) (Number 4 number.0 ∷ form_fields form)
-    (fit_head (type_of form + (if is_some tag then 1 else 0)) (rtm_flags tag opt) (one-more (type_of form) (is_some tag) (type_small form)) (flags-small tag opt))
+    (fit-append (head_fields (type_of confirm form + (if is_some tag then 1 else 0)) (rtm_flags tag opt)) (Number 4 number.0 ∷ form_fields form)
+    (fit_head (type_of confirm form + (if is_some tag then 1 else 0)) (rtm_flags tag opt) (one-more (type_of confirm form) (is_some tag) (type_small confirm form)) (flags-small tag opt))
     (fit_four number.0 (form_fields form) small d))
     a)
     b)
     e
 
 -- the form of a packet that meets its conditions meets its own
-pub form_meets : (number : MsgNo) (tag : Option ℕ) (opt : Opt) (form : Form) → packet_fits (Rtm number tag opt form) ≡ true → form_fits form ≡ true
+pub form_meets : (number : MsgNo) (tag : Option ℕ) (confirm : Bool) (opt : Opt) (form : Form) → packet_fits (Rtm number tag confirm opt form) ≡ true → form_fits form ≡ true
 unfolding packet_fits
-form_meets number tag opt form h = let parts = and_parts (opt_fits opt) (form_fits form) h in parts.1
+form_meets number tag confirm opt form h = let parts = and_parts (confirm_fits confirm form && opt_fits opt) (form_fits form) h in parts.1
 
 -- a grant is in its ranges where its numbers are
 pub fit_cts : (send recv : OpId) (size : ℕ) (connid : Connid) → send.0 < 2 ^ 32 → recv.0 < 2 ^ 32 → size < 2 ^ 64 → connid.0 < 2 ^ 32 → fields_fit (layout (Cts send recv size connid)) ≡ true
@@ -157,12 +161,20 @@ fit_cts_data recv offset connid bytes h a b d =
     fit-append (head_fields 4 32768) (Number 4 recv.0 ∷ Number 8 (length bytes) ∷ Number 8 offset ∷ Number 4 connid.0 ∷ Data bytes ∷ []) (fit_head 4 32768 (omega arith) (omega arith))
     (fit_four recv.0 _ a (fit_eight (length bytes) _ (omega arith) (fit_eight offset _ (omega arith) (fit_four connid.0 _ b d))))
 
--- a handshake is in its ranges where its words are
-pub fit_handshake : (words : List ℕ) (connid : Connid) → packet_fits (Handshake words connid) ≡ true → connid.0 < 2 ^ 32 → fields_fit (map (Number 8) words) ≡ true → fields_fit (layout (Handshake words connid)) ≡ true
+-- a receipt is in its ranges where its numbers are
+pub fit_receipt : (number : MsgNo) (connid : Connid) → number.0 < 2 ^ 32 → connid.0 < 2 ^ 32 → fields_fit (layout (Receipt number connid)) ≡ true
+unfolding layout
+fit_receipt number connid a b =
+    fit-append (head_fields 10 32768) (Number 4 number.0 ∷ Number 4 connid.0 ∷ []) (fit_head 10 32768 (omega arith) (omega arith)) (fit_four number.0 _ a (fit_four connid.0 [] b fit-nothing))
+
+-- a handshake is in its ranges where its words and its last header are
+pub fit_handshake : (words : List ℕ) (connid : Connid) (raw : Option PortNo) → packet_fits (Handshake words connid raw) ≡ true
+    → fields_fit (map (Number 8) words) ≡ true → fields_fit (opt_fields (sender_opt connid raw)) ≡ true → fields_fit (layout (Handshake words connid raw)) ≡ true
 unfolding layout packet_fits
-fit_handshake words connid h a b =
+fit_handshake words connid raw h a b =
     let parts = and_parts (nat_le 1 (length words)) (nat_le (length words) 8) h in
     let few : length words ≤ 8 = leb-true (length words) 8 parts.1 in
-    fit-append _ (Number 4 connid.0 ∷ [])
-    (fit-append (head_fields 9 32768) (Number 4 (length words + 3) ∷ map (Number 8) words) (fit_head 9 32768 (omega arith) (omega arith)) (fit_four (length words + 3) (map (Number 8) words) (omega arith) b))
-    (fit_four connid.0 [] a fit-nothing)
+    let flags : ℕ = opt_flags (sender_opt connid raw) in
+    fit-append _ (opt_fields (sender_opt connid raw))
+    (fit-append (head_fields 9 flags) (Number 4 (length words + 3) ∷ map (Number 8) words) (fit_head 9 flags (omega arith) (opt_flags-small (sender_opt connid raw))) (fit_four (length words + 3) (map (Number 8) words) (omega arith) a))
+    b

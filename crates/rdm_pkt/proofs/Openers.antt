@@ -1,10 +1,10 @@
 -- When bytes are a packet that opens a message.
 use Rattle.std.proofs.Common.{◌≡◌, ℕ, suc, ◌+◌, ◌<◌, ◌≤◌, ◌^◌, Bool, true, false, if◌then◌else◌, List, [], ◌∷◌, ◌++◌, length, drop, Option, Some, None, refl, sym, ap, ◌∙◌, subst, append_assoc, add_assoc, zero-add, inl, inr, arith}
-use Rattle.std.specs.Prelude.{nat_le, ◌&&◌, is_some}
+use Rattle.std.specs.Prelude.{nat_le, not, ◌==◌, ◌&&◌, is_some}
 use Rattle.std.specs.Bool.{then_some}
 use Rattle.std.proofs.lemmas.List.{length-drop, drop-drop}
 use Rattle.std.proofs.lemmas.Bool.Decides.{leb_tells}
-use Rattle.std.proofs.lemmas.Bool.{and_parts, and_from, leb-true, le-leb}
+use Rattle.std.proofs.lemmas.Bool.{and_parts, and_from, leb-true, eqb-true, le-leb, false_from_ne_true}
 use Rattle.rdm_hdr.specs.declared.Opt.{Opt}
 use Rattle.rdm_hdr.specs.Fields.{Field, Number, field_fits, fields_bytes, fields_fit, number_at, has_bit}
 use Rattle.rdm_hdr.specs.Headers.{base_fields, raw_fields, cq_data_fields, connid_fields, opt_fields, opt_flags, opt_size, opt_at}
@@ -15,16 +15,16 @@ use Rattle.rdm_pkt.specs.declared.reading.Opening.{Opening}
 use Rattle.rdm_pkt.specs.declared.Packet.{Packet}
 use Rattle.rdm_pkt.specs.declared.Packet.TheVariants.{Rtm}
 use Rattle.rdm_pkt.specs.declared.Form.{Form}
-use Rattle.rdm_pkt.specs.Grammar.{type_of, form_fields, tag_fields, last_fields, rtm_flags, head_fields, layout, form_fits, opt_fits, packet_fits, spelling}
-use Rattle.rdm_pkt.specs.Reading.{Row, header_size, form_at, rtm_at, if_spelled}
+use Rattle.rdm_pkt.specs.Grammar.{type_of, form_fields, tag_fields, last_fields, rtm_flags, head_fields, layout, confirm_fits, form_fits, opt_fits, packet_fits, spelling}
+use Rattle.rdm_pkt.specs.Reading.{Row, header_size, confirm_at, form_at, rtm_at, if_spelled}
 use Rattle.rdm_pkt.specs.Opened.{opt_place, tag_at, opt_of, last_place, is_opened, opening_in}
 use Rattle.rdm_pkt.proofs.PacketSizes.{size_of, head-size, tag-size, form_size, form-size, packet-size}
-use Rattle.rdm_pkt.proofs.Stands.{stands, stands-append, stands-own, is-spelled, not-spelled}
+use Rattle.rdm_pkt.proofs.Stands.{stands, stands-append, stands-own, stands-number, is-spelled, not-spelled}
 use Rattle.rdm_pkt.proofs.Rows.{fit-nothing, fit-append, fit-own}
 
 -- the packet with the values that stand there, and that form
 abbrev pub rtm_of : (size : ℕ) → List ℕ → Form → Packet
-rtm_of size bytes form = Rtm (record { 0 = number_at 4 4 bytes }) (tag_at size bytes) (opt_of size bytes) form
+rtm_of size bytes form = Rtm (record { 0 = number_at 4 4 bytes }) (tag_at size bytes) (confirm_at bytes) (opt_of size bytes) form
 
 -- the packet of a row
 pub rtm-row : (row : Row) (bytes : List ℕ) → rtm_at row bytes ≡ rtm_of (header_size row) bytes (form_at row (last_place (header_size row) bytes) bytes)
@@ -40,7 +40,7 @@ abbrev form_rest : (size : ℕ) → List ℕ → Form → List Field
 form_rest size bytes form = form_fields form ++ (tag_fields (tag_at size bytes) ++ (opt_fields (opt_of size bytes) ++ last_fields form))
 
 -- the fields in their order
-rtm-layout : (size : ℕ) (bytes : List ℕ) (form : Form) → layout (rtm_of size bytes form) ≡ head_of (type_of form) size bytes ++ (Number 4 (number_at 4 4 bytes) ∷ form_rest size bytes form)
+rtm-layout : (size : ℕ) (bytes : List ℕ) (form : Form) → layout (rtm_of size bytes form) ≡ head_of (type_of (confirm_at bytes) form) size bytes ++ (Number 4 (number_at 4 4 bytes) ∷ form_rest size bytes form)
 unfolding layout
 rtm-layout size bytes form = simp append_assoc refl
 
@@ -64,16 +64,16 @@ least size bytes form whole room = omega arith
 -- the fields of a packet stand where the headers and the form's parts do
 rtm-stands : (size : ℕ) (bytes : List ℕ) (form : Form) → AreBytes bytes → 8 + form_size form ≡ size → opt_place size bytes ≤ length bytes
     → stands 0 (layout (rtm_of size bytes form)) bytes
-    ≡ (begins (fields_bytes (head_of (type_of form) size bytes)) bytes && (stands 8 (form_fields form) bytes && (stands (opt_place size bytes) (opt_fields (opt_of size bytes)) bytes && stands (last_place size bytes) (last_fields form) bytes)))
+    ≡ (begins (fields_bytes (head_of (type_of (confirm_at bytes) form) size bytes)) bytes && (stands 8 (form_fields form) bytes && (stands (opt_place size bytes) (opt_fields (opt_of size bytes)) bytes && stands (last_place size bytes) (last_fields form) bytes)))
 unfolding last_place opt_size
 rtm-stands size bytes form h whole room =
     let opts : List Field = opt_fields (opt_of size bytes) in
     let after_tag : List Field = opts ++ last_fields form in
     let after_form : List Field = tag_fields (tag_at size bytes) ++ after_tag in
-    let head : List Field = head_of (type_of form) size bytes in
+    let head : List Field = head_of (type_of (confirm_at bytes) form) size bytes in
     let enough : 8 ≤ length bytes = least size bytes form whole room in
     let a : stands 0 (head ++ (Number 4 (number_at 4 4 bytes) ∷ form_rest size bytes form)) bytes ≡ (begins (fields_bytes head) bytes && stands 4 (Number 4 (number_at 4 4 bytes) ∷ form_rest size bytes form) bytes) =
-    rw (stands-append 0 head (Number 4 (number_at 4 4 bytes) ∷ form_rest size bytes form) bytes, head-size (type_of form + (if is_some (tag_at size bytes) then 1 else 0)) (rtm_flags (tag_at size bytes) (opt_of size bytes))) refl in
+    rw (stands-append 0 head (Number 4 (number_at 4 4 bytes) ∷ form_rest size bytes form) bytes, head-size (type_of (confirm_at bytes) form + (if is_some (tag_at size bytes) then 1 else 0)) (rtm_flags (tag_at size bytes) (opt_of size bytes))) refl in
     let b : stands 4 (Number 4 (number_at 4 4 bytes) ∷ form_rest size bytes form) bytes ≡ stands 8 (form_fields form ++ after_form) bytes = stands-own 4 4 (form_rest size bytes form) bytes h (omega arith) enough in
     let d : stands 8 (form_fields form ++ after_form) bytes ≡ (stands 8 (form_fields form) bytes && stands size after_form bytes) =
     rw (stands-append 8 (form_fields form) after_form bytes, form-size form, whole) refl in
@@ -108,6 +108,11 @@ pub one-more : (kind : ℕ) (b : Bool) → kind < 255 → kind + (if b then 1 el
 one-more kind true h = omega arith
 one-more kind false h = omega arith
 
+-- one more at most
+one-more' : (b : Bool) → (if b then 1 else 0) ≤ 1
+one-more' true = omega arith
+one-more' false = omega arith
+
 -- a value is there where its test holds
 is_some-then_some : (b : Bool) (x : ℕ) → is_some (then_some b x) ≡ b
 is_some-then_some true x = refl
@@ -118,8 +123,13 @@ pub flags-small : (tag : Option ℕ) (opt : Opt) → rtm_flags tag opt < 65536
 unfolding rtm_flags opt_flags
 flags-small tag opt = small (is_some tag) (is_some opt.raw) (is_some opt.cq_data) (is_some opt.connid)
 
+-- and so have those of the optional headers alone
+pub opt_flags-small : (opt : Opt) → opt_flags opt < 65536
+unfolding rtm_flags
+opt_flags-small opt = let e = flags-small None opt in omega arith
+
 -- a base header and more are in their ranges
-fit-head : (kind flags : ℕ) (more : List Field) → kind < 256 → flags < 65536 → fields_fit more ≡ true → fields_fit (head_fields kind flags ++ more) ≡ true
+pub fit-head : (kind flags : ℕ) (more : List Field) → kind < 256 → flags < 65536 → fields_fit more ≡ true → fields_fit (head_fields kind flags ++ more) ≡ true
 unfolding head_fields base_fields fields_fit field_fits
 fit-head kind flags more a b rest = rw (le-leb (suc kind) 256 (omega arith), le-leb (suc flags) 65536 (omega arith), rest) refl
 
@@ -130,7 +140,7 @@ fit-tag true place more bytes h rest = fit-own place 8 more bytes h rest
 fit-tag false place more bytes h rest = rest
 
 -- a raw address that stands there is in its ranges
-fit-raw : (there : Bool) (a b : ℕ) (bytes : List ℕ) → AreBytes bytes → fields_fit (raw_fields (then_some there (number_at a 4 bytes, number_at b 4 bytes))) ≡ true
+pub fit-raw : (there : Bool) (a b : ℕ) (bytes : List ℕ) → AreBytes bytes → fields_fit (raw_fields (then_some there (number_at a 4 bytes, number_at b 4 bytes))) ≡ true
 unfolding raw_fields fields_fit field_fits
 fit-raw true a b bytes h = rw (le-leb (suc (number_at a 4 bytes)) (256 ^ 4) (let e = number_at-fits a 4 bytes h in omega arith), le-leb (suc (number_at b 4 bytes)) (256 ^ 4) (let e = number_at-fits b 4 bytes h in omega arith)) refl
 fit-raw false a b bytes h = refl
@@ -142,7 +152,7 @@ fit-cq_data true a bytes h = fit-own a 8 [] bytes h fit-nothing
 fit-cq_data false a bytes h = fit-nothing
 
 -- an identifier that stands there is in its range
-fit-connid : (there : Bool) (a : ℕ) (bytes : List ℕ) → AreBytes bytes → fields_fit (connid_fields (then_some there (number_at a 4 bytes))) ≡ true
+pub fit-connid : (there : Bool) (a : ℕ) (bytes : List ℕ) → AreBytes bytes → fields_fit (connid_fields (then_some there (number_at a 4 bytes))) ≡ true
 unfolding connid_fields
 fit-connid true a bytes h = fit-own a 4 [] bytes h fit-nothing
 fit-connid false a bytes h = fit-nothing
@@ -159,10 +169,10 @@ unfolding tag_at
 fit-tag_at size more bytes h rest = fit-tag (has_bit 3 (number_at 2 2 bytes)) size more bytes h rest
 
 -- the fields of a packet whose form is in its ranges are in theirs
-fit-rtm : (size : ℕ) (bytes : List ℕ) (form : Form) → AreBytes bytes → type_of form < 255 → fields_fit (form_fields form) ≡ true → fields_fit (last_fields form) ≡ true → fields_fit (layout (rtm_of size bytes form)) ≡ true
+fit-rtm : (size : ℕ) (bytes : List ℕ) (form : Form) → AreBytes bytes → type_of (confirm_at bytes) form < 255 → fields_fit (form_fields form) ≡ true → fields_fit (last_fields form) ≡ true → fields_fit (layout (rtm_of size bytes form)) ≡ true
 fit-rtm size bytes form h small a b =
     rw (rtm-layout size bytes form)
-    (fit-head _ _ _ (one-more (type_of form) (is_some (tag_at size bytes)) small) (flags-small (tag_at size bytes) (opt_of size bytes))
+    (fit-head _ _ _ (one-more (type_of (confirm_at bytes) form) (is_some (tag_at size bytes)) small) (flags-small (tag_at size bytes) (opt_of size bytes))
     (fit-own 4 4 _ bytes h
     (fit-append (form_fields form) _ a
     (fit-tag_at size _ bytes h
@@ -207,18 +217,47 @@ unfolding last_place
 before-last size bytes n end = omega arith
 
 -- bytes with those headers and that form are that packet
-pub rtm-is : (kind size : ℕ) (form : Form) (bytes : List ℕ) → AreBytes bytes → type_of form ≡ kind → kind < 255 → 8 + form_size form ≡ size → is_opened kind size bytes ≡ true
-    → form_fits form ≡ true → fields_fit (form_fields form) ≡ true → fields_fit (last_fields form) ≡ true
+pub rtm-is : (kind size : ℕ) (form : Form) (bytes : List ℕ) → AreBytes bytes → type_of (confirm_at bytes) form ≡ kind → kind < 255 → 8 + form_size form ≡ size → is_opened kind size bytes ≡ true
+    → confirm_fits (confirm_at bytes) form ≡ true → form_fits form ≡ true → fields_fit (form_fields form) ≡ true → fields_fit (last_fields form) ≡ true
     → stands 8 (form_fields form) bytes ≡ true → stands (last_place size bytes) (last_fields form) bytes ≡ true → last_place size bytes + size_of (last_fields form) ≡ length bytes
     → if_spelled bytes (rtm_of size bytes form) ≡ Some (rtm_of size bytes form)
 unfolding packet_fits
-rtm-is kind size form bytes h type small whole test fit form_fit last_fit form_there last_there end =
+rtm-is kind size form bytes h type small whole test own fit form_fit last_fit form_there last_there end =
     let o = opened kind size bytes test in
     let there : stands 0 (layout (rtm_of size bytes form)) bytes ≡ true = rw (rtm-stands size bytes form h whole o.room, type, o.head, form_there, o.opts, last_there) refl in
-    is-spelled (rtm_of size bytes form) bytes (and_from (opt_fits (opt_of size bytes)) (form_fits form) o.fit fit) (fit-rtm size bytes form h (omega arith) form_fit last_fit) there (rtm-size_of size bytes form whole ∙ end)
+    is-spelled (rtm_of size bytes form) bytes (and_from (confirm_fits (confirm_at bytes) form && opt_fits (opt_of size bytes)) (form_fits form) (and_from (confirm_fits (confirm_at bytes) form) (opt_fits (opt_of size bytes)) own o.fit) fit) (fit-rtm size bytes form h (omega arith) form_fit last_fit) there (rtm-size_of size bytes form whole ∙ end)
+
+-- the type at the front is that of the base header there
+pub first-type : (kind flags : ℕ) (bytes : List ℕ) → AreBytes bytes → kind < 256 → 1 ≤ length bytes → begins (fields_bytes (head_fields kind flags)) bytes ≡ true → number_at 0 1 bytes ≡ kind
+unfolding head_fields base_fields
+first-type kind flags bytes h small room there =
+    let more : List Field = Number 1 4 ∷ Number 2 flags ∷ [] in
+    let parts = and_parts (number_at 0 1 bytes == kind) (stands 1 more bytes) (sym (stands-number 0 1 kind more bytes h (omega arith) (omega arith) room) ∙ there) in
+    eqb-true (number_at 0 1 bytes) kind parts.0
+
+-- packets of types below 200 say nothing of a receipt
+pub opened-plain : (kind size : ℕ) (bytes : List ℕ) → AreBytes bytes → kind < 199 → 8 ≤ length bytes → Opened kind size bytes → not (confirm_at bytes) ≡ true
+unfolding confirm_at
+opened-plain kind size bytes h small room o =
+    let more = one-more' (is_some (tag_at size bytes)) in
+    let type = first-type (kind + (if is_some (tag_at size bytes) then 1 else 0)) (rtm_flags (tag_at size bytes) (opt_of size bytes)) bytes h (omega (arith, more)) (omega arith) o.head in
+    let below : nat_le 200 (number_at 0 1 bytes) ≡ false = false_from_ne_true (nat_le 200 (number_at 0 1 bytes)) (λ e. let above = leb-true 200 (number_at 0 1 bytes) e in absurd (omega (arith, more, type, above))) in
+    rw below refl
+
+-- the type of an untagged packet whose type says whether its sender waits for a receipt
+abbrev pub kind_at : (plain : ℕ) → List ℕ → ℕ
+kind_at plain bytes = if confirm_at bytes then plain + 136 else plain
+
+-- it has one more type after it
+small-by : (confirm : Bool) (plain : ℕ) → plain < 119 → (if confirm then plain + 136 else plain) < 255
+small-by true plain h = omega arith
+small-by false plain h = omega arith
+
+pub kind-small : (plain : ℕ) (bytes : List ℕ) → plain < 119 → kind_at plain bytes < 255
+kind-small plain bytes h = small-by (confirm_at bytes) plain h
 
 -- what a packet that opens a message takes
-pub rtm-takes : (kind size : ℕ) (form : Form) (bytes : List ℕ) → AreBytes bytes → type_of form ≡ kind → 8 + form_size form ≡ size
+pub rtm-takes : (kind size : ℕ) (form : Form) (bytes : List ℕ) → AreBytes bytes → type_of (confirm_at bytes) form ≡ kind → 8 + form_size form ≡ size
     → (is_opened kind size bytes ≡ true → form_fits form ≡ true → stands 8 (form_fields form) bytes ≡ true → stands (last_place size bytes) (last_fields form) bytes ≡ true → last_place size bytes + size_of (last_fields form) ≡ length bytes → ⊥)
     → if_spelled bytes (rtm_of size bytes form) ≡ None
 unfolding packet_fits
@@ -226,11 +265,12 @@ rtm-takes kind size form bytes h type whole wrong =
     not-spelled (rtm_of size bytes form) bytes (λ fit there same.
     let end : last_place size bytes + size_of (last_fields form) ≡ length bytes = sym (rtm-size_of size bytes form whole) ∙ same in
     let room : opt_place size bytes ≤ length bytes = before-last size bytes (size_of (last_fields form)) end in
-    let fits = and_parts (opt_fits (opt_of size bytes)) (form_fits form) fit in
+    let fits = and_parts (confirm_fits (confirm_at bytes) form && opt_fits (opt_of size bytes)) (form_fits form) fit in
+    let opts = and_parts (confirm_fits (confirm_at bytes) form) (opt_fits (opt_of size bytes)) fits.0 in
     let a = and_parts _ _ (sym (rtm-stands size bytes form h whole room) ∙ there) in
     let b = and_parts _ _ a.1 in
     let d = and_parts _ _ b.1 in
-    wrong (is-opened kind size bytes (record { room = room; opts = d.0; fit = fits.0; head = subst (λ (k : ℕ). begins (fields_bytes (head_of k size bytes)) bytes ≡ true) type a.0 })) fits.1 b.0 d.1 end)
+    wrong (is-opened kind size bytes (record { room = room; opts = d.0; fit = opts.1; head = subst (λ (k : ℕ). begins (fields_bytes (head_of k size bytes)) bytes ≡ true) type a.0 })) fits.1 b.0 d.1 end)
 
 -- ---- the headers as they are read
 
@@ -248,12 +288,12 @@ pub true-not-false : {b : Bool} → b ≡ false → b ≡ true → ⊥
 true-not-false p q = cc
 
 -- a number that stands after a place
-number_at-drop : (place n from : ℕ) (bytes : List ℕ) → number_at place n (drop from bytes) ≡ number_at (from + place) n bytes
+pub number_at-drop : (place n from : ℕ) (bytes : List ℕ) → number_at place n (drop from bytes) ≡ number_at (from + place) n bytes
 unfolding number_at
 number_at-drop place n from bytes = rw (drop-drop place from bytes) refl
 
 -- the optional headers after a place are those at the place
-opt_at-drop : (place flags : ℕ) (bytes : List ℕ) → opt_at 0 flags (drop place bytes) ≡ opt_at place flags bytes
+pub opt_at-drop : (place flags : ℕ) (bytes : List ℕ) → opt_at 0 flags (drop place bytes) ≡ opt_at place flags bytes
 unfolding opt_at
 opt_at-drop place flags bytes =
     let raw : ℕ = if has_bit 0 flags then 36 else 0 in
@@ -286,7 +326,7 @@ unfolding opening_in
 opening-takes kind size bytes wrong = never (is_opened kind size bytes) _ (λ h. wrong (opened kind size bytes h))
 
 -- headers that are there are read
-pub opening-is : (kind size : ℕ) (bytes : List ℕ) → Opened kind size bytes → opening_in kind size bytes ≡ Some (record { no = record { 0 = number_at 4 4 bytes }; tag = tag_at size bytes; opt = opt_of size bytes; place = last_place size bytes })
+pub opening-is : (kind size : ℕ) (bytes : List ℕ) → Opened kind size bytes → opening_in kind size bytes ≡ Some (record { no = record { 0 = number_at 4 4 bytes }; tag = tag_at size bytes; confirm = confirm_at bytes; opt = opt_of size bytes; place = last_place size bytes })
 unfolding opening_in
 opening-is kind size bytes o = rw (is-opened kind size bytes o) refl
 
@@ -317,7 +357,7 @@ opening-none kind size bytes none o = let e = opening-is kind size bytes o in cc
 
 -- headers that are read are there
 pub opening-some : (kind size : ℕ) (bytes : List ℕ) (found : Opening) → Some found ≡ opening_in kind size bytes
-    → Opened kind size bytes × (found ≡ record { no = record { 0 = number_at 4 4 bytes }; tag = tag_at size bytes; opt = opt_of size bytes; place = last_place size bytes })
+    → Opened kind size bytes × (found ≡ record { no = record { 0 = number_at 4 4 bytes }; tag = tag_at size bytes; confirm = confirm_at bytes; opt = opt_of size bytes; place = last_place size bytes })
 unfolding opening_in
 opening-some kind size bytes found e = let p = some-then _ _ _ (sym e) in (opened kind size bytes p.0, p.1)
 

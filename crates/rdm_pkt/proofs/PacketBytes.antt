@@ -1,5 +1,5 @@
 -- The bytes of packets, part by part.
-use Rattle.std.proofs.Common.{◌≡◌, ℕ, ◌+◌, ◌<◌, if◌then◌else◌, List, [], ◌∷◌, ◌++◌, length, take, get_or, Option, refl, append_assoc, append-nil, add-one}
+use Rattle.std.proofs.Common.{◌≡◌, ℕ, ◌+◌, ◌<◌, Bool, if◌then◌else◌, List, [], ◌∷◌, ◌++◌, length, take, get_or, Option, refl, append_assoc, append-nil, add-one}
 use Rattle.std.specs.Prelude.{is_some, map, flat_map}
 use Rattle.std.proofs.lemmas.Grind.{flat_map-append}
 use Rattle.std.proofs.lemmas.List.{map-append}
@@ -8,14 +8,14 @@ use Rattle.rdm_num.specs.declared.lists.IovEntry.{IovEntry}
 use Rattle.rdm_num.specs.declared.numbers.MsgNo.{MsgNo}
 use Rattle.rdm_hdr.specs.declared.Opt.{Opt}
 use Rattle.rdm_hdr.specs.Fields.{Field, Number, Data, field_bytes, fields_bytes}
-use Rattle.rdm_hdr.specs.Headers.{opt_fields}
+use Rattle.rdm_hdr.specs.Headers.{opt_fields, opt_flags}
 use Rattle.rdm_hdr.proofs.Opts.{fields_bytes-append}
 use Rattle.rdm_pkt.specs.declared.Packet.{Packet}
-use Rattle.rdm_pkt.specs.declared.Packet.TheVariants.{Rtm, Cts, CtsData, Eor, Handshake}
+use Rattle.rdm_pkt.specs.declared.Packet.TheVariants.{Rtm, Cts, CtsData, Eor, Handshake, Receipt}
 use Rattle.rdm_pkt.specs.declared.Form.TheVariants.{Eager, Medium, LongCts, LongRead, Runt}
 use Rattle.rdm_pkt.proofs.PacketSizes.{packet-size, last-size, fits-form, fits-few}
 use Rattle.rdm_pkt.specs.declared.Form.{Form}
-use Rattle.rdm_pkt.specs.Grammar.{type_of, form_fields, entry_fields, last_fields, tag_fields, rtm_flags, head_fields, layout, spelling}
+use Rattle.rdm_pkt.specs.Grammar.{type_of, form_fields, entry_fields, last_fields, tag_fields, rtm_flags, head_fields, sender_opt, layout, spelling}
 
 -- the bytes of a field and more fields
 fields_bytes-cons : (f : Field) (more : List Field) → fields_bytes (f ∷ more) ≡ field_bytes f ++ fields_bytes more
@@ -43,11 +43,11 @@ unfolding fields_bytes entry_fields
 entry-bytes e = rw append-nil refl
 
 -- the bytes of a packet that opens a message
-pub rtm-bytes : (number : MsgNo) (tag : Option ℕ) (opt : Opt) (form : Form)
-    → spelling (Rtm number tag opt form)
-    ≡ fields_bytes (head_fields (type_of form + (if is_some tag then 1 else 0)) (rtm_flags tag opt)) ++ (field_bytes (Number 4 number.0) ++ (fields_bytes (form_fields form) ++ (fields_bytes (tag_fields tag) ++ (fields_bytes (opt_fields opt) ++ fields_bytes (last_fields form)))))
+pub rtm-bytes : (number : MsgNo) (tag : Option ℕ) (confirm : Bool) (opt : Opt) (form : Form)
+    → spelling (Rtm number tag confirm opt form)
+    ≡ fields_bytes (head_fields (type_of confirm form + (if is_some tag then 1 else 0)) (rtm_flags tag opt)) ++ (field_bytes (Number 4 number.0) ++ (fields_bytes (form_fields form) ++ (fields_bytes (tag_fields tag) ++ (fields_bytes (opt_fields opt) ++ fields_bytes (last_fields form)))))
 unfolding spelling layout
-rtm-bytes number tag opt form = simp (fields_bytes-append, fields_bytes-cons) (simp append_assoc refl)
+rtm-bytes number tag confirm opt form = simp (fields_bytes-append, fields_bytes-cons) (simp append_assoc refl)
 
 -- the bytes of one more range
 pub iov-more : (iov : List IovEntry) (i : ℕ) (d : IovEntry) → i < length iov
@@ -81,24 +81,26 @@ last-bytes (Runt size send iov runt offset bytes) = rw (fields_bytes-append (fla
 
 -- the bytes of a packet, part by part
 abbrev pub packet_bytes : Packet → List ℕ
-packet_bytes (Rtm number tag opt form) = spelling (Rtm number tag opt form)
+packet_bytes (Rtm number tag confirm opt form) = spelling (Rtm number tag confirm opt form)
 packet_bytes (Cts send recv size connid) =
     fields_bytes (head_fields 3 32768) ++ (field_bytes (Number 4 send.0) ++ (field_bytes (Number 4 recv.0) ++ (field_bytes (Number 8 size) ++ field_bytes (Number 4 connid.0))))
 packet_bytes (CtsData recv offset connid bytes) =
     fields_bytes (head_fields 4 32768) ++ (field_bytes (Number 4 recv.0) ++ (field_bytes (Number 8 (length bytes)) ++ (field_bytes (Number 8 offset) ++ (field_bytes (Number 4 connid.0) ++ bytes))))
 packet_bytes (Eor send recv connid) =
     fields_bytes (head_fields 7 32768) ++ (field_bytes (Number 4 send.0) ++ (field_bytes (Number 4 recv.0) ++ field_bytes (Number 4 connid.0)))
-packet_bytes (Handshake words connid) =
-    fields_bytes (head_fields 9 32768) ++ (field_bytes (Number 4 (length words + 3)) ++ (fields_bytes (map (Number 8) words) ++ field_bytes (Number 4 connid.0)))
+packet_bytes (Handshake words connid raw) =
+    fields_bytes (head_fields 9 (opt_flags (sender_opt connid raw))) ++ (field_bytes (Number 4 (length words + 3)) ++ (fields_bytes (map (Number 8) words) ++ fields_bytes (opt_fields (sender_opt connid raw))))
+packet_bytes (Receipt number connid) = fields_bytes (head_fields 10 32768) ++ (field_bytes (Number 4 number.0) ++ field_bytes (Number 4 connid.0))
 
 -- the bytes of each packet
 pub packet-bytes : (p : Packet) → spelling p ≡ packet_bytes p
 unfolding spelling layout
-packet-bytes (Rtm number tag opt form) = refl
+packet-bytes (Rtm number tag confirm opt form) = refl
 packet-bytes (Cts send recv size connid) = simp (fields_bytes-append, fields_bytes-cons, no-bytes, append-nil) refl
 packet-bytes (CtsData recv offset connid bytes) = simp (fields_bytes-append, data-bytes, fields_bytes-cons) refl
 packet-bytes (Eor send recv connid) = simp (fields_bytes-append, fields_bytes-cons, no-bytes, append-nil) refl
-packet-bytes (Handshake words connid) = simp (fields_bytes-append, fields_bytes-cons, no-bytes, append-nil) (simp append_assoc refl)
+packet-bytes (Handshake words connid raw) = simp (fields_bytes-append, fields_bytes-cons) (simp append_assoc refl)
+packet-bytes (Receipt number connid) = simp (fields_bytes-append, fields_bytes-cons, no-bytes, append-nil) refl
 
 -- the bytes of packets
 pub ruleset packet_parts = (packet-bytes, packet-size, fits-form, fits-few)

@@ -1,5 +1,5 @@
 -- The sizes of packets and of their parts.
-use Rattle.std.proofs.Common.{◌≡◌, ℕ, ◌+◌, ◌*◌, ◌≤◌, true, if◌then◌else◌, List, [], ◌∷◌, ◌++◌, length, Option, Some, None, refl, ◌∙◌, add-zero, arith}
+use Rattle.std.proofs.Common.{◌≡◌, ℕ, ◌+◌, ◌*◌, ◌≤◌, Bool, true, if◌then◌else◌, List, [], ◌∷◌, ◌++◌, length, Option, Some, None, refl, sym, ◌∙◌, add-zero, arith}
 use Rattle.std.specs.Prelude.{is_some, map, flat_map, nat_le}
 use Rattle.std.proofs.lemmas.List.{length-append}
 use Rattle.std.proofs.lemmas.Bool.{and_parts, leb-true}
@@ -7,15 +7,16 @@ use Rattle.byteorder.specs.Numbers.{length-bytes_low_first}
 use Rattle.rdm_num.specs.declared.lists.IovEntry.{IovEntry}
 use Rattle.rdm_num.specs.declared.numbers.MsgNo.{MsgNo}
 use Rattle.rdm_num.specs.declared.numbers.Connid.{Connid}
+use Rattle.rdm_num.specs.declared.numbers.PortNo.{PortNo}
 use Rattle.rdm_hdr.specs.declared.Opt.{Opt}
 use Rattle.rdm_hdr.specs.Fields.{Field, Number, Data, field_bytes, fields_bytes}
 use Rattle.rdm_hdr.specs.Headers.{base_fields, opt_fields, opt_size}
 use Rattle.rdm_hdr.proofs.Opts.{fields_bytes-append}
 use Rattle.rdm_pkt.specs.declared.Packet.{Packet}
-use Rattle.rdm_pkt.specs.declared.Packet.TheVariants.{Rtm, Cts, CtsData, Eor, Handshake}
+use Rattle.rdm_pkt.specs.declared.Packet.TheVariants.{Rtm, Cts, CtsData, Eor, Handshake, Receipt}
 use Rattle.rdm_pkt.specs.declared.Form.{Form}
 use Rattle.rdm_pkt.specs.declared.Form.TheVariants.{Eager, Medium, LongCts, LongRead, Runt}
-use Rattle.rdm_pkt.specs.Grammar.{type_of, form_fields, entry_fields, last_fields, tag_fields, rtm_flags, head_fields, layout, iov_fits, form_fits, packet_fits, spelling}
+use Rattle.rdm_pkt.specs.Grammar.{type_of, form_fields, entry_fields, last_fields, tag_fields, rtm_flags, head_fields, sender_opt, layout, iov_fits, form_fits, packet_fits, spelling}
 
 -- the size of fields
 abbrev pub size_of : List Field → ℕ
@@ -26,7 +27,7 @@ pub size_of-append : (fields more : List Field) → size_of (fields ++ more) ≡
 size_of-append fields more = rw (fields_bytes-append fields more, length-append (fields_bytes fields) (fields_bytes more)) refl
 
 -- no fields
-nothing-size : size_of [] ≡ 0
+pub nothing-size : size_of [] ≡ 0
 unfolding fields_bytes
 nothing-size = refl
 
@@ -99,34 +100,40 @@ last-size (LongRead size send iov) = iov-size iov
 last-size (Runt size send iov runt offset bytes) = rw (size_of-append (flat_map entry_fields iov) (Data bytes ∷ []), size_of-data bytes, iov-size iov) refl
 
 -- the size of a packet that opens a message
-pub rtm-size : (number : MsgNo) (tag : Option ℕ) (opt : Opt) (form : Form) → length (spelling (Rtm number tag opt form)) ≡ 8 + size_of (form_fields form) + size_of (tag_fields tag) + opt_size opt + size_of (last_fields form)
+pub rtm-size : (number : MsgNo) (tag : Option ℕ) (confirm : Bool) (opt : Opt) (form : Form) → length (spelling (Rtm number tag confirm opt form)) ≡ 8 + size_of (form_fields form) + size_of (tag_fields tag) + opt_size opt + size_of (last_fields form)
 unfolding spelling layout opt_size
-rtm-size number tag opt form =
+rtm-size number tag confirm opt form =
     rw (
-      size_of-append (head_fields (type_of form + (if is_some tag then 1 else 0)) (rtm_flags tag opt) ++ Number 4 number.0 ∷ form_fields form ++ tag_fields tag ++ opt_fields opt) (last_fields form),
-      size_of-append (head_fields (type_of form + (if is_some tag then 1 else 0)) (rtm_flags tag opt) ++ Number 4 number.0 ∷ form_fields form ++ tag_fields tag) (opt_fields opt),
-      size_of-append (head_fields (type_of form + (if is_some tag then 1 else 0)) (rtm_flags tag opt) ++ Number 4 number.0 ∷ form_fields form) (tag_fields tag),
-      size_of-append (head_fields (type_of form + (if is_some tag then 1 else 0)) (rtm_flags tag opt)) (Number 4 number.0 ∷ form_fields form),
+      size_of-append (head_fields (type_of confirm form + (if is_some tag then 1 else 0)) (rtm_flags tag opt) ++ Number 4 number.0 ∷ form_fields form ++ tag_fields tag ++ opt_fields opt) (last_fields form),
+      size_of-append (head_fields (type_of confirm form + (if is_some tag then 1 else 0)) (rtm_flags tag opt) ++ Number 4 number.0 ∷ form_fields form ++ tag_fields tag) (opt_fields opt),
+      size_of-append (head_fields (type_of confirm form + (if is_some tag then 1 else 0)) (rtm_flags tag opt) ++ Number 4 number.0 ∷ form_fields form) (tag_fields tag),
+      size_of-append (head_fields (type_of confirm form + (if is_some tag then 1 else 0)) (rtm_flags tag opt)) (Number 4 number.0 ∷ form_fields form),
       size_of-number 4 number.0 (form_fields form),
       head-size,
     ) (omega arith)
 
+-- a packet is as long where its sender waits for a receipt as where it does not
+pub confirm-size : (number : MsgNo) (tag : Option ℕ) (confirm confirm' : Bool) (opt : Opt) (form : Form) → length (spelling (Rtm number tag confirm opt form)) ≡ length (spelling (Rtm number tag confirm' opt form))
+confirm-size number tag confirm confirm' opt form = rtm-size number tag confirm opt form ∙ sym (rtm-size number tag confirm' opt form)
+
 -- the size of a packet by its kind
 abbrev pub packet_size : Packet → ℕ
-packet_size (Rtm number tag opt form) = 8 + size_of (form_fields form) + size_of (tag_fields tag) + opt_size opt + size_of (last_fields form)
+packet_size (Rtm number tag confirm opt form) = 8 + size_of (form_fields form) + size_of (tag_fields tag) + opt_size opt + size_of (last_fields form)
 packet_size (Cts send recv size connid) = 24
 packet_size (CtsData recv offset connid bytes) = 28 + length bytes
 packet_size (Eor send recv connid) = 16
-packet_size (Handshake words connid) = 12 + 8 * length words
+packet_size (Handshake words connid raw) = 8 + 8 * length words + opt_size (sender_opt connid raw)
+packet_size (Receipt number connid) = 12
 
 -- the size of a packet
 pub packet-size : (p : Packet) → length (spelling p) ≡ packet_size p
-unfolding spelling layout
-packet-size (Rtm number tag opt form) = rtm-size number tag opt form
+unfolding spelling layout opt_size
+packet-size (Rtm number tag confirm opt form) = rtm-size number tag confirm opt form
 packet-size (Cts send recv size connid) = simp (size_of-append, size_of-number, head-size, nothing-size) refl
 packet-size (CtsData recv offset connid bytes) = simp (size_of-append, size_of-number, size_of-data, head-size) (omega arith)
 packet-size (Eor send recv connid) = simp (size_of-append, size_of-number, head-size, nothing-size) refl
-packet-size (Handshake words connid) = simp (size_of-append, size_of-number, words-size, head-size, nothing-size) (omega arith)
+packet-size (Handshake words connid raw) = simp (size_of-append, size_of-number, words-size, head-size) (omega arith)
+packet-size (Receipt number connid) = simp (size_of-append, size_of-number, head-size, nothing-size) refl
 
 -- a read list has up to four ranges
 pub iov-few : (iov : List IovEntry) (size : ℕ) → iov_fits iov size ≡ true → length iov ≤ 4
@@ -160,14 +167,14 @@ form-few (Runt size send iov runt offset bytes) h =
     iov-few iov size d.0
 
 -- a packet that fits opens a message by a form that fits
-pub fits-form : (number : MsgNo) (tag : Option ℕ) (opt : Opt) (form : Form) → packet_fits (Rtm number tag opt form) ≡ true → form_fits form ≡ true
+pub fits-form : (number : MsgNo) (tag : Option ℕ) (confirm : Bool) (opt : Opt) (form : Form) → packet_fits (Rtm number tag confirm opt form) ≡ true → form_fits form ≡ true
 unfolding packet_fits
-fits-form number tag opt form h = let b = and_parts _ _ h in b.1
+fits-form number tag confirm opt form h = let b = and_parts _ _ h in b.1
 
 -- a handshake that fits has up to eight words
-pub fits-few : (words : List ℕ) (connid : Connid) → packet_fits (Handshake words connid) ≡ true → length words ≤ 8
+pub fits-few : (words : List ℕ) (connid : Connid) (raw : Option PortNo) → packet_fits (Handshake words connid raw) ≡ true → length words ≤ 8
 unfolding packet_fits
-fits-few words connid h =
+fits-few words connid raw h =
     let b = and_parts (nat_le 1 (length words)) (nat_le (length words) 8) h in
     leb-true (length words) 8 b.1
 

@@ -1,19 +1,19 @@
--- Packets of one shape are read as they are spelled: grants, granted bytes, ends, and handshakes.
-use Rattle.std.proofs.Common.{◌≡◌, ℕ, ◌+◌, ◌-◌, ◌*◌, ◌≤◌, min, Bool, true, List, [], ◌∷◌, ◌++◌, length, map, Some, refl, sym, ap, arith}
-use Rattle.std.specs.Prelude.{bytes_eq, nat_le}
+-- Packets of one shape are read as they are spelled: grants, granted bytes, ends, and receipts.
+use Rattle.std.proofs.Common.{◌≡◌, ℕ, Bool, true, List, [], ◌∷◌, ◌++◌, length, Some, refl, sym, ap}
+use Rattle.std.specs.Prelude.{bytes_eq}
 use Rattle.std.specs.Bool.{then_some}
-use Rattle.std.proofs.lemmas.Bool.{and_parts, and_from, leb-true}
+use Rattle.std.proofs.lemmas.Bool.{and_parts, and_from}
 use Rattle.std.proofs.lemmas.Slice.Eq.{bytes_eq-Decides}
-use Rattle.std.proofs.Math.Nat.{min-eq_right}
 use Rattle.rdm_hdr.specs.Fields.{Field, Number, Data, fields_fit, number_at}
 use Rattle.rdm_hdr.specs.Headers.{base_fields}
 use Rattle.rdm_num.specs.declared.numbers.OpId.{OpId}
 use Rattle.rdm_num.specs.declared.numbers.Connid.{Connid}
+use Rattle.rdm_num.specs.declared.numbers.MsgNo.{MsgNo}
 use Rattle.rdm_pkt.specs.declared.Packet.{Packet}
-use Rattle.rdm_pkt.specs.declared.Packet.TheVariants.{Cts, CtsData, Eor, Handshake}
+use Rattle.rdm_pkt.specs.declared.Packet.TheVariants.{Cts, CtsData, Eor, Receipt}
 use Rattle.rdm_pkt.specs.Grammar.{head_fields, layout, packet_fits, fits, spelling, Spells}
-use Rattle.rdm_pkt.specs.Reading.{Row, CtsRow, CtsDataRow, EorRow, HandshakeRow, row_of, values_at, if_spelled, packet_in}
-use Rattle.rdm_pkt.proofs.ReadFields.{At, at_start, at_number, at_data, at_words}
+use Rattle.rdm_pkt.specs.Reading.{Row, CtsRow, CtsDataRow, EorRow, ReceiptRow, row_of, values_at, if_spelled, packet_in}
+use Rattle.rdm_pkt.proofs.ReadFields.{At, at_start, at_number, at_data}
 
 -- the fields of a packet stand at the start of its bytes
 pub at_layout : (p : Packet) (bytes : List ℕ) → Spells p bytes → At 0 bytes (layout p)
@@ -82,19 +82,12 @@ eor_is_read send recv connid bytes s =
     let c = at_number 12 4 connid.0 bytes [] b.1 in
     read_by EorRow 7 (Eor send recv connid) bytes s head.0 refl (rw (a.0, b.0, c.0) refl)
 
--- as many words as there are, where there are no more than 8
-word_count : (n m : ℕ) → m ≡ n + 3 → n ≤ 8 → min 8 (m - 3) ≡ n
-word_count n m e h = let d : m - 3 ≡ n = omega arith in rw d (min-eq_right h)
-
--- a handshake is read
-pub handshake_is_read : (words : List ℕ) (connid : Connid) (bytes : List ℕ) → Spells (Handshake words connid) bytes
-    → packet_in bytes ≡ Some (Handshake words connid)
-unfolding layout row_of values_at packet_fits head_fields base_fields
-handshake_is_read words connid bytes s =
-    let head = after_head 9 32768 bytes (Number 4 (length words + 3) ∷ map (Number 8) words ++ Number 4 connid.0 ∷ []) (at_layout (Handshake words connid) bytes s) in
-    let a = at_number 4 4 (length words + 3) bytes (map (Number 8) words ++ Number 4 connid.0 ∷ []) head.2 in
-    let b = at_words 8 words bytes (Number 4 connid.0 ∷ []) a.1 in
-    let c = at_number (8 + 8 * length words) 4 connid.0 bytes [] b.1 in
-    let fit = and_parts (nat_le 1 (length words)) (nat_le (length words) 8) (packet_fit (Handshake words connid) bytes s) in
-    let count = word_count (length words) (number_at 4 4 bytes) a.0 (leb-true (length words) 8 fit.1) in
-    read_by HandshakeRow 9 (Handshake words connid) bytes s head.0 refl (rw (count, b.0, c.0) refl)
+-- a receipt is read
+pub receipt_is_read : (number : MsgNo) (connid : Connid) (bytes : List ℕ) → Spells (Receipt number connid) bytes
+    → packet_in bytes ≡ Some (Receipt number connid)
+unfolding layout row_of values_at
+receipt_is_read number connid bytes s =
+    let head = after_head 10 32768 bytes (Number 4 number.0 ∷ Number 4 connid.0 ∷ []) (at_layout (Receipt number connid) bytes s) in
+    let a = at_number 4 4 number.0 bytes (Number 4 connid.0 ∷ []) head.2 in
+    let b = at_number 8 4 connid.0 bytes [] a.1 in
+    read_by ReceiptRow 10 (Receipt number connid) bytes s head.0 refl (rw (a.0, b.0) refl)

@@ -8,14 +8,14 @@ use Rattle.rdm_hdr.specs.Fields.{Field, Number, Data, fields_fit, number_at}
 use Rattle.rdm_hdr.proofs.Fronts.{AreBytes, bytes-after}
 use Rattle.rdm_pkt.specs.declared.Form.{Form}
 use Rattle.rdm_pkt.specs.declared.Form.TheVariants.{LongRead, Runt}
-use Rattle.rdm_pkt.specs.Grammar.{type_of, form_fields, last_fields, form_fits, iov_fits, entry_fields}
+use Rattle.rdm_pkt.specs.Grammar.{type_of, form_fields, last_fields, confirm_fits, form_fits, iov_fits, entry_fields}
 use Rattle.rdm_pkt.specs.Reading.{LongReadRow, RuntRow, header_size, form_at, rtm_at, iov_at, if_spelled}
 use Rattle.rdm_pkt.specs.Opened.{last_place}
 use Rattle.rdm_pkt.proofs.PacketSizes.{size_of, size_of-data, size_of-append, iov-size}
 use Rattle.rdm_pkt.proofs.Stands.{stands, stands-nothing, stands-own, stands-number, stands-rest}
 use Rattle.rdm_pkt.proofs.Rows.{fit-nothing, fit-own, fit-data}
 use Rattle.rdm_pkt.proofs.ReadLists.{length-iov_at, fit-iov, stands-iov}
-use Rattle.rdm_pkt.proofs.Openers.{Opened, opened, is-opened, rtm_of, rtm-row, rtm-is, rtm-takes, size-room}
+use Rattle.rdm_pkt.proofs.Openers.{Opened, opened, is-opened, rtm_of, rtm-row, rtm-is, rtm-takes, size-room, opened-plain}
 
 -- how many ranges are read
 abbrev pub count_at : List ℕ → ℕ
@@ -40,7 +40,7 @@ long_read_at bytes = LongRead (number_at 8 8 bytes) (record { 0 = number_at 16 4
 -- bytes with the headers of a read are one where they end with a read list that meets its conditions
 pub long_read-is : (bytes : List ℕ) → AreBytes bytes → Opened 128 24 bytes → number_at 20 4 bytes ≤ 4 → length bytes ≡ last_place 24 bytes + 24 * count_at bytes → iov_fits (iov_at (last_place 24 bytes) (count_at bytes) bytes) (number_at 8 8 bytes) ≡ true
     → if_spelled bytes (rtm_at LongReadRow bytes) ≡ Some (rtm_of 24 bytes (long_read_at bytes))
-unfolding header_size form_at type_of form_fits form_fields last_fields
+unfolding header_size form_at type_of confirm_fits form_fits form_fields last_fields
 long_read-is bytes h o few end fit =
     let place : ℕ = last_place 24 bytes in
     let iov : List IovEntry = iov_at place (count_at bytes) bytes in
@@ -57,7 +57,7 @@ long_read-is bytes h o few end fit =
     ∙ stands-iov place (count_at bytes) [] bytes h (omega arith) ∙ stands-nothing (place + 24 * count_at bytes) bytes in
     let whole : place + size_of (flat_map entry_fields iov) ≡ length bytes = let e = iov-size iov in omega (arith, e, counted, end) in
     rw (rtm-row LongReadRow bytes)
-    (rtm-is 128 24 (long_read_at bytes) bytes h refl (omega arith) refl (is-opened 128 24 bytes o) fit
+    (rtm-is 128 24 (long_read_at bytes) bytes h refl (omega arith) refl (is-opened 128 24 bytes o) (opened-plain 128 24 bytes h (omega arith) (omega arith) o) fit
     (rw same (fit-own 8 8 b bytes h (fit-own 16 4 d bytes h (fit-own 20 4 [] bytes h fit-nothing)))) last
     (rw same (stands-own 8 8 b bytes h (omega arith) (omega arith) ∙ stands-own 16 4 d bytes h (omega arith) (omega arith) ∙ stands-own 20 4 [] bytes h (omega arith) (omega arith) ∙ stands-nothing 24 bytes))
     there whole)
@@ -104,7 +104,7 @@ pub record RuntParts (bytes : List ℕ) : Type 0 where
 
 -- bytes with the headers of a first part are one where the parts are as they must be
 pub runt-is : (bytes : List ℕ) → AreBytes bytes → Opened 192 40 bytes → RuntParts bytes → if_spelled bytes (rtm_at RuntRow bytes) ≡ Some (rtm_of 40 bytes (runt_at bytes))
-unfolding header_size form_at type_of form_fits form_fields last_fields
+unfolding header_size form_at type_of confirm_fits form_fits form_fields last_fields
 runt-is bytes h o parts =
     let place : ℕ = last_place 40 bytes in
     let iov : List IovEntry = iov_at place (count_at bytes) bytes in
@@ -126,7 +126,7 @@ runt-is bytes h o parts =
     let whole : place + size_of (flat_map entry_fields iov ++ Data data' ∷ []) ≡ length bytes =
     rw (size_of-append (flat_map entry_fields iov) (Data data' ∷ []), size_of-data data', iov-size iov, counted) (omega arith) in
     rw (rtm-row RuntRow bytes)
-    (rtm-is 192 40 (runt_at bytes) bytes h refl (omega arith) refl (is-opened 192 40 bytes o) fit
+    (rtm-is 192 40 (runt_at bytes) bytes h refl (omega arith) refl (is-opened 192 40 bytes o) (opened-plain 192 40 bytes h (omega arith) (omega arith) o) fit
     (rw same (fit-own 8 8 b bytes h (fit-own 16 4 d bytes h (fit-own 20 4 e bytes h (fit-own 24 8 f bytes h (fit-own 32 8 [] bytes h fit-nothing))))))
     (fit-iov place (count_at bytes) (Data data' ∷ []) bytes h (fit-data data' (bytes-after (runt_place bytes) bytes h)))
     (rw same (stands-own 8 8 b bytes h (omega arith) (omega arith) ∙ stands-own 16 4 d bytes h (omega arith) (omega arith) ∙ stands-own 20 4 e bytes h (omega arith) (omega arith) ∙ stands-own 24 8 f bytes h (omega arith) (omega arith) ∙ stands-own 32 8 [] bytes h (omega arith) (omega arith) ∙ stands-nothing 40 bytes))

@@ -125,3 +125,13 @@ iov-all iov size left i some few end good sum =
     (λ p. let e = eqb-true (sum_by entry_length iov) size p in omega arith, λ p. (Decides-eqb (sum_by entry_length iov) size).1 (omega arith))
     (eqb-true left 0, λ p. (Decides-eqb left 0).1 p) in
     rw (le-leb 1 (length iov) some, le-leb (length iov) 4 few, each, last) refl
+
+-- what is not above 0 is 0
+none-of : (n : ℕ) → nat_lt 0 n ≡ false → n ≡ 0
+none-of zero e = refl
+none-of (suc n) e = absurd (two-answers e (le-leb 1 (suc n) (omega arith)))
+
+-- a read list that has no ranges meets no conditions
+pub no-ranges : (place count count' size : ℕ) (bytes : List ℕ) → nat_lt 0 count ≡ false → count ≡ count' → iov_fits (iov_at place count' bytes) size ≡ true → ⊥
+no-ranges place count count' size bytes none same fit =
+    two-answers (iov-none (iov_at place count' bytes) size (length-iov_at place count' bytes ∙ sym same ∙ none-of count none)) fit

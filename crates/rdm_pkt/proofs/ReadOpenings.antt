@@ -1,14 +1,14 @@
 -- Packets that open a message are read as they are spelled.
 use Rattle.std.proofs.Common.{◌≡◌, ℕ, ◌+◌, Bool, true, false, cond, List, ◌∷◌, ◌++◌, Option, Some, None, refl, ap, ◌∙◌, arith, subst, append_assoc}
-use Rattle.std.specs.Prelude.{is_some}
+use Rattle.std.specs.Prelude.{is_some, nat_le, ◌&&◌}
 use Rattle.std.specs.Bool.{then_some}
 use Rattle.rdm_hdr.specs.declared.Opt.{Opt}
 use Rattle.rdm_hdr.specs.Fields.{Field, Number, fields_bytes, field_bytes, number_at, has_bit}
 use Rattle.rdm_hdr.specs.Headers.{raw_fields, cq_data_fields, connid_fields, opt_fields, opt_size, opt_at}
 use Rattle.rdm_pkt.specs.declared.Form.{Form}
 use Rattle.rdm_pkt.specs.declared.Form.TheVariants.{Eager, Medium, LongCts, LongRead, Runt}
-use Rattle.rdm_pkt.specs.Grammar.{type_of}
-use Rattle.rdm_pkt.specs.Reading.{Row, EagerRow, MediumRow, LongCtsRow, LongReadRow, RuntRow, rtm_row, row_of}
+use Rattle.rdm_pkt.specs.Grammar.{type_of, confirm_fits}
+use Rattle.rdm_pkt.specs.Reading.{Row, EagerRow, MediumRow, LongCtsRow, LongReadRow, RuntRow, rtm_row, row_of, confirm_at}
 use Rattle.rdm_pkt.proofs.ReadFields.{At, at_number, at_place}
 
 -- the row of a form
@@ -20,18 +20,53 @@ form_row (LongRead size send iov) = LongReadRow
 form_row (Runt size send iov runt offset bytes) = RuntRow
 
 -- the type of a packet that opens a message tells its row
-pub row_of_type : (form : Form) (tag : Option ℕ) → row_of (type_of form + (cond (is_some tag) 1 0)) ≡ Some (form_row form)
+pub row_of_type : (confirm : Bool) (form : Form) (tag : Option ℕ) → row_of (type_of confirm form + (cond (is_some tag) 1 0)) ≡ Some (form_row form)
 unfolding row_of rtm_row type_of form_row
-row_of_type (Eager bytes) None = refl
-row_of_type (Eager bytes) (Some tag) = refl
-row_of_type (Medium size offset bytes) None = refl
-row_of_type (Medium size offset bytes) (Some tag) = refl
-row_of_type (LongCts size send credits bytes) None = refl
-row_of_type (LongCts size send credits bytes) (Some tag) = refl
-row_of_type (LongRead size send iov) None = refl
-row_of_type (LongRead size send iov) (Some tag) = refl
-row_of_type (Runt size send iov runt offset bytes) None = refl
-row_of_type (Runt size send iov runt offset bytes) (Some tag) = refl
+row_of_type true (Eager bytes) None = refl
+row_of_type false (Eager bytes) None = refl
+row_of_type true (Eager bytes) (Some tag) = refl
+row_of_type false (Eager bytes) (Some tag) = refl
+row_of_type true (Medium size offset bytes) None = refl
+row_of_type false (Medium size offset bytes) None = refl
+row_of_type true (Medium size offset bytes) (Some tag) = refl
+row_of_type false (Medium size offset bytes) (Some tag) = refl
+row_of_type true (LongCts size send credits bytes) None = refl
+row_of_type false (LongCts size send credits bytes) None = refl
+row_of_type true (LongCts size send credits bytes) (Some tag) = refl
+row_of_type false (LongCts size send credits bytes) (Some tag) = refl
+row_of_type confirm (LongRead size send iov) None = refl
+row_of_type confirm (LongRead size send iov) (Some tag) = refl
+row_of_type confirm (Runt size send iov runt offset bytes) None = refl
+row_of_type confirm (Runt size send iov runt offset bytes) (Some tag) = refl
+
+-- the type of a packet that meets its conditions tells whether its sender waits for a receipt
+type_tells : (confirm : Bool) (form : Form) (tag : Option ℕ) → confirm_fits confirm form ≡ true
+    → (nat_le 200 (type_of confirm form + (cond (is_some tag) 1 0)) && nat_le (type_of confirm form + (cond (is_some tag) 1 0)) 205) ≡ confirm
+unfolding type_of confirm_fits
+type_tells true (Eager bytes) None h = refl
+type_tells true (Eager bytes) (Some tag) h = refl
+type_tells false (Eager bytes) None h = refl
+type_tells false (Eager bytes) (Some tag) h = refl
+type_tells true (Medium size offset bytes) None h = refl
+type_tells true (Medium size offset bytes) (Some tag) h = refl
+type_tells false (Medium size offset bytes) None h = refl
+type_tells false (Medium size offset bytes) (Some tag) h = refl
+type_tells true (LongCts size send credits bytes) None h = refl
+type_tells true (LongCts size send credits bytes) (Some tag) h = refl
+type_tells false (LongCts size send credits bytes) None h = refl
+type_tells false (LongCts size send credits bytes) (Some tag) h = refl
+type_tells true (LongRead size send iov) tag h = absurd (cc)
+type_tells false (LongRead size send iov) None h = refl
+type_tells false (LongRead size send iov) (Some tag) h = refl
+type_tells true (Runt size send iov runt offset bytes) tag h = absurd (cc)
+type_tells false (Runt size send iov runt offset bytes) None h = refl
+type_tells false (Runt size send iov runt offset bytes) (Some tag) h = refl
+
+-- and so do its bytes
+pub confirm_back : (confirm : Bool) (form : Form) (tag : Option ℕ) (bytes : List ℕ) → confirm_fits confirm form ≡ true
+    → number_at 0 1 bytes ≡ type_of confirm form + (cond (is_some tag) 1 0) → confirm_at bytes ≡ confirm
+unfolding confirm_at
+confirm_back confirm form tag bytes h e = rw e (type_tells confirm form tag h)
 
 -- which optional headers there are
 abbrev pub Flags : ℕ → Bool → Bool → Bool → Bool → Type 0

@@ -1,5 +1,5 @@
 -- Packets that open a message are read as they are spelled, and so is each packet.
-use Rattle.std.proofs.Common.{◌≡◌, ℕ, ◌+◌, ◌*◌, min, true, false, cond, ◌&&◌, List, [], ◌∷◌, ◌++◌, length, Option, Some, None, refl, sym, ap, ◌∙◌, arith, subst}
+use Rattle.std.proofs.Common.{◌≡◌, ℕ, ◌+◌, ◌*◌, min, Bool, true, false, cond, ◌&&◌, List, [], ◌∷◌, ◌++◌, length, Option, Some, None, refl, sym, ap, ◌∙◌, arith, subst}
 use Rattle.std.specs.Prelude.{is_some, bytes_eq}
 use Rattle.std.proofs.lemmas.Slice.Eq.{bytes_eq-Decides}
 use Rattle.std.proofs.lemmas.Option.{option_and_then_some}
@@ -14,15 +14,16 @@ use Rattle.rdm_hdr.specs.Headers.{base_fields, opt_fields, opt_flags, opt_size, 
 use Rattle.rdm_num.specs.declared.numbers.MsgNo.{MsgNo}
 use Rattle.rdm_num.specs.declared.lists.IovEntry.{IovEntry}
 use Rattle.rdm_pkt.specs.declared.Packet.{Packet}
-use Rattle.rdm_pkt.specs.declared.Packet.TheVariants.{Rtm, Cts, CtsData, Eor, Handshake}
+use Rattle.rdm_pkt.specs.declared.Packet.TheVariants.{Rtm, Cts, CtsData, Eor, Handshake, Receipt}
 use Rattle.rdm_pkt.specs.declared.Form.{Form}
 use Rattle.rdm_pkt.specs.declared.Form.TheVariants.{Eager, Medium, LongCts, LongRead, Runt}
-use Rattle.rdm_pkt.specs.Grammar.{type_of, form_fields, entry_fields, last_fields, tag_fields, rtm_flags, head_fields, layout, packet_fits, form_fits, iov_fits, opt_fits, fits, spelling, Spells}
-use Rattle.rdm_pkt.specs.Reading.{Row, row_of, iov_at, header_size, form_at, rtm_at, values_at, if_spelled, packet_in, IsReadAs}
+use Rattle.rdm_pkt.specs.Grammar.{type_of, form_fields, entry_fields, last_fields, tag_fields, rtm_flags, head_fields, layout, packet_fits, form_fits, iov_fits, confirm_fits, opt_fits, fits, spelling, Spells}
+use Rattle.rdm_pkt.specs.Reading.{Row, row_of, iov_at, confirm_at, header_size, form_at, rtm_at, values_at, if_spelled, packet_in, IsReadAs}
 use Rattle.rdm_pkt.specs.Laws.{OneSpelling, OnePacket}
 use Rattle.rdm_pkt.proofs.ReadFields.{At, at_number, at_data, at_place}
-use Rattle.rdm_pkt.proofs.ReadFixed.{at_layout, packet_fit, after_head, read_by, cts_is_read, cts_data_is_read, eor_is_read, handshake_is_read}
-use Rattle.rdm_pkt.proofs.ReadOpenings.{form_row, row_of_type, Flags, flags_tell, after_number, opt_back}
+use Rattle.rdm_pkt.proofs.ReadFixed.{at_layout, packet_fit, after_head, read_by, cts_is_read, cts_data_is_read, eor_is_read, receipt_is_read}
+use Rattle.rdm_pkt.proofs.ReadHandshakes.{handshake_is_read}
+use Rattle.rdm_pkt.proofs.ReadOpenings.{form_row, row_of_type, confirm_back, Flags, flags_tell, after_number, opt_back}
 
 -- a tag is read
 tag_back : (place : ℕ) (tag : Option ℕ) (bytes : List ℕ) (rest : List Field) → At place bytes (tag_fields tag ++ rest)
@@ -112,25 +113,27 @@ opens (LongRead size send iov) bytes = refl
 opens (Runt size send iov runt offset data') bytes = refl
 
 -- a packet that opens a message, where all its values are read
-rtm_at_from : (row : Row) (number : MsgNo) (tag : Option ℕ) (opt : Opt) (form : Form) (bytes : List ℕ)
+rtm_at_from : (row : Row) (number : MsgNo) (tag : Option ℕ) (confirm : Bool) (opt : Opt) (form : Form) (bytes : List ℕ)
     → number_at 4 4 bytes ≡ number.0
     → has_bit 3 (number_at 2 2 bytes) ≡ is_some tag
     → then_some (is_some tag) (number_at (header_size row) 8 bytes) ≡ tag
+    → confirm_at bytes ≡ confirm
     → opt_at (header_size row + (cond (is_some tag) 8 0)) (number_at 2 2 bytes) bytes ≡ opt
     → form_at row (header_size row + (cond (is_some tag) 8 0) + opt_size opt) bytes ≡ form
-    → rtm_at row bytes ≡ Rtm number tag opt form
+    → rtm_at row bytes ≡ Rtm number tag confirm opt form
 unfolding rtm_at
-rtm_at_from row number tag opt form bytes n t g o f = rw (t, g, o, f, n) refl
+rtm_at_from row number tag confirm opt form bytes n t g d o f = rw (t, g, d, o, f, n) refl
 
 -- a packet that opens a message is read
-pub rtm_is_read : (number : MsgNo) (tag : Option ℕ) (opt : Opt) (form : Form) (bytes : List ℕ) → Spells (Rtm number tag opt form) bytes
-    → packet_in bytes ≡ Some (Rtm number tag opt form)
+pub rtm_is_read : (number : MsgNo) (tag : Option ℕ) (confirm : Bool) (opt : Opt) (form : Form) (bytes : List ℕ) → Spells (Rtm number tag confirm opt form) bytes
+    → packet_in bytes ≡ Some (Rtm number tag confirm opt form)
 unfolding layout packet_fits rtm_flags opt_flags head_fields base_fields
-rtm_is_read number tag opt form bytes s =
-    let kind : ℕ = type_of form + (cond (is_some tag) 1 0) in
-    let fit = and_parts (opt_fits opt) (form_fits form) (packet_fit (Rtm number tag opt form) bytes s) in
+rtm_is_read number tag confirm opt form bytes s =
+    let kind : ℕ = type_of confirm form + (cond (is_some tag) 1 0) in
+    let fit = and_parts (confirm_fits confirm form && opt_fits opt) (form_fits form) (packet_fit (Rtm number tag confirm opt form) bytes s) in
+    let agrees = and_parts (confirm_fits confirm form) (opt_fits opt) fit.0 in
     let flags = flags_tell (is_some tag) (is_some opt.raw) (is_some opt.cq_data) (is_some opt.connid) in
-    let head = after_head kind (rtm_flags tag opt) bytes (Number 4 number.0 ∷ (((form_fields form ++ tag_fields tag) ++ opt_fields opt) ++ last_fields form)) (at_layout (Rtm number tag opt form) bytes s) in
+    let head = after_head kind (rtm_flags tag opt) bytes (Number 4 number.0 ∷ (((form_fields form ++ tag_fields tag) ++ opt_fields opt) ++ last_fields form)) (at_layout (Rtm number tag confirm opt form) bytes s) in
     let number' = after_number number.0 bytes (form_fields form) (tag_fields tag) (opt_fields opt) (last_fields form) head.2 in
     let header = header_back form bytes (tag_fields tag ++ (opt_fields opt ++ last_fields form)) number'.1 in
     let tag' = tag_back (header_size (form_row form)) tag bytes (opt_fields opt ++ last_fields form) header.1 in
@@ -138,16 +141,17 @@ rtm_is_read number tag opt form bytes s =
     subst (λ (f : ℕ). Flags f (is_some tag) (is_some opt.raw) (is_some opt.cq_data) (is_some opt.connid)) (sym head.1) flags in
     let opt' = opt_back (header_size (form_row form) + (cond (is_some tag) 8 0)) (number_at 2 2 bytes) (is_some tag) opt bytes (last_fields form) own_flags tag'.1 in
     let form' = form_back form (header_size (form_row form) + (cond (is_some tag) 8 0) + opt_size opt) bytes fit.1 header.0 opt'.1 in
-    read_by (form_row form) kind (Rtm number tag opt form) bytes s head.0 (row_of_type form tag)
-    (opens form bytes ∙ rtm_at_from (form_row form) number tag opt form bytes number'.0 own_flags.0 tag'.0 opt'.0 form')
+    read_by (form_row form) kind (Rtm number tag confirm opt form) bytes s head.0 (row_of_type confirm form tag)
+    (opens form bytes ∙ rtm_at_from (form_row form) number tag confirm opt form bytes number'.0 own_flags.0 tag'.0 (confirm_back confirm form tag bytes agrees.0 head.0) opt'.0 form')
 
 -- bytes are read as the packet that they spell
 pub packet_is_read : (p : Packet) (bytes : List ℕ) → Spells p bytes → packet_in bytes ≡ Some p
-packet_is_read (Rtm number tag opt form) bytes s = rtm_is_read number tag opt form bytes s
+packet_is_read (Rtm number tag confirm opt form) bytes s = rtm_is_read number tag confirm opt form bytes s
 packet_is_read (Cts send recv size connid) bytes s = cts_is_read send recv size connid bytes s
 packet_is_read (CtsData recv offset connid data') bytes s = cts_data_is_read recv offset connid data' bytes s
 packet_is_read (Eor send recv connid) bytes s = eor_is_read send recv connid bytes s
-packet_is_read (Handshake words connid) bytes s = handshake_is_read words connid bytes s
+packet_is_read (Handshake words connid raw) bytes s = handshake_is_read words connid raw bytes s
+packet_is_read (Receipt number connid) bytes s = receipt_is_read number connid bytes s
 
 -- bytes spell one packet at most
 pub one_packet : OnePacket

@@ -1,6 +1,6 @@
 -- When bytes are the packets that do not open a message.
-use Rattle.std.proofs.Common.{◌≡◌, ℕ, zero, suc, ◌+◌, ◌-◌, ◌*◌, ◌<◌, ◌≤◌, ◌^◌, Bool, true, List, [], ◌∷◌, ◌++◌, length, drop, map, Some, None, refl, sym, ap, ◌∙◌, append_assoc, append-nil, arith}
-use Rattle.std.specs.Prelude.{nat_le, nat_lt, ◌==◌, ◌&&◌, min}
+use Rattle.std.proofs.Common.{◌≡◌, ℕ, suc, ◌+◌, ◌-◌, ◌<◌, ◌≤◌, ◌^◌, Bool, true, List, [], ◌∷◌, ◌++◌, length, drop, Some, None, refl, sym, ◌∙◌, arith}
+use Rattle.std.specs.Prelude.{nat_le, nat_lt, ◌==◌, ◌&&◌}
 use Rattle.std.specs.List.{list_all}
 use Rattle.std.proofs.lemmas.List.{length-drop}
 use Rattle.std.proofs.lemmas.List.Folds.{list_all-append}
@@ -11,9 +11,9 @@ use Rattle.rdm_hdr.specs.Headers.{base_fields}
 use Rattle.rdm_hdr.specs.Reading.{begins}
 use Rattle.rdm_hdr.proofs.Fronts.{AreBytes, number_at-fits, bytes-after}
 use Rattle.rdm_pkt.specs.declared.Packet.{Packet}
-use Rattle.rdm_pkt.specs.declared.Packet.TheVariants.{Cts, CtsData, Eor, Handshake}
+use Rattle.rdm_pkt.specs.declared.Packet.TheVariants.{Cts, CtsData, Eor, Receipt}
 use Rattle.rdm_pkt.specs.Grammar.{head_fields, layout, packet_fits}
-use Rattle.rdm_pkt.specs.Reading.{CtsRow, CtsDataRow, EorRow, HandshakeRow, words_at, values_at, if_spelled}
+use Rattle.rdm_pkt.specs.Reading.{CtsRow, CtsDataRow, EorRow, ReceiptRow, values_at, if_spelled}
 use Rattle.rdm_pkt.proofs.PacketSizes.{head-size, packet-size}
 use Rattle.rdm_pkt.proofs.Stands.{stands, stands-append, stands-nothing, stands-own, stands-number, stands-rest, is-spelled, not-spelled}
 
@@ -83,116 +83,28 @@ eor-takes bytes wrong =
     let p : Packet = Eor (record { 0 = number_at 4 4 bytes }) (record { 0 = number_at 8 4 bytes }) (record { 0 = number_at 12 4 bytes }) in
     not-spelled p bytes (λ fit there size. wrong (sym size ∙ packet-size p) (head-of 7 (Number 4 (number_at 4 4 bytes) ∷ Number 4 (number_at 8 4 bytes) ∷ Number 4 (number_at 12 4 bytes) ∷ []) bytes there))
 
--- ---- a handshake
+-- ---- a receipt
 
--- there are so many words
-length-words_at : (place count : ℕ) (bytes : List ℕ) → length (words_at place count bytes) ≡ count
-unfolding words_at
-length-words_at place zero bytes = refl
-length-words_at place (suc n) bytes = let e = length-words_at (place + 8) n bytes in omega (arith, e)
-
--- one word more is read
-pub words_at-next : (count k : ℕ) (read bytes : List ℕ) → k < count → (read ++ number_at (8 + 8 * k) 8 bytes ∷ []) ++ words_at (8 + 8 * (k + 1)) (count - (k + 1)) bytes ≡ read ++ words_at (8 + 8 * k) (count - k) bytes
-unfolding words_at
-words_at-next count k read bytes more =
-    let left : count - k ≡ suc (count - (k + 1)) = omega arith in
-    let place : 8 + 8 * k + 8 ≡ 8 + 8 * (k + 1) = omega arith in
-    rw (left, place) (append_assoc read (number_at (8 + 8 * k) 8 bytes ∷ []) (words_at (8 + 8 * (k + 1)) (count - (k + 1)) bytes))
-
--- all words are read
-pub words_at-last : (count k : ℕ) (read bytes : List ℕ) → count ≤ k → read ++ words_at (8 + 8 * k) (count - k) bytes ≡ read
-unfolding words_at
-words_at-last count k read bytes done =
-    let none : count - k ≡ 0 = omega arith in
-    rw none (append-nil read)
-
--- words that stand there are in their ranges
-fit-words : (place count : ℕ) (more : List Field) (bytes : List ℕ) → AreBytes bytes → fields_fit more ≡ true → fields_fit (map (Number 8) (words_at place count bytes) ++ more) ≡ true
-unfolding words_at
-fit-words place zero more bytes h rest = rest
-fit-words place (suc n) more bytes h rest = fit-own place 8 (map (Number 8) (words_at (place + 8) n bytes) ++ more) bytes h (fit-words (place + 8) n more bytes h rest)
-
--- words that are there stand there
-stands-words : (place count : ℕ) (more : List Field) (bytes : List ℕ) → AreBytes bytes → place + 8 * count ≤ length bytes → stands place (map (Number 8) (words_at place count bytes) ++ more) bytes ≡ stands (place + 8 * count) more bytes
-unfolding words_at
-stands-words place zero more bytes h room = let e : place ≡ place + 8 * 0 = omega arith in ap (λ (at : ℕ). stands at more bytes) e
-stands-words place (suc n) more bytes h room =
-    let e : (place + 8) + 8 * n ≡ place + 8 * suc n = omega arith in
-    stands-own place 8 (map (Number 8) (words_at (place + 8) n bytes) ++ more) bytes h (omega arith) (omega arith)
-    ∙ stands-words (place + 8) n more bytes h (omega arith)
-    ∙ ap (λ (at : ℕ). stands at more bytes) e
-
--- the words and the identifier of a handshake, with the values that stand there
-abbrev pub handshake_at : (count : ℕ) → List ℕ → Packet
-handshake_at count bytes = Handshake (words_at 8 count bytes) (record { 0 = number_at (8 + 8 * count) 4 bytes })
-
--- the fields of a handshake, the base header first
-handshake-layout : (count : ℕ) (bytes : List ℕ)
-    → layout (handshake_at count bytes) ≡ head_fields 9 32768 ++ (Number 4 (length (words_at 8 count bytes) + 3) ∷ (map (Number 8) (words_at 8 count bytes) ++ (Number 4 (number_at (8 + 8 * count) 4 bytes) ∷ [])))
-unfolding layout
-handshake-layout count bytes = append_assoc (head_fields 9 32768) (Number 4 (length (words_at 8 count bytes) + 3) ∷ map (Number 8) (words_at 8 count bytes)) (Number 4 (number_at (8 + 8 * count) 4 bytes) ∷ [])
-
--- the words that there can be
-handshake-row : (bytes : List ℕ) → values_at HandshakeRow bytes ≡ handshake_at (min 8 (number_at 4 4 bytes - 3)) bytes
-unfolding values_at
-handshake-row bytes = refl
-
--- bytes with the right base header and a count of words that are there are a handshake
-handshake-there : (count : ℕ) (bytes : List ℕ) → AreBytes bytes → 1 ≤ count → count ≤ 8 → number_at 4 4 bytes ≡ count + 3 → length bytes ≡ 12 + 8 * count → is_head 9 bytes ≡ true
-    → if_spelled bytes (handshake_at count bytes) ≡ Some (handshake_at count bytes)
-unfolding packet_fits
-handshake-there count bytes h some few number size head =
-    let p : Packet = handshake_at count bytes in
-    let counted = length-words_at 8 count bytes in
-    let last : List Field = Number 4 (number_at (8 + 8 * count) 4 bytes) ∷ [] in
-    let words : List Field = map (Number 8) (words_at 8 count bytes) ++ last in
-    let all : packet_fits p ≡ true = rw counted (and_from (nat_le 1 count) (nat_le count 8) (le-leb 1 count some) (le-leb count 8 few)) in
-    let same : length (words_at 8 count bytes) + 3 ≡ number_at 4 4 bytes = omega (arith, counted, number) in
-    let fit : fields_fit (layout p) ≡ true =
-    rw (handshake-layout count bytes, same) (fit-head 9 (Number 4 (number_at 4 4 bytes) ∷ words) refl (fit-own 4 4 words bytes h (fit-words 8 count last bytes h (fit-own (8 + 8 * count) 4 [] bytes h fit-nothing)))) in
+-- 12 bytes with the right base header are a receipt
+pub receipt-is : (bytes : List ℕ) → AreBytes bytes → length bytes ≡ 12 → is_head 10 bytes ≡ true → if_spelled bytes (values_at ReceiptRow bytes) ≡ Some (values_at ReceiptRow bytes)
+unfolding values_at layout packet_fits
+receipt-is bytes h size head =
+    let p : Packet = Receipt (record { 0 = number_at 4 4 bytes }) (record { 0 = number_at 8 4 bytes }) in
+    let b : List Field = Number 4 (number_at 8 4 bytes) ∷ [] in
+    let a : List Field = Number 4 (number_at 4 4 bytes) ∷ b in
+    let fit : fields_fit (layout p) ≡ true = fit-head 10 a refl (fit-own 4 4 b bytes h (fit-own 8 4 [] bytes h fit-nothing)) in
     let there : stands 0 (layout p) bytes ≡ true =
-    rw (handshake-layout count bytes, same) (after-head 9 (Number 4 (number_at 4 4 bytes) ∷ words) bytes
-    ∙ and_from (is_head 9 bytes) (stands 4 (Number 4 (number_at 4 4 bytes) ∷ words) bytes) head
-    (stands-own 4 4 words bytes h (omega arith) (omega arith)
-    ∙ stands-words 8 count last bytes h (omega arith)
-    ∙ stands-own (8 + 8 * count) 4 [] bytes h (omega arith) (omega arith)
-    ∙ stands-nothing (8 + 8 * count + 4) bytes)) in
-    is-spelled p bytes all fit there (packet-size p ∙ (let e : 12 + 8 * length (words_at 8 count bytes) ≡ length bytes = omega (arith, counted, size) in e))
+    after-head 10 a bytes
+    ∙ and_from (is_head 10 bytes) (stands 4 a bytes) head
+    (stands-own 4 4 b bytes h (omega arith) (omega arith) ∙ stands-own 8 4 [] bytes h (omega arith) (omega arith) ∙ stands-nothing 12 bytes) in
+    is-spelled p bytes refl fit there (packet-size p ∙ sym size)
 
--- what a handshake takes
-handshake-takes-by : (count : ℕ) (bytes : List ℕ) → AreBytes bytes
-    → (is_head 9 bytes ≡ true → 1 ≤ count → count ≤ 8 → number_at 4 4 bytes ≡ count + 3 → length bytes ≡ 12 + 8 * count → ⊥)
-    → if_spelled bytes (handshake_at count bytes) ≡ None
-unfolding packet_fits
-handshake-takes-by count bytes h wrong =
-    let p : Packet = handshake_at count bytes in
-    let counted = length-words_at 8 count bytes in
-    let n : ℕ = length (words_at 8 count bytes) in
-    let words : List Field = map (Number 8) (words_at 8 count bytes) ++ (Number 4 (number_at (8 + 8 * count) 4 bytes) ∷ []) in
-    not-spelled p bytes (λ fit there size.
-    let few = and_parts (nat_le 1 n) (nat_le n 8) fit in
-    let some : 1 ≤ n = leb-true 1 n few.0 in
-    let most : n ≤ 8 = leb-true n 8 few.1 in
-    let whole : 12 + 8 * n ≡ length bytes = sym (packet-size p) ∙ size in
-    let parts = and_parts (is_head 9 bytes) (stands 4 (Number 4 (n + 3) ∷ words) bytes) (sym (after-head 9 (Number 4 (n + 3) ∷ words) bytes) ∙ (rw (handshake-layout count bytes) at there)) in
-    let small : n + 3 < 256 ^ 4 = omega arith in
-    let number = and_parts (number_at 4 4 bytes == n + 3) (stands 8 words bytes) (sym (stands-number 4 4 (n + 3) words bytes h (omega arith) small (omega arith)) ∙ parts.1) in
-    let same : number_at 4 4 bytes ≡ n + 3 = (Decides-eqb (number_at 4 4 bytes) (n + 3)).0 number.0 in
-    wrong parts.0 (omega (arith, counted)) (omega (arith, counted)) (omega (arith, counted)) (omega (arith, counted)))
-
--- bytes are a handshake where the count is 4 to 11 and as many words are there
-pub handshake-is : (bytes : List ℕ) → AreBytes bytes → (count : ℕ) → 4 ≤ number_at 4 4 bytes → number_at 4 4 bytes ≤ 11 → count ≡ number_at 4 4 bytes - 3 → length bytes ≡ 12 + 8 * count → is_head 9 bytes ≡ true
-    → if_spelled bytes (values_at HandshakeRow bytes) ≡ Some (handshake_at count bytes)
-handshake-is bytes h count some few same size head =
-    let e : min 8 (number_at 4 4 bytes - 3) ≡ count = omega arith in
-    rw (handshake-row bytes, e) (handshake-there count bytes h (omega arith) (omega arith) (omega arith) size head)
-
--- what a handshake takes
-pub handshake-takes : (bytes : List ℕ) → AreBytes bytes → (is_head 9 bytes ≡ true → 4 ≤ number_at 4 4 bytes → number_at 4 4 bytes ≤ 11 → length bytes ≡ 12 + 8 * (number_at 4 4 bytes - 3) → ⊥)
-    → if_spelled bytes (values_at HandshakeRow bytes) ≡ None
-handshake-takes bytes h wrong =
-    rw (handshake-row bytes) (handshake-takes-by (min 8 (number_at 4 4 bytes - 3)) bytes h
-    (λ head some few number size. wrong head (omega arith) (omega arith) (omega arith)))
+-- what a receipt takes
+pub receipt-takes : (bytes : List ℕ) → (length bytes ≡ 12 → is_head 10 bytes ≡ true → ⊥) → if_spelled bytes (values_at ReceiptRow bytes) ≡ None
+unfolding values_at layout
+receipt-takes bytes wrong =
+    let p : Packet = Receipt (record { 0 = number_at 4 4 bytes }) (record { 0 = number_at 8 4 bytes }) in
+    not-spelled p bytes (λ fit there size. wrong (sym size ∙ packet-size p) (head-of 10 (Number 4 (number_at 4 4 bytes) ∷ Number 4 (number_at 8 4 bytes) ∷ []) bytes there))
 
 -- ---- a grant
 

@@ -1,12 +1,15 @@
--- The headers that each packet has which opens a message.
-use Rattle.std.specs.Prelude.{ℕ, ◌+◌, Bool, ◌&&◌, nat_le, if◌then◌else◌, List, length, drop, Option, is_some}
+-- The headers that each packet has which opens a message, and the one that names the sender of a handshake.
+use Rattle.std.specs.Prelude.{ℕ, ◌+◌, Bool, ◌&&◌, ◌==◌, nat_le, if◌then◌else◌, List, length, drop, Option, None, is_some}
 use Rattle.std.specs.Bool.{then_some}
+use Rattle.rdm_num.specs.declared.numbers.PortNo.{PortNo}
+use Rattle.rdm_num.specs.declared.numbers.Connid.{Connid}
 use Rattle.rdm_hdr.specs.declared.Opt.{Opt}
 use Rattle.rdm_hdr.specs.Fields.{number_at, has_bit, fields_bytes}
 use Rattle.rdm_hdr.specs.Headers.{opt_at, opt_fields, opt_size}
 use Rattle.rdm_hdr.specs.Reading.{begins}
 use Rattle.rdm_pkt.specs.declared.reading.Opening.{Opening}
 use Rattle.rdm_pkt.specs.Grammar.{rtm_flags, head_fields, opt_fits}
+use Rattle.rdm_pkt.specs.Reading.{confirm_at, sender_by}
 
 -- where the optional headers begin
 unfoldable pub opt_place : (size : ℕ) → List ℕ → ℕ
@@ -36,4 +39,19 @@ is_opened kind size bytes =
 unfoldable pub opening_in : (kind size : ℕ) → List ℕ → Option Opening
 opening_in kind size bytes =
     then_some (is_opened kind size bytes)
-    (record { no = record { 0 = number_at 4 4 bytes }; tag = tag_at size bytes; opt = opt_of size bytes; place = last_place size bytes })
+    (record { no = record { 0 = number_at 4 4 bytes }; tag = tag_at size bytes; confirm = confirm_at bytes; opt = opt_of size bytes; place = last_place size bytes })
+
+-- whom a raw address names that is all of the bytes
+unfoldable pub raw_in : List ℕ → Option (Connid × Option PortNo)
+raw_in bytes =
+    let opt : Opt = opt_at 0 1 bytes in
+    then_some (begins (fields_bytes (opt_fields opt)) bytes && length bytes == opt_size opt) (sender_by opt.raw 0)
+
+-- whom an identifier names that is all of the bytes
+unfoldable pub connid_in : List ℕ → Option (Connid × Option PortNo)
+connid_in bytes = then_some (length bytes == 4) (sender_by None (number_at 0 4 bytes))
+
+-- whom the last header of a handshake names, which begins at that place: a raw address where the flags say so, else an
+-- identifier
+unfoldable pub sender_in : (place : ℕ) → List ℕ → Option (Connid × Option PortNo)
+sender_in place bytes = if has_bit 0 (number_at 2 2 bytes) then raw_in (drop place bytes) else connid_in (drop place bytes)

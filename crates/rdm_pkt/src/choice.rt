@@ -1,5 +1,5 @@
 //! Which protocol a message goes by.
-ghost use Rattle.std.specs.Prelude.{◌≡◌, ◌<◌, ◌≤◌, [], length};
+ghost use Rattle.std.specs.Prelude.{◌≡◌, ◌<◌, ◌≤◌, false, [], length};
 ghost use Rattle.std.specs.Bool.{then_some};
 ghost use Rattle.rdm_pkt.specs.declared.Packet.TheVariants.{Rtm};
 ghost use Rattle.rdm_pkt.specs.declared.Form.TheVariants.{Eager as EagerForm};
@@ -76,7 +76,7 @@ fn eager_room(tagged: bool, cq_data: bool, raw: bool, limits: &EpLimits) -> u64
 /// How many bytes of headers an eager packet has.
 #[tactic(auto, using(crate::proofs::EagerRoom::eager_header_size))]
 fn eager_header(tagged: bool, cq_data: bool, raw: bool) -> u32
-    ensures { result ≡ length (spelling (Rtm (record { 0 = 0 }) (then_some tagged 0) (opt_like cq_data raw) (EagerForm []))) }
+    ensures { result ≡ length (spelling (Rtm (record { 0 = 0 }) (then_some tagged 0) false (opt_like cq_data raw) (EagerForm []))) }
 {
     let tag = if tagged { 8 } else { 0 };
     let cq_data = if cq_data { 8 } else { 0 };

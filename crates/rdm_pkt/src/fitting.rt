@@ -28,18 +28,34 @@ impl Packet {
         ensures { result ≡ Grammar.packet_fits self.now }
     {
         match self {
-            Packet::Rtm { opt, form, .. } => opt_fits(opt) && form_fits(form),
+            Packet::Rtm {
+                confirm,
+                opt,
+                form,
+                ..
+            } => confirm_fits(*confirm, form) && opt_fits(opt) && form_fits(form),
             Packet::Cts { recv_length, .. } => *recv_length >= 1,
             Packet::CtsData { offset, bytes, .. } => {
                 let length = bytes.as_slice().len() as u64;
                 length >= 1 && *offset <= u64::MAX - length
             }
-            Packet::Eor { .. } => true,
+            Packet::Eor { .. } | Packet::Receipt { .. } => true,
             Packet::Handshake { words, .. } => {
                 let count = words.as_slice().len();
                 count >= 1 && count <= 8
             }
         }
+    }
+}
+
+/// A message that is read asks for no receipt.
+#[tactic(auto, unfolding(crate::specs::Grammar::confirm_fits))]
+fn confirm_fits(confirm: bool, form: &Form) -> bool
+    ensures { result ≡ Grammar.confirm_fits confirm form.now }
+{
+    match form {
+        Form::Eager { .. } | Form::Medium { .. } | Form::LongCts { .. } => true,
+        Form::LongRead { .. } | Form::Runt { .. } => !confirm,
     }
 }
 

@@ -4,6 +4,7 @@ ghost use Rattle.rdm_hdr.specs.Fields.{Number, Data, fields_fit};
 ghost use Rattle.rdm_hdr.specs.Headers.{raw_fields, cq_data_fields, connid_fields, opt_fields};
 ghost use Rattle.rdm_pkt.specs.Grammar.{tag_fields, entry_fields, form_fields, last_fields, form_fits, packet_fits, layout};
 
+use crate::handshakes::sender_opt;
 use crate::{Form, Packet};
 use rdm_hdr::Opt;
 use rdm_num::IovEntry;
@@ -15,7 +16,13 @@ impl Packet {
         ensures { IsTrue (fields_fit (layout self.now)) }
     {
         match self {
-            Packet::Rtm { no, tag, opt, form } => {
+            Packet::Rtm {
+                no,
+                tag,
+                opt,
+                form,
+                ..
+            } => {
                 number_in_range(no.0);
                 tag_in_range(*tag);
                 opt_in_range(opt);
@@ -52,9 +59,13 @@ impl Packet {
                 number_in_range(recv_id.0);
                 number_in_range(connid.0);
             }
-            Packet::Handshake { words, connid } => {
-                number_in_range(connid.0);
+            Packet::Handshake { words, connid, raw } => {
                 words_in_range(words.as_slice());
+                opt_in_range(&sender_opt(*connid, *raw));
+            }
+            Packet::Receipt { no, connid } => {
+                number_in_range(no.0);
+                number_in_range(connid.0);
             }
         }
     }

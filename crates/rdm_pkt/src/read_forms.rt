@@ -3,7 +3,8 @@ ghost use Rattle.std.specs.Prelude.{◌≡◌, ◌+◌, nat_le, IfOk, length};
 ghost use Rattle.rdm_pkt.specs.Reading.{EagerRow, MediumRow, LongCtsRow, LongReadRow, RuntRow, if_spelled, rtm_at};
 
 use crate::read_list::{iov_fits, read_iov};
-use crate::reading::{after, read_opening};
+use crate::reading::{after, asks_receipt, read_opening};
+use crate::writing::confirmed_kind;
 use crate::{Form, Packet};
 use rdm_hdr::{NoMemory, u32_at, u64_at};
 use rdm_num::{Bytes, OpId};
@@ -13,7 +14,7 @@ use std::alloc::Global;
 pub fn read_eager(alloc: Global, bytes: &[u8]) -> Result<Option<Packet>, NoMemory>
     ensures { IfOk result (λ r. r ≡ if_spelled bytes.now (rtm_at EagerRow bytes.now)) }
 {
-    let Some(opening) = read_opening(64, 8, bytes) else {
+    let Some(opening) = read_opening(confirmed_kind(64, asks_receipt(bytes)), 8, bytes) else {
         return Ok(None);
     };
     let bytes = Bytes::from_slice(alloc, after(bytes, opening.place))?;
@@ -24,7 +25,7 @@ pub fn read_eager(alloc: Global, bytes: &[u8]) -> Result<Option<Packet>, NoMemor
 pub fn read_medium(alloc: Global, bytes: &[u8]) -> Result<Option<Packet>, NoMemory>
     ensures { IfOk result (λ r. r ≡ if_spelled bytes.now (rtm_at MediumRow bytes.now)) }
 {
-    let Some(opening) = read_opening(66, 24, bytes) else {
+    let Some(opening) = read_opening(confirmed_kind(66, asks_receipt(bytes)), 24, bytes) else {
         return Ok(None);
     };
     let data = after(bytes, opening.place);
@@ -55,7 +56,7 @@ pub fn ends_by(offset: u64, part: &[u8], size: u64) -> bool
 pub fn read_long_cts(alloc: Global, bytes: &[u8]) -> Result<Option<Packet>, NoMemory>
     ensures { IfOk result (λ r. r ≡ if_spelled bytes.now (rtm_at LongCtsRow bytes.now)) }
 {
-    let Some(opening) = read_opening(68, 24, bytes) else {
+    let Some(opening) = read_opening(confirmed_kind(68, asks_receipt(bytes)), 24, bytes) else {
         return Ok(None);
     };
     let data = after(bytes, opening.place);
@@ -90,7 +91,7 @@ pub fn read_long_read(bytes: &[u8]) -> Option<Packet>
     if bytes.len() != opening.place + 24 * count {
         return None;
     }
-    let iov = read_iov(count, opening.place, bytes);
+    let iov = read_iov(count, opening.place, bytes)?;
     let msg_length = u64_at(bytes, 8);
     if !iov_fits(iov.as_slice(), msg_length) {
         return None;
@@ -118,7 +119,9 @@ pub fn read_runt(alloc: Global, bytes: &[u8]) -> Result<Option<Packet>, NoMemory
         return Ok(None);
     }
     let data = after(bytes, place);
-    let iov = read_iov(count, opening.place, bytes);
+    let Some(iov) = read_iov(count, opening.place, bytes) else {
+        return Ok(None);
+    };
     let msg_length = u64_at(bytes, 8);
     if !iov_fits(iov.as_slice(), msg_length) {
         return Ok(None);

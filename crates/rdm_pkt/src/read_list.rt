@@ -1,5 +1,6 @@
 //! Read lists.
 ghost use Rattle.std.specs.Prelude.{◌≡◌, ◌≤◌, ◌+◌, ◌*◌, ◌^◌, ◌&&◌, nat_le, nat_lt, length};
+ghost use Rattle.std.specs.Bool.{then_some};
 ghost use Rattle.rdm_pkt.specs.Grammar as Grammar;
 ghost use Rattle.rdm_pkt.specs.Reading.{iov_at};
 
@@ -7,11 +8,11 @@ use arrayvec::ArrayVec;
 use rdm_hdr::u64_at;
 use rdm_num::{Iov, IovEntry};
 
-/// The read list at a place.
-pub fn read_iov(count: usize, place: usize, bytes: &[u8]) -> Iov
+/// The read list at a place, if it has ranges.
+pub fn read_iov(count: usize, place: usize, bytes: &[u8]) -> Option<Iov>
     requires few { count ≤ 4 }
     requires room { place + 24 * count ≤ length bytes.now }
-    ensures { result ≡ iov_at place count bytes.now }
+    ensures { result ≡ then_some (nat_lt 0 count) (iov_at place count bytes.now) }
 {
     let mut iov = ArrayVec::<IovEntry, 4>::new();
     for k in 0..count {

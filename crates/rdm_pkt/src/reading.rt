@@ -5,14 +5,15 @@ ghost use Rattle.rdm_hdr.specs.Fields.{number_at, fields_bytes};
 ghost use Rattle.rdm_hdr.specs.Reading.{begins};
 ghost use Rattle.rdm_pkt.specs.Grammar.{head_fields, opt_fits};
 ghost use Rattle.rdm_pkt.specs.Grammar as Grammar;
-ghost use Rattle.rdm_pkt.specs.Reading.{IsReadAs, EagerRow, MediumRow, LongCtsRow, LongReadRow, RuntRow, CtsRow, CtsDataRow, EorRow, HandshakeRow, if_spelled, values_at, rtm_at, packet_in, words_at};
+ghost use Rattle.rdm_pkt.specs.Reading.{IsReadAs, EagerRow, MediumRow, LongCtsRow, LongReadRow, RuntRow, CtsRow, CtsDataRow, EorRow, HandshakeRow, ReceiptRow, if_spelled, values_at, rtm_at, packet_in, confirm_at};
 ghost use Rattle.rdm_pkt.specs.Opened.{opening_in};
 
+use crate::handshakes::read_handshake;
 use crate::read_forms::{read_eager, read_long_cts, read_long_read, read_medium, read_runt};
 use crate::writing::{CONNID_FLAG, VERSION, rtm_flags, tagged_kind};
 use crate::{Form, Packet};
 use rdm_hdr::{NoMemory, Opt, has_bit, read_opt, size_if, u16_at, u32_at, u64_at};
-use rdm_num::{Bytes, Connid, MsgNo, OpId, Words};
+use rdm_num::{Bytes, Connid, MsgNo, OpId};
 use std::alloc::Global;
 
 impl Packet {
@@ -38,18 +39,23 @@ fn read_packet(alloc: Global, bytes: &[u8]) -> Result<Option<Packet>, NoMemory>
         4 => read_cts_data(alloc, bytes),
         7 => Ok(read_eor(bytes)),
         9 => read_handshake(alloc, bytes),
+        10 => Ok(read_receipt(bytes)),
         64 | 65 => read_eager(alloc, bytes),
         66 | 67 => read_medium(alloc, bytes),
         68 | 69 => read_long_cts(alloc, bytes),
         128 | 129 => Ok(read_long_read(bytes)),
         192 | 193 => read_runt(alloc, bytes),
+        // senders of these wait for a receipt
+        200 | 201 => read_eager(alloc, bytes),
+        202 | 203 => read_medium(alloc, bytes),
+        204 | 205 => read_long_cts(alloc, bytes),
         _ => Ok(None),
     }
 }
 
 /// The bytes begin with the base header of that type, with those flags.
 #[tactic(auto, unfolding(rdm_hdr::specs::Reading::begins, crate::specs::Grammar::head_fields, rdm_hdr::specs::Headers::base_fields, rdm_hdr::specs::Fields::fields_bytes, rdm_hdr::specs::Fields::field_bytes))]
-fn has_head(bytes: &[u8], kind: u8, flags: u16) -> bool
+pub fn has_head(bytes: &[u8], kind: u8, flags: u16) -> bool
     ensures { result ≡ begins (fields_bytes (head_fields kind flags)) bytes.now }
 {
     let flags = flags.to_le_bytes();
@@ -130,44 +136,30 @@ fn read_eor(bytes: &[u8]) -> Option<Packet>
     })
 }
 
-/// A handshake.
-fn read_handshake(alloc: Global, bytes: &[u8]) -> Result<Option<Packet>, NoMemory>
-    ensures { IfOk result (λ r. r ≡ if_spelled bytes.now (values_at HandshakeRow bytes.now)) }
+/// A receipt.
+fn read_receipt(bytes: &[u8]) -> Option<Packet>
+    ensures { result ≡ if_spelled bytes.now (values_at ReceiptRow bytes.now) }
 {
-    if bytes.len() < 12 {
-        return Ok(None);
+    if bytes.len() != 12 {
+        return None;
     }
-    if !has_head(bytes, 9, CONNID_FLAG) {
-        return Ok(None);
+    if !has_head(bytes, 10, CONNID_FLAG) {
+        return None;
     }
-    let nextra_p3 = u32_at(bytes, 4);
-    if nextra_p3 < 4 {
-        return Ok(None);
-    }
-    if nextra_p3 > 11 {
-        return Ok(None);
-    }
-    let count = nextra_p3 as usize - 3;
-    if bytes.len() != 12 + 8 * count {
-        return Ok(None);
-    }
-    Ok(Some(Packet::Handshake {
-        words: read_words(alloc, count, bytes)?,
-        connid: Connid(u32_at(bytes, 8 + 8 * count)),
-    }))
+    Some(Packet::Receipt {
+        no: MsgNo(u32_at(bytes, 4)),
+        connid: Connid(u32_at(bytes, 8)),
+    })
 }
 
-/// The words of a handshake.
-fn read_words(alloc: Global, count: usize, bytes: &[u8]) -> Result<Words, NoMemory>
-    requires few { count ≤ 8 }
-    requires room { 8 + 8 * count ≤ length bytes.now }
-    ensures { IfOk result (λ words. words ≡ words_at 8 count bytes.now) }
+/// Whether the type is one of a packet whose sender waits for a receipt.
+pub fn asks_receipt(bytes: &[u8]) -> bool
+    ensures { result ≡ confirm_at bytes.now }
 {
-    let mut words = Vec::with_capacity(alloc, count)?;
-    for k in 0..count {
-        words.push(u64_at(bytes, 8 + 8 * k))?;
+    match bytes.first() {
+        Some(kind) => *kind >= 200 && *kind <= 205,
+        None => false,
     }
-    Ok(Words::from_vec(words))
 }
 
 /// What the headers say that each packet has which opens a message.
@@ -175,6 +167,7 @@ fn read_words(alloc: Global, count: usize, bytes: &[u8]) -> Result<Words, NoMemo
 pub struct Opening {
     pub no: MsgNo,
     pub tag: Option<u64>,
+    pub confirm: bool,
     pub opt: Opt,
     /// Where the read list or the data begin.
     pub place: usize,
@@ -183,11 +176,12 @@ pub struct Opening {
 impl Opening {
     /// The packet with those headers.
     pub fn packet(&self, form: Form) -> Packet
-        ensures { result ≡ Packet.Rtm self.now.no self.now.tag self.now.opt form }
+        ensures { result ≡ Packet.Rtm self.now.no self.now.tag self.now.confirm self.now.opt form }
     {
         Packet::Rtm {
             no: self.no,
             tag: self.tag,
+            confirm: self.confirm,
             opt: self.opt,
             form,
         }
@@ -224,6 +218,7 @@ pub fn read_opening(kind: u8, size: usize, bytes: &[u8]) -> Option<Opening>
     Some(Opening {
         no: MsgNo(u32_at(bytes, 4)),
         tag,
+        confirm: asks_receipt(bytes),
         opt,
         place: place + opt_size,
     })

@@ -3,6 +3,7 @@ ghost use Rattle.std.specs.Prelude.{◌≡◌, ◌≤◌, ◌<◌, ◌+◌, ◌*
 ghost use Rattle.rdm_hdr.specs.Fields.{fields_bytes};
 ghost use Rattle.rdm_pkt.specs.Grammar.{packet_fits, form_fits, spelling, form_fields, last_fields, tag_fields};
 
+use crate::handshakes::sender_opt;
 use crate::{Form, Packet};
 use rdm_hdr::opt_size;
 
@@ -20,7 +21,10 @@ impl Packet {
             Packet::Cts { .. } => 24,
             Packet::CtsData { bytes, .. } => 28 + bytes.as_slice().len(),
             Packet::Eor { .. } => 16,
-            Packet::Handshake { words, .. } => 12 + 8 * words.as_slice().len(),
+            Packet::Handshake { words, connid, raw } => {
+                8 + 8 * words.as_slice().len() + opt_size(&sender_opt(*connid, *raw))
+            }
+            Packet::Receipt { .. } => 12,
         }
     }
 }

@@ -6,6 +6,7 @@ ghost use Rattle.rdm_pkt.specs.Grammar.{packet_fits, form_fits, spelling, head_f
 ghost use Rattle.rdm_hdr.specs.Headers as Headers;
 ghost use Rattle.rdm_pkt.specs.Grammar as Grammar;
 
+use crate::handshakes::sender_opt;
 use crate::{Form, Packet};
 use rdm_hdr::{Base, NoMemory, Opt, append_base, append_bytes, append_opt, append_u32, append_u64};
 use rdm_num::{IovEntry, MsgNo};
@@ -36,7 +37,13 @@ impl Packet {
         ensures { to.new.items ≡ to.old.items ++ spelling self.now }
     {
         match self {
-            Packet::Rtm { no, tag, opt, form } => append_rtm(*no, *tag, opt, form, to),
+            Packet::Rtm {
+                no,
+                tag,
+                confirm,
+                opt,
+                form,
+            } => append_rtm(*no, *tag, *confirm, opt, form, to),
             Packet::Cts {
                 send_id,
                 recv_id,
@@ -73,11 +80,17 @@ impl Packet {
                 append_u32(to, recv_id.0);
                 append_u32(to, connid.0);
             }
-            Packet::Handshake { words, connid } => {
+            Packet::Handshake { words, connid, raw } => {
                 let words = words.as_slice();
-                append_head(9, CONNID_FLAG, to);
+                let sender = sender_opt(*connid, *raw);
+                append_head(9, opt_flags(&sender), to);
                 append_u32(to, words.len() as u32 + 3);
                 append_words(words, to);
+                append_opt(&sender, to);
+            }
+            Packet::Receipt { no, connid } => {
+                append_head(10, CONNID_FLAG, to);
+                append_u32(to, no.0);
                 append_u32(to, connid.0);
             }
         }
@@ -85,12 +98,12 @@ impl Packet {
 }
 
 /// Appends a packet that opens a message, for which room is reserved.
-fn append_rtm(no: MsgNo, tag: Option<u64>, opt: &Opt, form: &Form, to: &mut Vec<u8>)
+fn append_rtm(no: MsgNo, tag: Option<u64>, confirm: bool, opt: &Opt, form: &Form, to: &mut Vec<u8>)
     requires fits { IsTrue (form_fits form.now) }
-    requires room { vec_len to.old + length (spelling (Packet.Rtm no tag opt.now form.now)) ≤ vec_capacity to.old }
-    ensures { to.new.items ≡ to.old.items ++ spelling (Packet.Rtm no tag opt.now form.now) }
+    requires room { vec_len to.old + length (spelling (Packet.Rtm no tag confirm opt.now form.now)) ≤ vec_capacity to.old }
+    ensures { to.new.items ≡ to.old.items ++ spelling (Packet.Rtm no tag confirm opt.now form.now) }
 {
-    append_head(rtm_kind(form, tag), rtm_flags(tag, opt), to);
+    append_head(rtm_kind(form, tag, confirm), rtm_flags(tag, opt), to);
     append_u32(to, no.0);
     append_form(form, to);
     append_tag(tag, to);
@@ -115,18 +128,34 @@ fn append_head(kind: u8, flags: u16, to: &mut Vec<u8>)
 }
 
 /// The type of a packet that opens a message.
-#[tactic(auto, unfolding(crate::specs::Grammar::type_of))]
-fn rtm_kind(form: &Form, tag: Option<u64>) -> u8
-    ensures { result ≡ Grammar.type_of form.now + (if is_some tag then 1 else 0) }
+fn rtm_kind(form: &Form, tag: Option<u64>, confirm: bool) -> u8
+    ensures { result ≡ Grammar.type_of confirm form.now + (if is_some tag then 1 else 0) }
 {
-    let untagged = match form {
-        Form::Eager { .. } => 64,
-        Form::Medium { .. } => 66,
-        Form::LongCts { .. } => 68,
+    tagged_kind(untagged_kind(form, confirm), tag)
+}
+
+/// The type of an untagged packet that opens a message.
+#[tactic(auto, unfolding(crate::specs::Grammar::type_of))]
+fn untagged_kind(form: &Form, confirm: bool) -> u8
+    ensures value { result ≡ Grammar.type_of confirm form.now }
+    ensures bound { result < 255 }
+{
+    match form {
+        Form::Eager { .. } => confirmed_kind(64, confirm),
+        Form::Medium { .. } => confirmed_kind(66, confirm),
+        Form::LongCts { .. } => confirmed_kind(68, confirm),
         Form::LongRead { .. } => 128,
         Form::Runt { .. } => 192,
-    };
-    tagged_kind(untagged, tag)
+    }
+}
+
+/// The type of a packet whose sender may wait for a receipt, from that of one whose sender does not.
+pub fn confirmed_kind(plain: u8, confirm: bool) -> u8
+    requires { plain < 119 }
+    ensures value { result ≡ (if confirm then plain + 136 else plain) }
+    ensures bound { result < 255 }
+{
+    if confirm { plain + 136 } else { plain }
 }
 
 /// The type of a packet that opens a message, from that of an untagged one.
@@ -148,7 +177,7 @@ pub fn rtm_flags(tag: Option<u64>, opt: &Opt) -> u16
 
 /// The flags that say which optional headers there are.
 #[tactic(auto, unfolding(rdm_hdr::specs::Headers::opt_flags))]
-fn opt_flags(opt: &Opt) -> u16
+pub fn opt_flags(opt: &Opt) -> u16
     ensures value { result ≡ Headers.opt_flags opt.now }
     ensures bound { result ≤ 32771 }
 {

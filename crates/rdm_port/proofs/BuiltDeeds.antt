@@ -12,6 +12,7 @@ use Rattle.rdm_model.specs.declared.job.Instr.TheVariants.{OpenLife, CloseLife}
 use Rattle.rdm_model.specs.Deeds.{Deed, Did, open_after, open_life, is_connid, of_life}
 use Rattle.rdm_model.specs.Notes.{opens}
 use Rattle.rdm_model.specs.Owns.{Own}
+use Rattle.rdm_model.specs.Jobs.{spans_length}
 use Rattle.rdm_ep.specs.Eager.{FitsOnePacket, IsEager}
 use Rattle.rdm_port.specs.Views.{PortView}
 use Rattle.rdm_port.specs.Kept.{own_at}
@@ -77,5 +78,5 @@ unfolding own_at eager_room
 room_fits v connid req h = λ raw.
     let size = eager_header_size (is_some req.tag) (is_some req.cq_data) raw in
     let most = headers_fit (is_some req.tag) (is_some req.cq_data) raw in
-    let room : req.len + header_size req ≤ v.limits.mtu = leb-true (req.len + header_size req) v.limits.mtu h in
-    le-leb req.len _ (rw size (omega arith))
+    let room : spans_length req.parts + header_size req ≤ v.limits.mtu = leb-true (spans_length req.parts + header_size req) v.limits.mtu h in
+    le-leb (spans_length req.parts) _ (rw size (omega arith))

@@ -45,7 +45,7 @@ is_given _ = true
 -- what is taken is so answered
 taken_given : (e : EndpointView) (from : Life) (item : Item) → is_given (taken_in e from item) ≡ true
 unfolding is_given taken_in
-taken_given e from (Spelled (Rtm number tag opt (Eager bytes))) = refl
+taken_given e from (Spelled (Rtm number tag confirm opt (Eager bytes))) = refl
 taken_given e from _ = refl
 
 -- so is what has a class or none

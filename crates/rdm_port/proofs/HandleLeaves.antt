@@ -63,8 +63,8 @@ message_leaves false i e = record { own = refl; sends = refl; receives = refl; p
 -- what was taken
 item_leaves : (next : ℕ) (from : Life) (item : Item) (e : EndpointView) → Leaves e (with_item next from item e)
 unfolding with_item
-item_leaves next from (Spelled (Rtm number tag opt (Eager bytes))) e = message_leaves (number.0 == next) (inbound from number.0 tag opt bytes) e
-item_leaves next from (Spelled (Handshake words connid)) e = record { own = refl; sends = refl; receives = refl; polled = refl }
+item_leaves next from (Spelled (Rtm number tag confirm opt (Eager bytes))) e = message_leaves (number.0 == next) (inbound from number.0 tag confirm opt bytes) e
+item_leaves next from (Spelled (Handshake words connid raw)) e = record { own = refl; sends = refl; receives = refl; polled = refl }
 item_leaves next from _ e = same e
 
 -- a datagram that was taken

@@ -114,7 +114,7 @@ owned owner = (
     inbox = 0;
     start = 0;
     limits = owner.limits;
-    rank = record { features = owner.features; ops = [] };
+    rank = record { features = owner.features; limits = owner.limits; ops = [] };
     log = [];
     stash = [];
   },

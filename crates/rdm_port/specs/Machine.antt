@@ -9,6 +9,7 @@ use Rattle.rdm_wire.specs.declared.Body.TheVariants.{Note as NoteBody, Between}
 use Rattle.rdm_wire.specs.declared.NoteBody.{NoteBody as NoteType}
 use Rattle.rdm_wire.specs.declared.NoteBody.TheVariants.{Opened, Said}
 use Rattle.rdm_wire.specs.declared.Datagram.{Datagram}
+use Rattle.rdm_model.specs.Jobs.{spans_length}
 use Rattle.rdm_model.specs.declared.job.Instr.{Instr}
 use Rattle.rdm_model.specs.declared.job.Instr.TheVariants.{OpenLife, Insert, Reg, Send, Recv, Cancel, Note, Await, Wait, CloseLife}
 use Rattle.rdm_model.specs.declared.answer.Next.{Next}
@@ -62,7 +63,7 @@ header_size req = 44 + (if is_some req.tag then 8 else 0) + (if is_some req.cq_d
 
 -- the message has room in one packet, whatever its headers
 abbrev pub has_room : PortView → SendReq → Bool
-has_room v req = nat_le (req.len + header_size req) v.limits.mtu
+has_room v req = nat_le (spans_length req.parts + header_size req) v.limits.mtu
 
 -- an insert waits for the note that the life was opened; one that would take the place of another life is not built
 unfoldable pub insert_answer_in : Kept → Life → EndpointView → Next

@@ -6,12 +6,12 @@ use Rattle.rdm_model.specs.declared.job.Job.{Job}
 use Rattle.rdm_model.specs.declared.job.Rank.{Rank}
 use Rattle.rdm_model.specs.declared.entry.Entry.{Entry}
 use Rattle.rdm_model.specs.declared.entry.Act.{Act}
-use Rattle.rdm_model.specs.Owns.{rank_of, port_count}
+use Rattle.rdm_model.specs.Owns.{rank_of, port_count, with_pools}
 use Rattle.rdm_model.specs.Steps.{clock, stamp_after}
 use Rattle.rdm_model.specs.Scenes.{Scene, deeds_at}
 use Rattle.rdm_model.specs.Local.{own_scene}
 
--- the port's number, what it has of its job, its log from the newest entry on, and the datagrams that it fetched
+-- the port's number, what it has of its job, with the limits of its own endpoints, its log from the newest entry on, and the datagrams that it fetched
 pub record PortView : Type 0 where
   pub number : ℕ
   pub ports : ℕ
@@ -28,7 +28,7 @@ pub record IsPortOf (job : Job) (v : PortView) : Type 0 where
   pub ports_are : v.ports ≡ port_count job
   pub inbox_is : v.inbox ≡ job.inbox
   pub start_is : v.start ≡ job.clock
-  pub limits_are : v.limits ≡ job.limits
+  pub limits_are : v.limits ≡ with_pools job.limits (rank_of job v.number).limits
   pub rank_is : v.rank ≡ rank_of job v.number
 
 -- the scene of the port, by its own log
@@ -43,7 +43,16 @@ logged job v act =
 -- a port of a job before any step
 abbrev pub new_port : Job → ℕ → PortView
 new_port job n =
-    record { number = n; ports = port_count job; inbox = job.inbox; start = job.clock; limits = job.limits; rank = rank_of job n; log = []; stash = [] }
+    record {
+      number = n;
+      ports = port_count job;
+      inbox = job.inbox;
+      start = job.clock;
+      limits = with_pools job.limits (rank_of job n).limits;
+      rank = rank_of job n;
+      log = [];
+      stash = [];
+    }
 
 -- the same port of the same number of ports
 abbrev pub IsSamePort : PortView → PortView → Type 0

@@ -1,7 +1,7 @@
 //! What an instruction answers, by what a port keeps.
 ghost use Rattle.std.specs.Prelude.{◌≡◌, ◌⊎◌, ◌+◌, Some, true, false, nat_le};
 ghost use Rattle.rdm_model.specs.declared.answer.Next.TheVariants as NextKind;
-ghost use Rattle.rdm_model.specs.Jobs.{needs_life};
+ghost use Rattle.rdm_model.specs.Jobs.{needs_life, spans_length};
 ghost use Rattle.rdm_port.specs.Views.{PortView};
 ghost use Rattle.rdm_port.specs.Kept as KeptWords;
 ghost use Rattle.rdm_port.specs.Kept.{Kept};
@@ -9,7 +9,7 @@ ghost use Rattle.rdm_ep.specs.Answers as EpAnswers;
 ghost use Rattle.rdm_port.specs.Machine.{header_size, machine_answer, takes_memory};
 
 use crate::kept::{State, Told};
-use rdm_ep::{Endpoint, RecvAnswer, SendAnswer};
+use rdm_ep::{Endpoint, RecvAnswer, SendAnswer, total_length};
 use rdm_model::{DidWhat, Instr, Next, RecvWhy, SendWhy, Why, Yet};
 use rdm_num::{EpLimits, Life, PortNo, RegionNo, SendReq};
 
@@ -151,9 +151,9 @@ fn answer_in(endpoint: &Endpoint, opened: &[Life], limits: &EpLimits, instr: &In
 
 /// The message has room in one packet, whatever its headers.
 fn has_room(limits: &EpLimits, req: &SendReq) -> bool
-    ensures { result ≡ nat_le (req.now.len + header_size req.now) limits.now.mtu }
+    ensures { result ≡ nat_le (spans_length req.now.parts + header_size req.now) limits.now.mtu }
 {
-    u128::from(req.len) + u128::from(header_size(req)) <= u128::from(limits.mtu)
+    total_length(&req.parts) + u128::from(header_size(req)) <= u128::from(limits.mtu)
 }
 
 /// How many bytes of headers a message in one packet has beside a raw address, which is the longest.

@@ -1,6 +1,7 @@
 //! The port.
 ghost use Rattle.std.specs.Prelude.{◌≡◌, ◌≢◌, ◌<◌, ◌≤◌, IfOk, true, length, is_none, slice_get};
 ghost use Rattle.rdm_model.specs.Owns.{port_count};
+ghost use Rattle.rdm_model.specs.Owns as Owns;
 ghost use Rattle.rdm_port.specs.Views.{new_port, IsSamePort};
 ghost use Rattle.rdm_model.specs.Steps.{count, is_next};
 ghost use Rattle.rdm_model.specs.declared.answer.Next.TheVariants as NextKind;
@@ -44,8 +45,8 @@ impl Model for Port {
 }
 
 impl Port {
-    /// A new port of a job: the rank of that number. It takes the room for the entry of each of
-    /// its instructions.
+    /// A new port of a job: the rank of that number, with the rank's own pools. It takes the room
+    /// for the entry of each of its instructions.
     #[tactic(auto, unfolding(rdm_model::specs::Owns::rank_of))]
     pub fn new(alloc: Global, no: PortNo, job: &Job) -> Result<Port, NoMemory>
         requires rank { no.0 < port_count job.now }
@@ -56,6 +57,7 @@ impl Port {
         let own = &ranks[no.0 as usize];
         let rank = Rank {
             features: own.features,
+            limits: own.limits,
             ops: own.ops.clone()?,
         };
         let mut log = Entries::new(alloc);
@@ -65,7 +67,7 @@ impl Port {
             ports: ranks.len() as u32,
             inbox: job.inbox,
             start: job.clock,
-            limits: job.limits,
+            limits: with_pools(&job.limits, &own.limits),
             rank,
             log,
             stash: Room::new(alloc),
@@ -206,5 +208,18 @@ impl Port {
         ensures same { IsSamePort self.old self.new }
     {
         do_poll(PortNo(self.number), &mut self.state, &mut self.log)
+    }
+}
+
+/// The limits of a job, with the pools of others in place.
+fn with_pools(limits: &EpLimits, pools: &EpLimits) -> EpLimits
+    ensures { result ≡ Owns.with_pools limits.now pools.now }
+{
+    EpLimits {
+        tx: pools.tx,
+        rx: pools.rx,
+        early: pools.early,
+        cq: pools.cq,
+        ..*limits
     }
 }

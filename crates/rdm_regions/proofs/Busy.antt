@@ -3,7 +3,7 @@ use Rattle.std.proofs.Common.{◌≡◌, ◌↔◌, refl, sym, ap, ◌∙◌, �
 use Rattle.std.specs.List.{list_any, count_by}
 use Rattle.std.proofs.lemmas.Bool.{cases_lt}
 use Rattle.rdm_mr.specs.Tiles.{Tiles, AreHome}
-use Rattle.rdm_regions.specs.declared.range.RegionRange.{RegionRange}
+use Rattle.rdm_num.specs.declared.parts.Span.{Span}
 use Rattle.rdm_regions.specs.declared.region.Region.{Region}
 use Rattle.rdm_regions.specs.Ranges.{meets}
 use Rattle.rdm_regions.specs.Weights.{has}
@@ -26,12 +26,12 @@ same_test true b f g = sym (f refl)
 same_test false true f g = g refl
 same_test false false f g = refl
 
-module _ (x : RegionRange) (leased : List RegionRange) (home : Tiles) (t : Tiled x.region leased home) (fits : x.at + x.len ≤ length home.cells) where
+module _ (x : Span) (leased : List Span) (home : Tiles) (t : Tiled x.region.0 leased home) (fits : x.at + x.len ≤ length home.cells) where
   -- where no lease shares a place with a range, it is at home
   pub free_home : list_any (meets x) leased ≡ false → AreHome x.at x.len home.cells
   free_home none =
       home_from x.at x.len home.cells fits (λ k lt.
-      weighs_none (out_at home.cells (x.at + k)) (sym (weightless (meets x) (has x.region (x.at + k)) (λ y e. has_none x y (x.at + k) (omega arith) (omega arith) e) leased none) ∙ t.places (x.at + k) (omega arith)))
+      weighs_none (out_at home.cells (x.at + k)) (sym (weightless (meets x) (has x.region.0 (x.at + k)) (λ y e. has_none x y (x.at + k) (omega arith) (omega arith) e) leased none) ∙ t.places (x.at + k) (omega arith)))
 
   -- the first place that two ranges share is out
   shared_out : AreHome x.at x.len home.cells → list_any (meets x) leased ≡ true → ⊥
@@ -41,8 +41,8 @@ module _ (x : RegionRange) (leased : List RegionRange) (home : Tiles) (t : Tiled
       let s = meets_shares x y one.1 in
       let place_out : (place : ℕ) → x.at ≤ place → place < x.at + x.len → y.at ≤ place → place < y.at + y.len → ⊥ =
       λ place a b c d.
-      let le = one.2 (has x.region place) in
-      let is = has_one y x.region place (sym s.region) c d in
+      let le = one.2 (has x.region.0 place) in
+      let is = has_one y x.region.0 place (sym s.region) c d in
       let at : x.at + (place - x.at) ≡ place = omega arith in
       let home_there : out_at home.cells place ≡ false = ap (out_at home.cells) (sym at) ∙ home_at x.at x.len home.cells home_is (place - x.at) (omega arith) in
       let none : ◌≡◌ {A = ℕ} (cond (out_at home.cells place) 1 0) 0 = ap (λ (b : Bool). cond {A = ℕ} b 1 0) home_there in
@@ -63,7 +63,7 @@ module _ (x : RegionRange) (leased : List RegionRange) (home : Tiles) (t : Tiled
       (λ e. h.1 (λ is. shared_out is e))
 
 -- more of the held ranges begin before the end of a range than end by its begin exactly where one shares a place with it
-pub held_meets : (x : RegionRange) (held : List RegionRange) (r : Region) → Marks x.region held r → (busy : Bool)
+pub held_meets : (x : Span) (held : List Span) (r : Region) → Marks x.region.0 held r → (busy : Bool)
     → (busy ≡ true ↔ ((0 < x.len) × (count_by (λ n. leb n x.at) r.ends.items < count_by (λ n. ltb n (x.at + x.len)) r.starts.items))) → busy ≡ list_any (meets x) held
 held_meets x held r m busy h =
     same_test busy (list_any (meets x) held)

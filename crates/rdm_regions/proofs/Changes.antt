@@ -11,15 +11,16 @@ use Rattle.std.proofs.lemmas.List.{length-set, get_or-set_same, get_or-set_other
 use Rattle.std.proofs.lemmas.Option.{slice_get_cases}
 use Rattle.std.proofs.lemmas.Map.Views.{All-values-insert_entry}
 use Rattle.rdm_mr.specs.Tiles.{Tiles, laid, AreHome}
-use Rattle.rdm_regions.specs.declared.range.RegionRange.{RegionRange}
-use Rattle.rdm_regions.specs.declared.range.RegionRefused.{RegionRefused}
-use Rattle.rdm_regions.specs.declared.range.RegionRefused.TheVariants.{NoRegion, Range}
+use Rattle.rdm_num.specs.declared.parts.Span.{Span}
+use Rattle.rdm_regions.specs.declared.refused.RegionRefused.{RegionRefused}
+use Rattle.rdm_regions.specs.declared.refused.RegionRefused.TheVariants.{NoRegion, Range}
+use Rattle.rdm_regions.specs.declared.key.HoldKey.{HoldKey}
 use Rattle.rdm_regions.specs.declared.region.Region.{Region}
-use Rattle.rdm_regions.specs.Ranges.{meets, meets_one}
+use Rattle.rdm_regions.specs.Ranges.{meets, meets_one, key_cmp}
 use Rattle.rdm_regions.specs.Registry.{refusal_in, hold_refusal, lease_refusal, laid_in}
 use Rattle.rdm_regions.specs.Steps.{Marked, Unmarked, IsLifted, IsPutBack}
 use Rattle.rdm_regions.specs.Tallies.{area_of, busy_if, Lies, Marks, Tiled, Keeps}
-use Rattle.rdm_regions.proofs.Entries.{Entries, map_of, values_are, sum_with, sum_without, All_without}
+use Rattle.rdm_regions.proofs.Entries.{Entries, by_number, by_key, map_of, values_are, sum_with, sum_without, All_without}
 use Rattle.rdm_regions.proofs.Apart.{apart_with, apart_without}
 use Rattle.rdm_regions.proofs.Busy.{free_home}
 use Rattle.rdm_regions.proofs.Refusals.{registry_of, no_region, passes, is_region_of}
@@ -41,22 +42,22 @@ set_each P regions i s at others here k d lt =
 
 module _ (regions : List Region) (i : ℕ) (r s : Region) (lt : i < length regions) (is : (d : Region) → get_or regions i d ≡ r) where
   -- a range that lies in the regions
-  pub lies_set : length s.home.cells ≡ length r.home.cells → (x : RegionRange) → Lies regions x → Lies (slice_set regions i s) x
+  pub lies_set : length s.home.cells ≡ length r.home.cells → (x : Span) → Lies regions x → Lies (slice_set regions i s) x
   lies_set size x h = (
     (let long = length-set regions i s in omega (arith, h.0)),
-    λ d. elim (cases_eq x.region i) [
+    λ d. elim (cases_eq x.region.0 i) [
       | inl e ↦
-          let new : get_or (slice_set regions i s) x.region d ≡ s = ap (λ j. get_or (slice_set regions i s) j d) e ∙ get_or-set_same regions i s d lt in
+          let new : get_or (slice_set regions i s) x.region.0 d ≡ s = ap (λ j. get_or (slice_set regions i s) j d) e ∙ get_or-set_same regions i s d lt in
           let cells = ap (λ (q : Region). length q.home.cells) new in
           let old = ap (λ (q : Region). length q.home.cells) (ap (λ j. get_or regions j d) e ∙ is d) in
           omega (arith, h.1 d, cells, old, size)
       | inr ne ↦
-          let cells = ap (λ (q : Region). length q.home.cells) (get_or-set_other regions i x.region s d ne) in
+          let cells = ap (λ (q : Region). length q.home.cells) (get_or-set_other regions i x.region.0 s d ne) in
           omega (arith, h.1 d, cells)
     ],
   )
 
-  all_lie_set : length s.home.cells ≡ length r.home.cells → (xs : List RegionRange) → All (Lies regions) xs → All (Lies (slice_set regions i s)) xs
+  all_lie_set : length s.home.cells ≡ length r.home.cells → (xs : List Span) → All (Lies regions) xs → All (Lies (slice_set regions i s)) xs
   all_lie_set size xs all k d below = lies_set size (get_or xs k d) (all k d below)
 
   -- the areas, if the region is seen as before
@@ -68,7 +69,7 @@ module _ (regions : List Region) (i : ℕ) (r s : Region) (lt : i < length regio
       ∙ set-get_or (each area_of regions) i (area_of r)
 
   -- the same marks
-  marks_same : (k : ℕ) (xs : List RegionRange) → s.starts.items ≡ r.starts.items → s.ends.items ≡ r.ends.items → Marks k xs r → Marks k xs s
+  marks_same : (k : ℕ) (xs : List Span) → s.starts.items ≡ r.starts.items → s.ends.items ≡ r.ends.items → Marks k xs r → Marks k xs s
   marks_same k xs starts ends m = record {
     starts_rise = subst IsNonDecreasing (sym starts) m.starts_rise;
     ends_rise = subst IsNonDecreasing (sym ends) m.ends_rise;
@@ -76,7 +77,7 @@ module _ (regions : List Region) (i : ℕ) (r s : Region) (lt : i < length regio
     ends = λ f. ap (sum_by f) ends ∙ m.ends f;
   }
 
-  module _ (held leased : Entries) (k : Keeps regions held leased) where
+  module _ (held : Entries HoldKey) (leased : Entries ℕ) (k : Keeps regions held leased) where
     marks_here : Marks i (values_of held) r
     marks_here = subst (Marks i (values_of held)) (is r) (k.marks i r lt)
 
@@ -97,49 +98,50 @@ module _ (regions : List Region) (i : ℕ) (r s : Region) (lt : i < length regio
           tiled = set_each (λ n q. Tiled n (values_of leased) q.home) regions i s lt (λ n d below ne. k.tiled n d below) (subst (Tiled i (values_of leased)) (sym home) tiled_here);
         }
 
-    module _ (x : RegionRange) (here : x.region ≡ i) (key : ℕ) where
+    module _ (x : Span) (here : x.region.0 ≡ i) (key : HoldKey) where
       -- a range that is held
-      pub keeps_held : IsStrictlySortedBy nat_cmp (keys_of (insert_entry nat_cmp held key x)) → lookup (is_at (nat_cmp key)) held ≡ None → Lies regions x → list_any (meets x) (values_of leased) ≡ false → Marked x r s → Keeps (slice_set regions i s) (insert_entry nat_cmp held key x) leased
+      pub keeps_held : IsStrictlySortedBy key_cmp (keys_of (insert_entry key_cmp held key x)) → lookup (is_at (key_cmp key)) held ≡ None → Lies regions x → list_any (meets x) (values_of leased) ≡ false → Marked x r s → Keeps (slice_set regions i s) (insert_entry key_cmp held key x) leased
       keeps_held order none lies free m =
           let size = ap (λ (t : Tiles). length t.cells) m.home in
-          let sums = sum_with held key x k.held_order none in
-          let all = All-values-insert_entry nat_cmp key x (Lies regions) held k.held_lie lies in
+          let sums = sum_with by_key held key x k.held_order none in
+          let all = All-values-insert_entry key_cmp key x (Lies regions) held k.held_lie lies in
           record {
             held_order = order;
             leased_order = k.leased_order;
-            held_lie = all_lie_set size (values_of (insert_entry nat_cmp held key x)) all;
+            held_lie = all_lie_set size (values_of (insert_entry key_cmp held key x)) all;
             leased_lie = all_lie_set size (values_of leased) k.leased_lie;
-            apart = All-values-insert_entry nat_cmp key x (λ y. list_any (meets y) (values_of leased) ≡ false) held k.apart free;
-            marks = set_each (λ n q. Marks n (values_of (insert_entry nat_cmp held key x)) q) regions i s lt (λ n d below ne. marks_with_other x (values_of held) (values_of (insert_entry nat_cmp held key x)) sums n (get_or regions n d) (λ e. ne (e ∙ here)) (k.marks n d below))
-                (subst (λ n. Marks n (values_of (insert_entry nat_cmp held key x)) s) here (marks_with x (values_of held) (values_of (insert_entry nat_cmp held key x)) sums r s m (subst (λ n. Marks n (values_of held) r) (sym here) marks_here)));
+            apart = All-values-insert_entry key_cmp key x (λ y. list_any (meets y) (values_of leased) ≡ false) held k.apart free;
+            marks = set_each (λ n q. Marks n (values_of (insert_entry key_cmp held key x)) q) regions i s lt (λ n d below ne. marks_with_other x (values_of held) (values_of (insert_entry key_cmp held key x)) sums n (get_or regions n d) (λ e. ne (e ∙ here)) (k.marks n d below))
+                (subst (λ n. Marks n (values_of (insert_entry key_cmp held key x)) s) here (marks_with x (values_of held) (values_of (insert_entry key_cmp held key x)) sums r s m (subst (λ n. Marks n (values_of held) r) (sym here) marks_here)));
             tiled = set_each (λ n q. Tiled n (values_of leased) q.home) regions i s lt (λ n d below ne. k.tiled n d below) (subst (Tiled i (values_of leased)) (sym m.home) tiled_here);
           }
 
       -- a range that is held no more
-      pub keeps_dropped : IsStrictlySortedBy nat_cmp (keys_of (remove_entry (is_at (nat_cmp key)) held)) → lookup (is_at (nat_cmp key)) held ≡ Some x → Unmarked x r s → Keeps (slice_set regions i s) (remove_entry (is_at (nat_cmp key)) held) leased
+      pub keeps_dropped : IsStrictlySortedBy key_cmp (keys_of (remove_entry (is_at (key_cmp key)) held)) → lookup (is_at (key_cmp key)) held ≡ Some x → Unmarked x r s → Keeps (slice_set regions i s) (remove_entry (is_at (key_cmp key)) held) leased
       keeps_dropped order there m =
-          let left = values_of (remove_entry (is_at (nat_cmp key)) held) in
+          let left = values_of (remove_entry (is_at (key_cmp key)) held) in
           let size = ap (λ (t : Tiles). length t.cells) m.0 in
-          let sums : IsWith x left (values_of held) = λ f. sym (sum_without held key x there f) in
+          let sums : IsWith x left (values_of held) = λ f. sym (sum_without by_key held key x there f) in
           record {
             held_order = order;
             leased_order = k.leased_order;
-            held_lie = all_lie_set size left (All_without (Lies regions) (is_at (nat_cmp key)) held k.held_lie);
+            held_lie = all_lie_set size left (All_without (Lies regions) (is_at (key_cmp key)) held k.held_lie);
             leased_lie = all_lie_set size (values_of leased) k.leased_lie;
-            apart = All_without (λ y. list_any (meets y) (values_of leased) ≡ false) (is_at (nat_cmp key)) held k.apart;
+            apart = All_without (λ y. list_any (meets y) (values_of leased) ≡ false) (is_at (key_cmp key)) held k.apart;
             marks = set_each (λ n q. Marks n left q) regions i s lt (λ n d below ne. marks_without_other x left (values_of held) sums n (get_or regions n d) (λ e. ne (e ∙ here)) (k.marks n d below))
                 (subst (λ n. Marks n left s) here (marks_without x left (values_of held) sums r s m (subst (λ n. Marks n (values_of held) r) (sym here) marks_here)));
             tiled = set_each (λ n q. Tiled n (values_of leased) q.home) regions i s lt (λ n d below ne. k.tiled n d below) (subst (Tiled i (values_of leased)) (sym m.0) tiled_here);
           }
 
+    module _ (x : Span) (here : x.region.0 ≡ i) (key : ℕ) where
       -- a range that is leased
       pub keeps_leased : IsStrictlySortedBy nat_cmp (keys_of (insert_entry nat_cmp leased key x)) → lookup (is_at (nat_cmp key)) leased ≡ None → Lies regions x → list_any (meets x) (values_of held) ≡ false → AreHome x.at x.len r.home.cells → IsLifted x r s
           → Keeps (slice_set regions i s) held (insert_entry nat_cmp leased key x)
       keeps_leased order none lies clear home m =
           let more = values_of (insert_entry nat_cmp leased key x) in
           let fits : x.at + x.len ≤ length r.home.cells = subst (λ (q : Region). x.at + x.len ≤ length q.home.cells) (ap (λ n. get_or regions n r) here ∙ is r) (lies.1 r) in
-          let sums = sum_with leased key x k.leased_order none in
-          let new : Tiled x.region more s.home = subst (Tiled x.region more) (sym m.home) (tiled_with x (values_of leased) more sums r.home fits home (subst (λ n. Tiled n (values_of leased) r.home) (sym here) tiled_here)) in
+          let sums = sum_with by_number leased key x k.leased_order none in
+          let new : Tiled x.region.0 more s.home = subst (Tiled x.region.0 more) (sym m.home) (tiled_with x (values_of leased) more sums r.home fits home (subst (λ n. Tiled n (values_of leased) r.home) (sym here) tiled_here)) in
           let size : length s.home.cells ≡ length r.home.cells = sym new.whole ∙ (ap (λ (t : Tiles). t.whole) m.home ∙ tiled_here.whole) in
           record {
             held_order = k.held_order;
@@ -156,8 +158,8 @@ module _ (regions : List Region) (i : ℕ) (r s : Region) (lt : i < length regio
           → Keeps (slice_set regions i s) held (remove_entry (is_at (nat_cmp key)) leased)
       keeps_returned order there fits bytes len m =
           let left = values_of (remove_entry (is_at (nat_cmp key)) leased) in
-          let sums : IsWith x left (values_of leased) = λ f. sym (sum_without leased key x there f) in
-          let new : Tiled x.region left s.home = subst (Tiled x.region left) (sym m.home) (tiled_without x left (values_of leased) sums r.home bytes len fits (subst (λ n. Tiled n (values_of leased) r.home) (sym here) tiled_here)) in
+          let sums : IsWith x left (values_of leased) = λ f. sym (sum_without by_number leased key x there f) in
+          let new : Tiled x.region.0 left s.home = subst (Tiled x.region.0 left) (sym m.home) (tiled_without x left (values_of leased) sums r.home bytes len fits (subst (λ n. Tiled n (values_of leased) r.home) (sym here) tiled_here)) in
           let size : length s.home.cells ≡ length r.home.cells = sym new.whole ∙ (ap (λ (t : Tiles). t.whole) m.home ∙ tiled_here.whole) in
           record {
             held_order = k.held_order;
@@ -177,16 +179,16 @@ areas_laid (q ∷ qs) zero s at xs lt is = ap (λ a. a ∷ each area_of qs) (is 
 areas_laid (q ∷ qs) (suc i) s at xs lt is = ap (λ l. area_of q ∷ l) (areas_laid qs i s at xs (omega arith) is)
 
 -- a range that is not refused lies in its region, and overlaps nothing that it must not
-pub not_refused : (x : RegionRange) (regions : List Region) (busy : Bool) → refusal_in (slice_get (each area_of regions) x.region) x busy ≡ None → Lies regions x × (busy ≡ false)
+pub not_refused : (x : Span) (regions : List Region) (busy : Bool) → refusal_in (slice_get (each area_of regions) x.region.0) x busy ≡ None → Lies regions x × (busy ≡ false)
 not_refused x regions busy none =
-    elim (slice_get_cases regions x.region).1 [
+    elim (slice_get_cases regions x.region.0).1 [
       | inr past ↦ absurd (some_none NoRegion (sym (no_region x regions past.0 busy) ∙ none))
       | inl there ↦
           let r = there.0 in
           elim (cases_lt (length r.home.cells) (x.at + x.len)) [
             | inl over ↦ absurd (some_none Range (sym (passes x regions r there.1 there.3 over busy) ∙ none))
             | inr fits ↦
-                let is = at_index regions x.region r there.1 (sym there.3) in (
+                let is = at_index regions x.region.0 r there.1 (sym there.3) in (
                   (there.1, λ d. subst (λ (q : Region). x.at + x.len ≤ length q.home.cells) (sym (is d)) fits),
                   not_busy busy (sym ((is_region_of x regions r there.1 is fits).refusal busy) ∙ none),
                 )
@@ -200,23 +202,23 @@ not_refused x regions busy none =
     not_busy true e = cc
     not_busy false e = refl
 
-module _ (x : RegionRange) (regions : List Region) (held leased : Entries) (k : Keeps regions held leased) where
+module _ (x : Span) (regions : List Region) (held : Entries HoldKey) (leased : Entries ℕ) (k : Keeps regions held leased) where
   -- a range that may be held or read lies in its region and is at home
   pub may_hold : hold_refusal (registry_of regions held leased) x ≡ None → Lies regions x × (list_any (meets x) (values_of leased) ≡ false)
   may_hold none =
-      let h = not_refused x regions (meets_one x (map_of leased)) none in
-      (h.0, ap (list_any (meets x)) (sym (values_are leased k.leased_order)) ∙ h.1)
+      let h = not_refused x regions (meets_one x (map_of {R = nat_cmp} leased)) none in
+      (h.0, ap (list_any (meets x)) (sym (values_are by_number leased k.leased_order)) ∙ h.1)
 
   -- and so does one that may be leased
   pub may_lease : lease_refusal (registry_of regions held leased) x ≡ None → Lies regions x × (list_any (meets x) (values_of leased) ≡ false) × (list_any (meets x) (values_of held) ≡ false)
   may_lease none =
-      let h = not_refused x regions (meets_one x (map_of leased) || meets_one x (map_of held)) none in
-      let both = or_parts (meets_one x (map_of leased)) (meets_one x (map_of held)) h.1 in
-      (h.0, ap (list_any (meets x)) (sym (values_are leased k.leased_order)) ∙ both.0, ap (list_any (meets x)) (sym (values_are held k.held_order)) ∙ both.1)
+      let h = not_refused x regions (meets_one x (map_of {R = nat_cmp} leased) || meets_one x (map_of {R = key_cmp} held)) none in
+      let both = or_parts (meets_one x (map_of {R = nat_cmp} leased)) (meets_one x (map_of {R = key_cmp} held)) h.1 in
+      (h.0, ap (list_any (meets x)) (sym (values_are by_number leased k.leased_order)) ∙ both.0, ap (list_any (meets x)) (sym (values_are by_key held k.held_order)) ∙ both.1)
 
   -- it is at home
-  pub at_home : (r : Region) → Lies regions x → get_or regions x.region r ≡ r → list_any (meets x) (values_of leased) ≡ false → (x.at + x.len ≤ length r.home.cells) × AreHome x.at x.len r.home.cells × (r.home.start ≡ 0)
+  pub at_home : (r : Region) → Lies regions x → get_or regions x.region.0 r ≡ r → list_any (meets x) (values_of leased) ≡ false → (x.at + x.len ≤ length r.home.cells) × AreHome x.at x.len r.home.cells × (r.home.start ≡ 0)
   at_home r lies is free =
-      let t : Tiled x.region (values_of leased) r.home = subst (λ (q : Region). Tiled x.region (values_of leased) q.home) is (k.tiled x.region r lies.0) in
+      let t : Tiled x.region.0 (values_of leased) r.home = subst (λ (q : Region). Tiled x.region.0 (values_of leased) q.home) is (k.tiled x.region.0 r lies.0) in
       let fits : x.at + x.len ≤ length r.home.cells = subst (λ (q : Region). x.at + x.len ≤ length q.home.cells) is (lies.1 r) in
       (fits, free_home x (values_of leased) r.home t fits free, t.start)

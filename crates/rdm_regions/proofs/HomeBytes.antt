@@ -5,7 +5,7 @@ use Rattle.std.proofs.lemmas.Bool.Decides.{nat_tests}
 use Rattle.std.proofs.lemmas.List.{length-map}
 use Rattle.rdm_mr.specs.Part.{Piece}
 use Rattle.rdm_mr.specs.Tiles.{Tiles, laid, IsPartAt, AreBytes, without}
-use Rattle.rdm_regions.specs.declared.range.RegionRange.{RegionRange}
+use Rattle.rdm_num.specs.declared.parts.Span.{Span}
 use Rattle.rdm_regions.specs.declared.region.Region.{Region}
 use Rattle.rdm_regions.specs.Steps.{home_bytes, IsLiftedPart, one_unless_empty}
 
@@ -19,11 +19,11 @@ bytes_are at len bytes cells is lie =
     let long : len ≡ length (map Some bytes) = sym (length-map bytes Some ∙ is) in
     ap (λ n. filter_map (λ (c : Option ℕ). c) (take n (drop at cells))) long ∙ (ap (filter_map (λ (c : Option ℕ). c)) lie.1 ∙ all_of_them bytes)
 
-pub counted_once : (x : RegionRange) → 0 < x.len → one_unless_empty x ≡ 1
+pub counted_once : (x : Span) → 0 < x.len → one_unless_empty x ≡ 1
 counted_once x some = grind (arith, nat_tests)
 
 -- the part that was taken out of what is at home is that of the range
-pub lifted : (x : RegionRange) (r : Region) (part : Piece) (home : Tiles) → 0 < x.len → r.home.start ≡ 0 → IsPartAt r.home x.at x.len part → home ≡ without r.home part
+pub lifted : (x : Span) (r : Region) (part : Piece) (home : Tiles) → 0 < x.len → r.home.start ≡ 0 → IsPartAt r.home x.at x.len part → home ≡ without r.home part
     → IsLiftedPart x r part × (home ≡ record r.home { cells = laid x.at (replicate x.len None) r.home.cells; out = r.home.out + one_unless_empty x })
 lifted x r part home some start is after =
     let at : part.start - r.home.start ≡ x.at = omega (arith, is.1) in (

@@ -30,5 +30,7 @@ mod Emptied
 pub mod Sound
 -- holds of several ranges, one after another
 mod Several
+-- the gravest refusal of several ranges
+mod Gravest
 -- what the holds and leases of others leave as it was
 mod Survive

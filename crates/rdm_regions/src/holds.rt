@@ -1,22 +1,19 @@
 //! The ranges that sends hold.
-ghost use Rattle.std.specs.Prelude.{◌≡◌, ◌+◌, ◌<◌, ◌≤◌, ◌^◌, ℕ, length, None, OnOk, OnErr};
+ghost use Rattle.std.specs.Prelude.{◌≡◌, ◌≤◌, length, None, OnOk, OnErr};
 ghost use Rattle.std.specs.FinMap as finite;
-ghost use Rattle.rdm_regions.specs.Ranges.{range};
+ghost use Rattle.rdm_regions.specs.Ranges.{range, hold_key};
 ghost use Rattle.rdm_regions.specs.Registry.{Answers, with_hold, without_hold, after_hold};
 ghost use Rattle.rdm_regions.specs.Registry as Registry;
 ghost use Rattle.rdm_regions.specs.Holds.{HoldsNone, with_holds, without_holds, after_hold_all};
 ghost use Rattle.rdm_regions.specs.Holds as Holds;
 
-use crate::range::{RegionRange, RegionRefused};
+use crate::key::HoldKey;
+use crate::refused::RegionRefused;
 use crate::regions::Regions;
-use rdm_num::{NoMemory, OpId, RegionNo};
+use rdm_num::{NoMemory, OpId, Parts, RegionNo, Span};
 
-/// The first of the four numbers of a send's holds.
-fn hold_number(send: OpId) -> u64
-    ensures { result ≡ Holds.hold_number send.0 }
-{
-    send.0 as u64 * 4
-}
+/// How many ranges a send may hold.
+const PARTS_MAX: u32 = 4;
 
 impl Regions {
     /// The send holds the range, unless that overlaps a leased one.
@@ -27,31 +24,31 @@ impl Regions {
         at: u64,
         len: u64,
     ) -> Result<(), RegionRefused>
-        requires { finite.get self.old.held (Holds.hold_number send.0) ≡ None }
+        requires { finite.get self.old.held (hold_key send.0 0) ≡ None }
         ensures answer { Answers (Registry.hold_refusal self.old (range region.0 at len)) (λ _. Unit {0}) result }
-        ensures after { self.new ≡ after_hold self.old (Holds.hold_number send.0) (range region.0 at len) result }
+        ensures after { self.new ≡ after_hold self.old (hold_key send.0 0) (range region.0 at len) result }
     {
-        let range = RegionRange::new(region, at, len);
+        let range = Span { region, at, len };
         match self.hold_refusal(&range) {
             Some(why) => Err(why),
             None => {
-                self.keep(hold_number(send), range)?;
+                self.keep(HoldKey::new(send, 0), range)?;
                 Ok(())
             }
         }
     }
 
-    /// The send holds all of the ranges, up to four, or none of them.
-    pub fn hold_all(&mut self, send: OpId, ranges: &[RegionRange]) -> Result<(), RegionRefused>
-        requires few { length ranges.now ≤ 4 }
-        requires free { HoldsNone self.old send.0 }
-        ensures answer { Answers (Holds.first_refusal self.old ranges.now) (λ _. Unit {0}) result }
-        ensures after { self.new ≡ after_hold_all self.old send.0 ranges.now result }
+    /// The send holds all of the ranges, or none of them.
+    pub fn hold_all(&mut self, send: OpId, parts: &Parts) -> Result<(), RegionRefused>
+        requires { HoldsNone self.old send.0 }
+        ensures answer { Answers (Holds.parts_refusal self.old parts.now) (λ _. Unit {0}) result }
+        ensures after { self.new ≡ after_hold_all self.old send.0 parts.now result }
     {
-        match self.first_refusal(ranges) {
+        let ranges = parts.as_slice();
+        match self.parts_refusal(ranges) {
             Some(why) => Err(why),
             None => {
-                self.keep_all(hold_number(send), ranges)?;
+                self.keep_all(send, ranges)?;
                 Ok(())
             }
         }
@@ -59,36 +56,36 @@ impl Regions {
 
     /// The send holds nothing any more.
     pub fn drop_hold(&mut self, send: OpId)
-        ensures { self.new ≡ without_holds self.old (Holds.hold_number send.0) 4 }
+        ensures { self.new ≡ without_holds self.old send.0 4 }
     {
-        self.release_all(hold_number(send), 4);
+        self.release_all(send, PARTS_MAX);
     }
 
-    /// Why the first of the ranges that is refused is refused.
-    fn first_refusal(&self, ranges: &[RegionRange]) -> Option<RegionRefused>
-        ensures { result ≡ Holds.first_refusal self.now ranges.now }
+    /// The gravest refusal of one of the ranges.
+    fn parts_refusal(&self, ranges: &[Span]) -> Option<RegionRefused>
+        ensures { result ≡ Holds.parts_refusal self.now ranges.now }
     {
+        let mut refusal = None;
         for range in ranges {
-            if let Some(why) = self.hold_refusal(range) {
-                return Some(why);
-            }
+            refusal = graver(refusal, self.hold_refusal(range));
         }
-        None
+        refusal
     }
 
-    /// Holds ranges that are not refused under the numbers from `first` on.
-    fn keep_all(&mut self, first: u64, ranges: &[RegionRange]) -> Result<(), NoMemory>
-        requires fits { first + length ranges.now < 2 ^ 64 }
-        requires free { (i : ℕ) → i < length ranges.now → finite.get self.old.held (first + i) ≡ None }
-        requires allowed { Holds.first_refusal self.old ranges.now ≡ None }
-        ensures ok { OnOk result (self.new ≡ with_holds self.old first ranges.now) }
+    /// Holds ranges that are not refused.
+    fn keep_all(&mut self, send: OpId, ranges: &[Span]) -> Result<(), NoMemory>
+        requires few { length ranges.now ≤ 4 }
+        requires free { HoldsNone self.old send.0 }
+        requires allowed { Holds.parts_refusal self.old ranges.now ≡ None }
+        ensures ok { OnOk result (self.new ≡ with_holds self.old send.0 ranges.now) }
         ensures err { OnErr result (self.new ≡ self.old) }
     {
         for (i, range) in ranges.iter().enumerate() {
-            match self.keep(first + i as u64, *range) {
+            let part = i as u32;
+            match self.keep(HoldKey::new(send, part), *range) {
                 Ok(()) => {}
                 Err(error) => {
-                    self.release_all(first, i as u64);
+                    self.release_all(send, part);
                     return Err(error);
                 }
             }
@@ -96,43 +93,66 @@ impl Regions {
         Ok(())
     }
 
-    /// Nothing is held any more under the `count` numbers from `first` on.
-    fn release_all(&mut self, first: u64, count: u64)
-        requires { first + count < 2 ^ 64 }
-        ensures { self.new ≡ without_holds self.old first count }
+    /// Nothing is held any more for the first `count` parts of the send.
+    fn release_all(&mut self, send: OpId, count: u32)
+        ensures { self.new ≡ without_holds self.old send.0 count }
     {
         let mut left = count;
         while left > 0 {
             left -= 1;
-            self.release(first + left);
+            self.release(HoldKey::new(send, left));
         }
     }
 
-    /// Holds a range that is not refused under the number.
-    fn keep(&mut self, number: u64, range: RegionRange) -> Result<(), NoMemory>
-        requires free { finite.get self.old.held number ≡ None }
+    /// Holds a range that is not refused under the key.
+    fn keep(&mut self, key: HoldKey, range: Span) -> Result<(), NoMemory>
+        requires free { finite.get self.old.held key ≡ None }
         requires allowed { Registry.hold_refusal self.old range ≡ None }
-        ensures ok { OnOk result (self.new ≡ with_hold self.old number range) }
+        ensures ok { OnOk result (self.new ≡ with_hold self.old key range) }
         ensures err { OnErr result (self.new ≡ self.old) }
     {
-        let region = &mut self.regions[range.region as usize];
+        let region = &mut self.regions[range.region.0 as usize];
         region.reserve()?;
-        self.held.insert(number, range)?;
-        let region = &mut self.regions[range.region as usize];
+        self.held.insert(key, range)?;
+        let region = &mut self.regions[range.region.0 as usize];
         region.mark(&range);
         Ok(())
     }
 
-    /// Nothing is held any more under the number.
-    fn release(&mut self, number: u64)
-        ensures { self.new ≡ without_hold self.old number }
+    /// Nothing is held any more under the key.
+    fn release(&mut self, key: HoldKey)
+        ensures { self.new ≡ without_hold self.old key }
     {
-        match self.held.remove(&number) {
+        match self.held.remove(&key) {
             Some(range) => {
-                let region = &mut self.regions[range.region as usize];
+                let region = &mut self.regions[range.region.0 as usize];
                 region.unmark(&range);
             }
             None => {}
         }
+    }
+}
+
+/// The first of two refusals in the order of `rank`.
+#[tactic(auto, unfolding(crate::specs::Holds::graver))]
+fn graver(a: Option<RegionRefused>, b: Option<RegionRefused>) -> Option<RegionRefused>
+    ensures { result ≡ Holds.graver a b }
+{
+    match (a, b) {
+        (Some(v), Some(w)) => { if rank(w) < rank(v) { b } else { a } }
+        (Some(_), None) => a,
+        (None, _) => b,
+    }
+}
+
+/// Which refusal is told, where several ranges are refused: the one of the lowest rank.
+fn rank(why: RegionRefused) -> u8
+    ensures { result ≡ Holds.rank why }
+{
+    match why {
+        RegionRefused::NoRegion => 0,
+        RegionRefused::Range => 1,
+        RegionRefused::Busy => 2,
+        RegionRefused::Memory => 3,
     }
 }

@@ -2,7 +2,8 @@
 #![tactic(auto)]
 
 mod holds;
-mod range;
+mod key;
+mod refused;
 mod region;
 mod regions;
 mod rising;
@@ -10,6 +11,6 @@ mod survival;
 #[cfg(test)]
 mod tests;
 
-pub use range::{RegionRange, RegionRefused};
+pub use refused::RegionRefused;
 pub use regions::Regions;
 pub use survival::{holds_law, survival_law};

@@ -7,10 +7,9 @@ ghost use Rattle.rdm_mr.specs.Tiles.{AreHome, IsWhole};
 ghost use Rattle.rdm_regions.specs.Weights.{is_in};
 ghost use Rattle.rdm_regions.specs.Steps.{IsNew, home_bytes, Marked, Unmarked, MayMark, MayUnmark, MayLift, IsLifted, IsLiftedPart, IsOut, IsPutBack};
 
-use crate::range::RegionRange;
 use crate::rising::{count_below, count_upto, put, remove};
 use rdm_mr::{Block, Home, Part, release};
-use rdm_num::NoMemory;
+use rdm_num::{NoMemory, Span};
 use std::alloc::{AllocError, Global};
 
 /// A registered region. It must be spent, by `close`.
@@ -83,7 +82,7 @@ impl Region {
     }
 
     /// Marks where a held range begins and ends, unless it is empty.
-    pub(crate) fn mark(&mut self, range: &RegionRange)
+    pub(crate) fn mark(&mut self, range: &Span)
         requires room { MayMark self.old }
         requires fits { range.now.at + range.now.len ≤ length self.old.home.cells }
         requires starts_rise { IsNonDecreasing self.old.starts.items }
@@ -98,7 +97,7 @@ impl Region {
     }
 
     /// Takes the marks of a held range out.
-    pub(crate) fn unmark(&mut self, range: &RegionRange)
+    pub(crate) fn unmark(&mut self, range: &Span)
         requires there { MayUnmark range.now self.old }
         requires fits { range.now.at + range.now.len ≤ length self.old.home.cells }
         requires starts_rise { IsNonDecreasing self.old.starts.items }
@@ -126,7 +125,7 @@ impl Region {
     }
 
     /// Takes the part of a range out. That of an empty range is a block of its own.
-    pub(crate) fn lift(&mut self, alloc: Global, range: &RegionRange) -> Result<Part, NoMemory>
+    pub(crate) fn lift(&mut self, alloc: Global, range: &Span) -> Result<Part, NoMemory>
         requires { MayLift range.now self.old }
         ensures ok { IfOk result (λ part. IsLiftedPart range.now self.old part × IsLifted range.now self.old self.new) }
         ensures err { OnErr result (self.new ≡ self.old) }
@@ -143,7 +142,7 @@ impl Region {
     }
 
     /// Puts the part of a range back.
-    pub(crate) fn put_back(&mut self, range: &RegionRange, part: Part)
+    pub(crate) fn put_back(&mut self, range: &Span, part: Part)
         requires { IsOut range.now self.old part }
         ensures { IsPutBack range.now part.bytes self.old self.new }
     {

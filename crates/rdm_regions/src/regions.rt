@@ -9,10 +9,11 @@ ghost use Rattle.rdm_regions.specs.Tallies.{IsRegionOf, LacksRegion};
 ghost use Rattle.rdm_regions.specs.Registry as Registry;
 ghost use Rattle.rdm_regions.specs.Tallies as Tallies;
 
-use crate::range::{RegionRange, RegionRefused};
+use crate::key::HoldKey;
+use crate::refused::RegionRefused;
 use crate::region::Region;
 use rdm_mr::Part;
-use rdm_num::{NoMemory, OpId, RegionNo};
+use rdm_num::{NoMemory, OpId, RegionNo, Span};
 use std::alloc::Global;
 use std::collections::BTreeMap;
 use std::marker::Model;
@@ -22,9 +23,8 @@ use std::marker::Model;
 pub struct Regions {
     alloc: Global,
     pub(crate) regions: Vec<Region>,
-    /// Four numbers for each send, one for each of its ranges.
-    pub(crate) held: BTreeMap<u64, RegionRange>,
-    leased: BTreeMap<u32, RegionRange>,
+    pub(crate) held: BTreeMap<HoldKey, Span>,
+    leased: BTreeMap<u32, Span>,
 }
 
 impl Model for Regions {
@@ -82,7 +82,7 @@ impl Regions {
         ensures after { self.new ≡ after_lease self.old recv.0 (range region.0 at len) result }
         ensures lease { IfOk result (IsLeaseOf self.new recv.0) }
     {
-        let range = RegionRange::new(region, at, len);
+        let range = Span { region, at, len };
         match self.lease_refusal(&range) {
             Some(why) => Err(why),
             None => Ok(self.take_out(recv, range)?),
@@ -96,7 +96,7 @@ impl Regions {
     {
         match self.leased.remove(&recv.0) {
             Some(range) => {
-                let region = &mut self.regions[range.region as usize];
+                let region = &mut self.regions[range.region.0 as usize];
                 region.put_back(&range, part);
             }
             None => unreachable!(),
@@ -107,14 +107,10 @@ impl Regions {
     pub fn bytes(&self, region: RegionNo, at: u64, len: u64) -> Result<&[u8], RegionRefused>
         ensures { MatchResult result (λ bytes. (Registry.hold_refusal self.now (range region.0 at len) ≡ None) × (bytes.now ≡ bytes_at self.now (range region.0 at len))) (λ why. Registry.hold_refusal self.now (range region.0 at len) ≡ Some why) }
     {
-        let range = RegionRange {
-            region: region.0,
-            at,
-            len,
-        };
+        let range = Span { region, at, len };
         match self.hold_refusal(&range) {
             Some(why) => Err(why),
-            None => Ok(self.regions[range.region as usize].bytes(at, len)),
+            None => Ok(self.regions[range.region.0 as usize].bytes(at, len)),
         }
     }
 
@@ -142,7 +138,7 @@ impl Regions {
     pub fn may_hold(&self, region: RegionNo, at: u64, len: u64) -> bool
         ensures { result ≡ is_none (Registry.hold_refusal self.now (range region.0 at len)) }
     {
-        let range = RegionRange::new(region, at, len);
+        let range = Span { region, at, len };
         self.hold_refusal(&range).is_none()
     }
 
@@ -150,7 +146,7 @@ impl Regions {
     pub fn may_lease(&self, region: RegionNo, at: u64, len: u64) -> bool
         ensures { result ≡ is_none (Registry.lease_refusal self.now (range region.0 at len)) }
     {
-        let range = RegionRange::new(region, at, len);
+        let range = Span { region, at, len };
         self.lease_refusal(&range).is_none()
     }
 
@@ -178,7 +174,7 @@ impl Regions {
     }
 
     /// Why a range that is to be held or read is refused, if it is.
-    pub(crate) fn hold_refusal(&self, range: &RegionRange) -> Option<RegionRefused>
+    pub(crate) fn hold_refusal(&self, range: &Span) -> Option<RegionRefused>
         ensures { result ≡ Registry.hold_refusal self.now range.now }
     {
         match region_of(&self.regions, range) {
@@ -188,7 +184,7 @@ impl Regions {
     }
 
     /// Why a range that is to be leased is refused, if it is.
-    fn lease_refusal(&self, range: &RegionRange) -> Option<RegionRefused>
+    fn lease_refusal(&self, range: &Span) -> Option<RegionRefused>
         ensures { result ≡ Registry.lease_refusal self.now range.now }
     {
         match region_of(&self.regions, range) {
@@ -202,7 +198,7 @@ impl Regions {
     }
 
     /// Takes the part of a range out that is not refused.
-    fn take_out(&mut self, recv: OpId, range: RegionRange) -> Result<Part, NoMemory>
+    fn take_out(&mut self, recv: OpId, range: Span) -> Result<Part, NoMemory>
         requires free { finite.get self.old.leased recv.0 ≡ None }
         requires allowed { Registry.lease_refusal self.old range ≡ None }
         ensures part { IfOk result (IsLeased self.old range) }
@@ -211,7 +207,7 @@ impl Regions {
         ensures err { OnErr result (self.new ≡ self.old) }
     {
         self.leased.insert(recv.0, range)?;
-        let region = &mut self.regions[range.region as usize];
+        let region = &mut self.regions[range.region.0 as usize];
         match region.lift(self.alloc, &range) {
             Ok(part) => Ok(part),
             Err(error) => {
@@ -223,10 +219,10 @@ impl Regions {
 }
 
 /// The region of a range, if there is one in which the range lies.
-fn region_of<'a>(regions: &'a [Region], range: &RegionRange) -> Result<&'a Region, RegionRefused>
+fn region_of<'a>(regions: &'a [Region], range: &Span) -> Result<&'a Region, RegionRefused>
     ensures { MatchResult result (λ region. IsRegionOf range.now regions.now region.now) (LacksRegion range.now regions.now) }
 {
-    match regions.get(range.region as usize) {
+    match regions.get(range.region.0 as usize) {
         Some(region) => {
             if region.fits(range.at, range.len) {
                 Ok(region)

@@ -3,8 +3,9 @@ ghost use Rattle.std.specs.FinMap as finite;
 ghost use Rattle.rdm_regions.specs.Registry.{nothing};
 ghost use Rattle.rdm_regions.specs.Holds.{HoldsNone};
 
-use crate::{RegionRange, RegionRefused, Regions, holds_law};
-use rdm_num::{OpId, RegionNo};
+use crate::{RegionRefused, Regions, holds_law};
+use arrayvec::ArrayVec;
+use rdm_num::{OpId, Parts, RegionNo, Span};
 use std::alloc::Global;
 use std::test::Fail;
 
@@ -23,24 +24,33 @@ const RANGES: [(u32, u64, u64, bool, Result<usize, RegionRefused>); 6] = [
     (1, 0, 1, false, Err(RegionRefused::NoRegion)),
 ];
 
-/// Four ranges at once, each by its place and length; whether a send may hold them all, and what comes
-/// of a lease of all ten bytes then.
+/// Four ranges at once, each by its region, place and length; whether a send may hold them all, and
+/// what comes of a lease of all ten bytes then.
 const SEVERAL: [(
-    [(u64, u64); 4],
+    [(u32, u64, u64); 4],
     Result<(), RegionRefused>,
     Result<usize, RegionRefused>,
-); 3] = [
+); 4] = [
     (
-        [(0, 2), (1, 2), (4, 6), (10, 0)],
+        [(0, 0, 2), (0, 1, 2), (0, 4, 6), (0, 10, 0)],
         Ok(()),
         Err(RegionRefused::Busy),
     ),
     (
-        [(0, 2), (2, 2), (9, 2), (4, 1)],
+        [(0, 0, 2), (0, 2, 2), (0, 9, 2), (0, 4, 1)],
         Err(RegionRefused::Range),
         Ok(10),
     ),
-    ([(0, 0), (3, 0), (7, 0), (10, 0)], Ok(()), Ok(10)),
+    (
+        [(0, 9, 2), (0, 0, 2), (1, 0, 1), (0, 4, 1)],
+        Err(RegionRefused::NoRegion),
+        Ok(10),
+    ),
+    (
+        [(0, 0, 0), (0, 3, 0), (0, 7, 0), (0, 10, 0)],
+        Ok(()),
+        Ok(10),
+    ),
 ];
 
 /// Registers ten bytes, and tells whether the region has the number 0.
@@ -125,13 +135,20 @@ fn are_answered(regions: &mut Regions) -> bool
 /// Lets a send hold four ranges at once, takes all bytes out if it can, and drops the hold.
 fn hold_four(
     regions: &mut Regions,
-    ranges: [(u64, u64); 4],
+    ranges: [(u32, u64, u64); 4],
 ) -> (Result<(), RegionRefused>, Result<usize, RegionRefused>)
     requires { (regions.old.leased ≡ finite.empty) × HoldsNone regions.old 7 }
     ensures { (regions.new.leased ≡ finite.empty) × HoldsNone regions.new 7 }
 {
-    let ranges = ranges.map(|(at, len)| RegionRange::new(ZERO, at, len));
-    let held = regions.hold_all(OpId(7), &ranges);
+    let spans = ranges.map(|(region, at, len)| Span {
+        region: RegionNo(region),
+        at,
+        len,
+    });
+    let held = match Parts::from_array_vec(ArrayVec::from(spans)) {
+        Some(parts) => regions.hold_all(OpId(7), &parts),
+        None => Err(RegionRefused::NoRegion),
+    };
     let all = out_and_back(regions, OpId(0), ZERO, 0, 10);
     regions.drop_hold(OpId(7));
     holds_law();

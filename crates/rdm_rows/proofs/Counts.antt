@@ -21,6 +21,7 @@ use Rattle.rdm_rows.proofs.Greeting as Greeting
 use Rattle.rdm_rows.proofs.Greeting.{datagram_0_0, datagram_0_1, datagram_1_0}
 use Rattle.rdm_rows.proofs.Refused.{before_hello, before_poll}
 use Rattle.rdm_rows.proofs.Says.{told, sender}
+use Rattle.rdm_rows.specs.Limits.{default_limits}
 use Rattle.rdm_rows.specs.Words.{every_word}
 
 abbrev closing_ops : List Instr
@@ -30,10 +31,10 @@ closing_ops = OpenLife (record { 0 = 7 }) ∷ CloseLife ∷ []
 abbrev closing : Job
 closing =
     record {
-      limits = record { mtu = 8192; medium = 65536; read_limit = 1048576; runt = 0; credits = 32; first = 0; tx = 64; rx = 64; early = 64; cq = 128 };
+      limits = default_limits;
       inbox = 256;
       clock = 0;
-      ranks = record { features = 25; ops = Greeting.job_ops_0 } ∷ record { features = 25; ops = closing_ops } ∷ [];
+      ranks = record { features = 25; limits = default_limits; ops = Greeting.job_ops_0 } ∷ record { features = 25; limits = default_limits; ops = closing_ops } ∷ [];
       choices = [];
     }
 

@@ -34,6 +34,7 @@ use Rattle.rdm_rows.proofs.Greeting.{datagram_0_0, datagram_0_1, datagram_0_2, d
 use Rattle.rdm_rows.proofs.Greeted as Greeted
 use Rattle.rdm_rows.proofs.Fairness.{greeting_is_fair}
 use Rattle.rdm_rows.proofs.Refused.{before_poll}
+use Rattle.rdm_rows.specs.Limits.{default_limits}
 use Rattle.rdm_rows.specs.Words.{every_word}
 
 -- a report of a history with these ends
@@ -160,10 +161,10 @@ twice_ops =
 abbrev twice : Job
 twice =
     record {
-      limits = record { mtu = 8192; medium = 65536; read_limit = 1048576; runt = 0; credits = 32; first = 0; tx = 64; rx = 64; early = 64; cq = 128 };
+      limits = default_limits;
       inbox = 256;
       clock = 0;
-      ranks = record { features = 25; ops = Greeting.job_ops_0 } ∷ record { features = 25; ops = twice_ops } ∷ [];
+      ranks = record { features = 25; limits = default_limits; ops = Greeting.job_ops_0 } ∷ record { features = 25; limits = default_limits; ops = twice_ops } ∷ [];
       choices = [];
     }
 

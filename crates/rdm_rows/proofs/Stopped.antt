@@ -28,16 +28,17 @@ use Rattle.rdm_model.specs.Played.{IsReportOf, IsPlayed}
 use Rattle.rdm_model.specs.Reports.{RightReport}
 use Rattle.rdm_law.specs.Worlds.{IsWaiting, HasWaiting, is_quiet_alone}
 use Rattle.rdm_law.proofs.Played.Stopped.{stopped_is_right}
+use Rattle.rdm_rows.specs.Limits.{default_limits}
 use Rattle.rdm_rows.specs.Words.{every_word}
 
 -- four stamps are left
 abbrev job : Job
 job =
     record {
-      limits = record { mtu = 8192; medium = 65536; read_limit = 1048576; runt = 0; credits = 32; first = 0; tx = 64; rx = 64; early = 64; cq = 128 };
+      limits = default_limits;
       inbox = 256;
       clock = 9223372036854775803;
-      ranks = record { features = 25; ops = Note (record { 0 = 1 }) 5 ∷ Note (record { 0 = 1 }) 6 ∷ [] } ∷ record { features = 25; ops = [] } ∷ [];
+      ranks = record { features = 25; limits = default_limits; ops = Note (record { 0 = 1 }) 5 ∷ Note (record { 0 = 1 }) 6 ∷ [] } ∷ record { features = 25; limits = default_limits; ops = [] } ∷ [];
       choices = [];
     }
 

@@ -1,16 +1,13 @@
 -- Steps that a wrong endpoint would make, each refused.
-use Rattle.std.proofs.Common.{◌≡◌, ℕ, List, [], ◌∷◌, refl, ap, arith}
+use Rattle.std.proofs.Common.{◌≡◌, ℕ, List, [], ◌∷◌, ap, arith}
 use Rattle.std.specs.Prelude.{Option, Some, None, Bool, false, ◌==◌, get_or, replicate}
-use Rattle.rdm_num.specs.declared.numbers.Life.{Life}
 use Rattle.rdm_num.specs.declared.completion.Completion.{Completion}
 use Rattle.rdm_num.specs.declared.completion.Outcome.TheVariants.{Took}
 use Rattle.rdm_wire.specs.declared.Datagram.{Datagram}
 use Rattle.rdm_model.specs.declared.job.Job.{Job}
 use Rattle.rdm_model.specs.declared.job.Instr.{Instr}
-use Rattle.rdm_model.specs.declared.job.Instr.TheVariants.{OpenLife, Insert, Reg, Send, Recv, Wait}
-use Rattle.rdm_model.specs.declared.entry.Entry.{Entry}
+use Rattle.rdm_model.specs.declared.job.Instr.TheVariants.{OpenLife, Insert, Reg, Send, Recv}
 use Rattle.rdm_model.specs.declared.entry.Act.{Act}
-use Rattle.rdm_model.specs.declared.entry.Act.TheVariants as Act
 use Rattle.rdm_model.specs.declared.answer.Class.{Class}
 use Rattle.rdm_model.specs.declared.answer.Entered.{Entered}
 use Rattle.rdm_model.specs.declared.answer.Handled.{Handled}
@@ -21,6 +18,7 @@ use Rattle.rdm_model.specs.Played.{played_world}
 use Rattle.rdm_model.specs.Scenes.{Scene, deeds_at}
 use Rattle.rdm_model.specs.Steps.{Does}
 use Rattle.rdm_rows.specs.Shown.{log_at, is_push_of, is_handle_of}
+use Rattle.rdm_rows.specs.Limits.{default_limits}
 use Rattle.rdm_rows.specs.Words.{every_word}
 use Rattle.rdm_rows.proofs.Asked as Read
 use Rattle.rdm_rows.proofs.Segments as Segments
@@ -31,7 +29,7 @@ sender_ops =
     OpenLife (record { 0 = 5 })
     ∷ Insert (record { port = record { 0 = 1 }; connid = record { 0 = 7 } })
     ∷ Reg (97 ∷ [])
-    ∷ Send (record { to = record { 0 = 1 }; region = record { 0 = 0 }; at = 0; len = 1; tag = (Some 257); cq_data = None })
+    ∷ Send (record { to = record { 0 = 1 }; parts = record { region = record { 0 = 0 }; at = 0; len = 1 } ∷ []; tag = (Some 257); cq_data = None; confirm = false })
     ∷ []
 
 -- two receives of tags 256 to 511, and between them one of tag 257
@@ -47,10 +45,10 @@ receiver_ops =
 abbrev job : Job
 job =
     record {
-      limits = record { mtu = 8192; medium = 65536; read_limit = 1048576; runt = 0; credits = 32; first = 0; tx = 64; rx = 64; early = 64; cq = 128 };
+      limits = default_limits;
       inbox = 256;
       clock = 0;
-      ranks = record { features = 25; ops = sender_ops } ∷ record { features = 25; ops = receiver_ops } ∷ [];
+      ranks = record { features = 25; limits = default_limits; ops = sender_ops } ∷ record { features = 25; limits = default_limits; ops = receiver_ops } ∷ [];
       choices = [];
     }
 

@@ -5,6 +5,7 @@ use Rattle.std.specs.List.{list_all}
 use Rattle.std.proofs.lemmas.Bool.{and_from, and_parts, leb-true, le-leb, lt-ltb}
 use Rattle.serde_json.specs.Data.{Data}
 use Rattle.serde_json.specs.Find.{get}
+use Rattle.rdm_num.specs.declared.limits.EpLimits.{EpLimits}
 use Rattle.rdm_model.specs.declared.job.Rank.{Rank}
 use Rattle.rdm_model.specs.Jobs.{is_within, is_u32, limits_fit, rank_fits, choices_fit, is_fair, law_ops}
 use Rattle.rdm_json.specs.declared.place.FieldName.{FieldName}
@@ -13,11 +14,12 @@ use Rattle.rdm_json.specs.declared.place.Place.TheVariants as place
 use Rattle.rdm_json.specs.declared.refusal.BadScript.{BadScript}
 use Rattle.rdm_json.specs.declared.refusal.Reason.{Reason}
 use Rattle.rdm_json.specs.declared.refusal.Reason.TheVariants.{Shape, Limit}
+use Rattle.rdm_script.specs.declared.fields.Version.{Version}
 use Rattle.rdm_script.specs.declared.fields.Protocol.{Protocol}
 use Rattle.rdm_script.specs.declared.fields.PoolSizes.{PoolSizes}
 use Rattle.rdm_json.specs.Results.{◌>>=◌, present, placed}
 use Rattle.rdm_json.specs.Values.{array_of, found_at}
-use Rattle.rdm_script.specs.Fields.{number_field, protocol_of, pools_known, pools_of, counted, ranks_field, choices_in, choices_field, top_tested}
+use Rattle.rdm_script.specs.Fields.{number_field, protocol_of, pools_known, pools_of, counted, ranks_field, choices_in, choices_field, version_of}
 use Rattle.rdm_script.specs.Programs.{rank_of, ranks_of}
 use Rattle.rdm_script.specs.Choices.{choices_of}
 use Rattle.rdm_script.specs.Script.{limits_of, programs_of}
@@ -123,43 +125,45 @@ unfolding is_within
 choices_in-fits None ds h = let is = given {E = Reason} [] ds h in rw (← is) (omega arith)
 choices_in-fits (Some d) ds h = leb-true _ _ (and_parts _ _ (counted-fits 0 1000000 d ds h)).1
 
-record RanksFit (ports : ℕ) (ds : List Data) (rs : List Rank) : Type 0 where
+record RanksFit (limits : EpLimits) (ports : ℕ) (ds : List Data) (rs : List Rank) : Type 0 where
   count : length rs ≡ length ds
-  fits : list_all (rank_fits ports law_ops) rs ≡ true
+  fits : list_all (rank_fits limits ports law_ops) rs ≡ true
 
-ranks_of-fits : (rank ports : ℕ) (ds : List Data) (rs : List Rank) → ranks_of rank ports ds ≡ Ok rs → RanksFit ports ds rs
-ranks_of-fits rank ports [] rs h = let none = given {E = BadScript} [] rs h in rw (← none) (record { count = refl; fits = refl })
-ranks_of-fits rank ports (d ∷ ds) rs h =
-    let (r, read, h) = gave (rank_of rank ports d) _ rs h in
-    let (more, rest, h) = gave (ranks_of (rank + 1) ports ds) _ rs h in
+ranks_of-fits : (version : Version) (limits : EpLimits) (rank ports : ℕ) (ds : List Data) (rs : List Rank) → limits_fit limits ≡ true → ranks_of version limits rank ports ds ≡ Ok rs
+    → RanksFit limits ports ds rs
+ranks_of-fits version limits rank ports [] rs fair h = let none = given {E = BadScript} [] rs h in rw (← none) (record { count = refl; fits = refl })
+ranks_of-fits version limits rank ports (d ∷ ds) rs fair h =
+    let (r, read, h) = gave (rank_of version limits rank ports d) _ rs h in
+    let (more, rest, h) = gave (ranks_of version limits (rank + 1) ports ds) _ rs h in
     let all = given {E = BadScript} (r ∷ more) rs h in
-    let others = ranks_of-fits (rank + 1) ports ds more rest in
-    rw (← all) (record { count = ap suc others.count; fits = and_from _ _ (rank_of-fits rank ports d r read) others.fits })
+    let others = ranks_of-fits version limits (rank + 1) ports ds more fair rest in
+    rw (← all) (record { count = ap suc others.count; fits = and_from _ _ (rank_of-fits version limits rank ports d r fair read) others.fits })
 
-programs_of-fits : (ds : List Data) (rs : List Rank) → programs_of ds ≡ Ok rs → RanksFit (length ds) ds rs
-programs_of-fits ds rs h =
-    let (ss, read, h) = gave (ranks_of 0 (length ds) ds) _ rs h in
+programs_of-fits : (version : Version) (limits : EpLimits) (ds : List Data) (rs : List Rank) → limits_fit limits ≡ true → programs_of version limits ds ≡ Ok rs → RanksFit limits (length ds) ds rs
+programs_of-fits version limits ds rs fair h =
+    let (ss, read, h) = gave (ranks_of version limits 0 (length ds) ds) _ rs h in
     let (_, h) = passed (placed place.Whole _) _ rs h in
     let same = given {E = BadScript} ss rs h in
-    rw (← same) (ranks_of-fits 0 (length ds) ds ss read)
+    rw (← same) (ranks_of-fits version limits 0 (length ds) ds ss fair read)
 
 pub formed_are_fair : FormedAreFair
 unfolding is_fair choices_fit
 formed_are_fair script job h =
-    let (_, h) = passed (top_tested script) _ job h in
+    let (version, _, h) = gave (version_of script) _ job h in
     let (protocol, p, h) = gave (protocol_of script) _ job h in
     let (pools, s, h) = gave (pools_of (get (codes "pools") script)) _ job h in
     let (values, v, h) = gave (ranks_field script) _ job h in
     let (picks, k, h) = gave (choices_field script) _ job h in
-    let (ranks, r, h) = gave (programs_of values) _ job h in
+    let (ranks, r, h) = gave (programs_of version (limits_of protocol pools) values) _ job h in
     let (choices, c, h) = gave (choices_of 0 (length values) picks) _ job h in
     let is = given {E = BadScript} (record { limits = limits_of protocol pools; inbox = pools.inbox; clock = protocol.clock; ranks = ranks; choices = choices }) job h in
     let a = protocol_of-fits script protocol p in
     let b = pools_of-fits (get (codes "pools") script) pools s in
-    let fit = programs_of-fits values ranks r in
+    let fair = limits_of-fits protocol pools a b in
+    let fit = programs_of-fits version (limits_of protocol pools) values ranks fair r in
     let chosen = choices_of-fits 0 (length values) picks choices c in
     let few = choices_in-fits (get (codes "choices") script) picks (unplaced _ _ picks k) in
     rw (← is, fit.count)
     (and_from _ _
-    (and_from _ _ (and_from _ _ (and_from _ _ (and_from _ _ (limits_of-fits protocol pools a b) b.inbox) (below_63 _ a.clock)) (ranks_field-fits script values v)) fit.fits)
+    (and_from _ _ (and_from _ _ (and_from _ _ (and_from _ _ fair b.inbox) (below_63 _ a.clock)) (ranks_field-fits script values v)) fit.fits)
     (and_from _ _ (le-leb _ _ (omega (arith, few, chosen.count))) chosen.fits))

@@ -12,13 +12,16 @@ use Rattle.rdm_json.specs.declared.refusal.Reason.{Reason}
 use Rattle.rdm_json.specs.declared.refusal.Reason.TheVariants.{Shape}
 use Rattle.rdm_json.specs.declared.value.Form.TheVariants as form
 use Rattle.rdm_json.specs.Results.{present}
-use Rattle.rdm_json.specs.Values.{known, number, optional, text}
+use Rattle.rdm_json.specs.Values.{known, number, optional, text, is_set}
+use Rattle.rdm_script.specs.declared.fields.Version.{Version}
 use Rattle.rdm_script.specs.Contents.{as_length, content_of}
-use Rattle.rdm_script.specs.Instructions.{as_u32, as_port, open_of, insert_of, reg_of, send_of, want_of, recv_of, cancel_of, note_of, await_of, wait_of, close_of, word_of, said, instr_of}
+use Rattle.rdm_script.specs.Instructions.{as_port, open_of, insert_of, reg_of, send_of, want_of, recv_of, cancel_of, note_of, await_of, wait_of, close_of, word_of, said, instr_of}
+use Rattle.rdm_script.specs.Ranges.{as_u32, written_of, as_parts}
 use Rattle.rdm_script.specs.Programs.{port_named}
 use Rattle.rdm_json.proofs.Chains.{gave, passed, given}
 use Rattle.rdm_script.proofs.Numbers.{number-fits, optional-fits, as_u32-fits, as_length-fits}
 use Rattle.rdm_script.proofs.Contents.{content_of-is}
+use Rattle.rdm_script.proofs.WrittenRanges.{written_of-fits, as_parts-fits}
 
 -- what is read of a tag and of ignored bits fits
 want_of-fits : (tag ignore : Option ℕ) (want : Option Want) → option_fits tag ≡ true → option_fits ignore ≡ true → want_of tag ignore ≡ Ok want → want_fits want ≡ true
@@ -64,25 +67,20 @@ module _ (ports : ℕ) (d : Data) (i : Instr) where
       let fit = content_of-is d content c in
       rw (← is) (and_from _ _ fit.short fit.bytes)
 
-  send_fits : send_of d ≡ Ok i → FitsNamed
-  unfolding instr_fits is_rank_or_none range_fits
-  send_fits h named =
-      let (_, h) = passed (known form.Send d) _ i h in
+  send_fits : (version : Version) → send_of version d ≡ Ok i → FitsNamed
+  unfolding instr_fits is_rank_or_none
+  send_fits version h named =
+      let (written, w, h) = gave (written_of version d) _ i h in
       let (t, _, h) = gave (number (codes "to") d) _ i h in
-      let (r, _, h) = gave (number (codes "region") d) _ i h in
-      let (place, a, h) = gave (number (codes "at") d) _ i h in
-      let (l, _, h) = gave (number (codes "len") d) _ i h in
       let (tag, g, h) = gave (optional (codes "tag") d) _ i h in
       let (cq_data, q, h) = gave (optional (codes "data") d) _ i h in
+      let (confirm, _, h) = gave (is_set (codes "confirm") d) _ i h in
       let (to, _, h) = gave (as_u32 t) _ i h in
-      let (region, s, h) = gave (as_u32 r) _ i h in
-      let (len, e, h) = gave (as_length l) _ i h in
-      let is = given {E = Reason} (instr.Send (record { to = record { 0 = to }; region = record { 0 = region }; at = place; len = len; tag = tag; cq_data = cq_data })) i h in
+      let (parts, p, h) = gave (as_parts written) _ i h in
+      let is = given {E = Reason} (instr.Send (record { to = record { 0 = to }; parts = parts; tag = tag; cq_data = cq_data; confirm = confirm })) i h in
       rw (← is)
       (and_from _ _
-      (and_from _ _
-      (and_from _ _ (rw (← is) at named) (and_from _ _ (and_from _ _ (as_u32-fits r region s) (number-fits (codes "at") d place a)) (as_length-fits l len e)))
-      (optional-fits (codes "tag") d tag g))
+      (and_from _ _ (and_from _ _ (rw (← is) at named) (as_parts-fits written parts (written_of-fits version d written w) p)) (optional-fits (codes "tag") d tag g))
       (optional-fits (codes "data") d cq_data q))
 
   recv_fits : recv_of d ≡ Ok i → FitsNamed
@@ -148,21 +146,21 @@ module _ (ports : ℕ) (d : Data) (i : Instr) where
       let is : instr.CloseLife ≡ i = cc in
       rw (← is) refl
 
-  said_fits : (word : OpName) → said word d ≡ Ok i → FitsNamed
-  said_fits op.Open h = open_fits h
-  said_fits op.Insert h = insert_fits h
-  said_fits op.Reg h = reg_fits h
-  said_fits op.Send h = send_fits h
-  said_fits op.Recv h = recv_fits h
-  said_fits op.Cancel h = cancel_fits h
-  said_fits op.Note h = note_fits h
-  said_fits op.Await h = await_fits h
-  said_fits op.Wait h = wait_fits h
-  said_fits op.Close h = close_fits h
+  said_fits : (version : Version) (word : OpName) → said version word d ≡ Ok i → FitsNamed
+  said_fits version op.Open h = open_fits h
+  said_fits version op.Insert h = insert_fits h
+  said_fits version op.Reg h = reg_fits h
+  said_fits version op.Send h = send_fits version h
+  said_fits version op.Recv h = recv_fits h
+  said_fits version op.Cancel h = cancel_fits h
+  said_fits version op.Note h = note_fits h
+  said_fits version op.Await h = await_fits h
+  said_fits version op.Wait h = wait_fits h
+  said_fits version op.Close h = close_fits h
 
   -- an instruction that is read fits, where the port that it names is a rank
-  pub instr_of-fits : instr_of d ≡ Ok i → FitsNamed
-  instr_of-fits h =
+  pub instr_of-fits : (version : Version) → instr_of version d ≡ Ok i → FitsNamed
+  instr_of-fits version h =
       let (written, _, h) = gave (text (codes "op") d) _ i h in
       let (word, _, h) = gave (present Shape (word_of written)) _ i h in
-      said_fits word h
+      said_fits version word h

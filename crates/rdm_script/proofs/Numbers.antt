@@ -9,7 +9,7 @@ use Rattle.rdm_json.specs.Results.{tested, present}
 use Rattle.rdm_json.specs.Values.{number_of, text_of, are_bytes, value, number, text, optional, number_if_there, number_or}
 use Rattle.rdm_script.specs.Fields.{number_in}
 use Rattle.rdm_script.specs.Contents.{as_length}
-use Rattle.rdm_script.specs.Instructions.{as_u32}
+use Rattle.rdm_script.specs.Ranges.{as_u32}
 use Rattle.rdm_json.proofs.Chains.{gave, passed, tested_value}
 
 pub number_of-fits : (d : Data) (n : ℕ) → number_of d ≡ Ok n → is_u64 n ≡ true

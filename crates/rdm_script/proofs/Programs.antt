@@ -10,6 +10,7 @@ use Rattle.rdm_json.specs.declared.place.Place.TheVariants as place
 use Rattle.rdm_json.specs.declared.refusal.BadScript.{BadScript}
 use Rattle.rdm_json.specs.declared.refusal.Reason.TheVariants.{NoLife, OpenTwice, RepeatConnid}
 use Rattle.rdm_json.specs.Results.{◌>>=◌, ◌>>◌, tested, placed, with_front}
+use Rattle.rdm_script.specs.declared.fields.Version.{Version}
 use Rattle.rdm_script.specs.Programs.{is_open, opened, lives_tested, next_instr, program_of}
 
 -- what stands after the newest stands after all
@@ -34,11 +35,11 @@ life_answer false true = refl
 life_answer false false = refl
 
 -- the next instruction was read
-pub program_of-next : (rank ports : ℕ) (p : List Instr) (i : Instr) (d : Data) (ds : List Data) (all : Result (List Instr) BadScript)
-    → placed (place.Op rank (length p)) (next_instr ports p d) ≡ Ok i
-    → with_front (reverse p) (program_of rank ports p (d ∷ ds)) ≡ all
-    → with_front (reverse (i ∷ p)) (program_of rank ports (i ∷ p) ds) ≡ all
-program_of-next rank ports p i d ds all read h = with_front-reverse p i _ ∙ rw read at h
+pub program_of-next : (version : Version) (rank ports : ℕ) (p : List Instr) (i : Instr) (d : Data) (ds : List Data) (all : Result (List Instr) BadScript)
+    → placed (place.Op rank (length p)) (next_instr version ports p d) ≡ Ok i
+    → with_front (reverse p) (program_of version rank ports p (d ∷ ds)) ≡ all
+    → with_front (reverse (i ∷ p)) (program_of version rank ports (i ∷ p) ds) ≡ all
+program_of-next version rank ports p i d ds all read h = with_front-reverse p i _ ∙ rw read at h
 
 -- what is found of an instruction that opens an identifier
 pub lives_tested-open : (before : List Instr) (i : Instr) (connid : ℕ) (now found : Bool)

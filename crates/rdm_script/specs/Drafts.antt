@@ -28,7 +28,7 @@ made (Region content) = Reg (made_content content)
 
 -- the rank that is made
 abbrev pub made_rank : RankDraft → Rank
-made_rank r = record { features = r.features; ops = map made r.drafts.items }
+made_rank r = record { features = r.features; limits = r.limits; ops = map made r.drafts.items }
 
 -- what is kept of the lives that these instructions, the newest first, opened and closed
 abbrev pub KeepsLives : List Instr → Bool → List ℕ → Type 0

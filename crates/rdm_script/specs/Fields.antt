@@ -1,5 +1,5 @@
 -- The keys of the outermost object: its version, its numbers with their limits and defaults, its pools, and its two arrays.
-use Rattle.std.specs.Prelude.{ℕ, ⊤, ◌==◌, List, [], length, codes, Option, Some, None, Result, Ok}
+use Rattle.std.specs.Prelude.{ℕ, ⊤, ◌==◌, List, [], length, codes, if◌then◌else◌, Option, Some, None, Result, Ok, Err}
 use Rattle.serde_json.specs.Data.{Data}
 use Rattle.serde_json.specs.Find.{get}
 use Rattle.rdm_model.specs.Jobs.{is_within}
@@ -8,25 +8,32 @@ use Rattle.rdm_json.specs.declared.place.FieldName.TheVariants as field
 use Rattle.rdm_json.specs.declared.place.Place.TheVariants.{Whole, Field}
 use Rattle.rdm_json.specs.declared.refusal.BadScript.{BadScript}
 use Rattle.rdm_json.specs.declared.refusal.Reason.{Reason}
-use Rattle.rdm_json.specs.declared.refusal.Reason.TheVariants.{Shape, Version, Limit}
+use Rattle.rdm_json.specs.declared.refusal.Reason.TheVariants.{Shape, Limit}
+use Rattle.rdm_json.specs.declared.refusal.Reason.TheVariants as reason
 use Rattle.rdm_json.specs.declared.value.Form.TheVariants as form
+use Rattle.rdm_script.specs.declared.fields.Version.{Version}
+use Rattle.rdm_script.specs.declared.fields.Version.TheVariants.{One, Two}
 use Rattle.rdm_script.specs.declared.fields.Protocol.{Protocol}
 use Rattle.rdm_script.specs.declared.fields.PoolSizes.{PoolSizes}
 use Rattle.rdm_json.specs.Results.{◌>>=◌, ◌>>◌, tested, present, placed}
 use Rattle.rdm_json.specs.Values.{known, number, number_or, array_of, found_at}
 
 -- an object with the keys of a script, which has ranks and says its version
-abbrev pub version_of : Data → Result ℕ Reason
-version_of script = do
+abbrev pub version_said : Data → Result ℕ Reason
+version_said script = do
   known form.Script script
   ranks ← present Shape (get (codes "ranks") script)
   number (codes "version") script
 
--- the script is of version 1
-abbrev pub top_tested : Data → Result ⊤ BadScript
-top_tested script = do
-  version ← placed Whole (version_of script)
-  placed (Field field.Version) (tested Version (version == 1))
+-- the versions are 1 and 2
+abbrev pub as_version : ℕ → Result Version Reason
+as_version n = if n == 1 then Ok One else if n == 2 then Ok Two else Err reason.Version
+
+-- the version of a script
+abbrev pub version_of : Data → Result Version BadScript
+version_of script = do
+  said ← placed Whole (version_said script)
+  placed (Field field.Version) (as_version said)
 
 -- a number from least to greatest, which has a default
 abbrev pub number_in : (least greatest default : ℕ) → Option Data → Result ℕ Reason
@@ -38,6 +45,10 @@ number_in least greatest default found = do
 -- the number of a field
 abbrev pub number_field : FieldName → (least greatest default : ℕ) → Option Data → Result ℕ BadScript
 number_field name least greatest default found = placed (Field name) (number_in least greatest default found)
+
+-- the size of a pool, which has a default
+abbrev pub pool_size : (default : ℕ) → Option Data → Result ℕ Reason
+pool_size default found = number_in 1 65536 default found
 
 -- the numbers that are no pools
 abbrev pub protocol_of : Data → Result Protocol BadScript

@@ -7,19 +7,14 @@ use Rattle.rdm_model.specs.declared.answer.OpName.{OpName}
 use Rattle.rdm_model.specs.declared.answer.OpName.TheVariants as op
 use Rattle.rdm_model.specs.declared.job.Instr.{Instr}
 use Rattle.rdm_model.specs.declared.job.Instr.TheVariants as instr
-use Rattle.rdm_model.specs.Jobs.{is_u32}
 use Rattle.rdm_json.specs.declared.refusal.Reason.{Reason}
-use Rattle.rdm_json.specs.declared.refusal.Reason.TheVariants.{Shape, Limit}
+use Rattle.rdm_json.specs.declared.refusal.Reason.TheVariants.{Shape}
 use Rattle.rdm_json.specs.declared.value.Form.TheVariants as form
-use Rattle.rdm_json.specs.Results.{◌>>=◌, ◌>>◌, tested, present}
-use Rattle.rdm_json.specs.Values.{known, number, optional, text}
+use Rattle.rdm_json.specs.Results.{◌>>=◌, ◌>>◌, present}
+use Rattle.rdm_json.specs.Values.{known, number, optional, text, is_set}
+use Rattle.rdm_script.specs.declared.fields.Version.{Version}
 use Rattle.rdm_script.specs.Contents.{as_length, content_of}
-
--- the number is below 2^32
-abbrev pub as_u32 : ℕ → Result ℕ Reason
-as_u32 n = do
-  tested Limit (is_u32 n)
-  Ok n
+use Rattle.rdm_script.specs.Ranges.{as_u32, written_of, as_parts}
 
 -- a port that may be absent
 abbrev pub as_port : Option ℕ → Result (Option PortNo) Reason
@@ -49,19 +44,16 @@ reg_of d = do
   content ← content_of d
   Ok (instr.Reg content)
 
-abbrev pub send_of : Data → Result Instr Reason
-send_of d = do
-  known form.Send d
+abbrev pub send_of : Version → Data → Result Instr Reason
+send_of version d = do
+  written ← written_of version d
   to ← number (codes "to") d
-  region ← number (codes "region") d
-  place ← number (codes "at") d
-  len ← number (codes "len") d
   tag ← optional (codes "tag") d
   cq_data ← optional (codes "data") d
+  confirm ← is_set (codes "confirm") d
   to ← as_u32 to
-  region ← as_u32 region
-  len ← as_length len
-  Ok (instr.Send (record { to = record { 0 = to }; region = record { 0 = region }; at = place; len = len; tag = tag; cq_data = cq_data }))
+  parts ← as_parts written
+  Ok (instr.Send (record { to = record { 0 = to }; parts = parts; tag = tag; cq_data = cq_data; confirm = confirm }))
 
 -- bits are ignored only of a tag, and none where that is not said
 abbrev pub want_of : (tag ignore : Option ℕ) → Result (Option Want) Reason
@@ -134,21 +126,21 @@ word_of word =
     else None
 
 -- what an object says, whose word is this
-abbrev pub said : OpName → Data → Result Instr Reason
-said op.Open d = open_of d
-said op.Insert d = insert_of d
-said op.Reg d = reg_of d
-said op.Send d = send_of d
-said op.Recv d = recv_of d
-said op.Cancel d = cancel_of d
-said op.Note d = note_of d
-said op.Await d = await_of d
-said op.Wait d = wait_of d
-said op.Close d = close_of d
+abbrev pub said : Version → OpName → Data → Result Instr Reason
+said version op.Open d = open_of d
+said version op.Insert d = insert_of d
+said version op.Reg d = reg_of d
+said version op.Send d = send_of version d
+said version op.Recv d = recv_of d
+said version op.Cancel d = cancel_of d
+said version op.Note d = note_of d
+said version op.Await d = await_of d
+said version op.Wait d = wait_of d
+said version op.Close d = close_of d
 
 -- the instruction of an object: it has the keys of its word, with values of their kinds, and then its numbers are in their limits
-abbrev pub instr_of : Data → Result Instr Reason
-instr_of d = do
+abbrev pub instr_of : Version → Data → Result Instr Reason
+instr_of version d = do
   written ← text (codes "op") d
   word ← present Shape (word_of written)
-  said word d
+  said version word d

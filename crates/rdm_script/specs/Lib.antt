@@ -1,6 +1,7 @@
 -- How a script is read:
 pub mod Fields
 pub mod Contents
+pub mod Ranges
 pub mod Instructions
 pub mod Programs
 pub mod Choices

@@ -11,10 +11,11 @@ use Rattle.rdm_json.specs.declared.place.Place.TheVariants.{Whole}
 use Rattle.rdm_json.specs.declared.refusal.Reason.{Reason}
 use Rattle.rdm_json.specs.declared.refusal.Reason.TheVariants.{TooLong, NotJson, TooBig, Unbuilt}
 use Rattle.rdm_json.specs.declared.refusal.BadScript.{BadScript}
+use Rattle.rdm_script.specs.declared.fields.Version.{Version}
 use Rattle.rdm_script.specs.declared.fields.Protocol.{Protocol}
 use Rattle.rdm_script.specs.declared.fields.PoolSizes.{PoolSizes}
 use Rattle.rdm_json.specs.Results.{◌>>=◌, ◌>>◌, tested, placed}
-use Rattle.rdm_script.specs.Fields.{top_tested, protocol_of, pools_of, ranks_field, choices_field}
+use Rattle.rdm_script.specs.Fields.{version_of, protocol_of, pools_of, ranks_field, choices_field}
 use Rattle.rdm_script.specs.Programs.{ranks_of, is_too_big}
 use Rattle.rdm_script.specs.Choices.{choices_of}
 use Rattle.rdm_script.specs.Played.{is_played}
@@ -44,21 +45,21 @@ limits_of p s =
     }
 
 -- the ranks that values say, which are not too big together
-abbrev pub programs_of : List Data → Result (List Rank) BadScript
-programs_of values = do
-  ranks ← ranks_of 0 (length values) values
+abbrev pub programs_of : Version → EpLimits → List Data → Result (List Rank) BadScript
+programs_of version limits values = do
+  ranks ← ranks_of version limits 0 (length values) values
   placed Whole (tested TooBig (not (is_too_big ranks)))
   Ok ranks
 
 -- the job of a well formed script: its version, its fields, its ranks and then its choices
 abbrev pub formed_job : Data → Result Job BadScript
 formed_job script = do
-  top_tested script
+  version ← version_of script
   protocol ← protocol_of script
   pools ← pools_of (get (codes "pools") script)
   values ← ranks_field script
   picks ← choices_field script
-  ranks ← programs_of values
+  ranks ← programs_of version (limits_of protocol pools) values
   choices ← choices_of 0 (length values) picks
   Ok (record { limits = limits_of protocol pools; inbox = pools.inbox; clock = protocol.clock; ranks = ranks; choices = choices })
 

@@ -2,9 +2,10 @@
 ghost use Rattle.std.specs.Prelude.{◌≡◌, IfOk, option_to_list};
 ghost use Rattle.rdm_model.specs.Jobs.{is_rank_or_none, needs_life, is_open_after, opened_by, sent_length};
 ghost use Rattle.rdm_script.specs.Programs.{port_named, made_length};
-ghost use Rattle.rdm_script.specs.Drafts.{made};
+ghost use Rattle.rdm_script.specs.Drafts.{made, capped};
 
 use crate::content::Content;
+use crate::ranges::spans_length;
 use rdm_model::Instr;
 use rdm_num::{NoMemory, PortNo};
 use std::alloc::Global;
@@ -87,13 +88,13 @@ impl<'v> Draft<'v> {
         }
     }
 
-    /// How many bytes it sends.
+    /// How many bytes it sends, up to the last number.
     #[tactic(auto, unfolding(rdm_model::specs::Jobs::sent_length))]
     pub fn sent_length(&self) -> u64
-        ensures { result ≡ sent_length (made self.now) }
+        ensures { result ≡ capped (sent_length (made self.now)) }
     {
         match self {
-            Draft::Made(Instr::Send(req)) => req.len,
+            Draft::Made(Instr::Send(req)) => spans_length(req.parts.as_slice()),
             _ => 0,
         }
     }

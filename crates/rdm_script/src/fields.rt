@@ -2,11 +2,18 @@
 ghost use Rattle.std.specs.Prelude.{◌≡◌, ◌≤◌, IfOk, length, map, option_map};
 ghost use Rattle.serde_json.specs.View.{view};
 ghost use Rattle.rdm_json.specs.Results.{result_map};
-ghost use Rattle.rdm_script.specs.Fields.{version_of, top_tested, number_in, number_field, protocol_of, pools_known, pools_of, counted, ranks_field, choices_in, choices_field};
+ghost use Rattle.rdm_script.specs.Fields.{version_said, as_version, version_of, number_in, pool_size, number_field, protocol_of, pools_known, pools_of, counted, ranks_field, choices_in, choices_field};
 
 use crate::{BadScript, FieldName, Place, Reason};
 use rdm_json::{Form, array_of, found_at, known, number, number_or, placed, present};
 use serde_json::Value;
+
+/// The version of a script.
+#[derive(Clone, Copy, Debug, PartialEq, Eq)]
+pub enum Version {
+    One,
+    Two,
+}
 
 /// The numbers of a script that are no pools.
 #[derive(Clone, Copy, Debug, PartialEq, Eq)]
@@ -31,27 +38,31 @@ pub struct PoolSizes {
 }
 
 /// The version that an object with the keys of a script says.
-fn version_of(script: &Value) -> Result<u64, Reason>
-    ensures { result ≡ version_of (view script.now) }
+fn version_said(script: &Value) -> Result<u64, Reason>
+    ensures { result ≡ version_said (view script.now) }
 {
     known(Form::Script, script)?;
     present(script, "ranks")?;
     number(script, "version")
 }
 
-/// The script is of version 1.
-pub fn top_tested(script: &Value) -> Result<(), BadScript>
-    ensures { result ≡ top_tested (view script.now) }
+/// The versions are 1 and 2.
+fn as_version(n: u64) -> Result<Version, Reason>
+    ensures { result ≡ as_version n }
 {
-    let version = placed(Place::Whole, version_of(script))?;
-    if version == 1 {
-        Ok(())
-    } else {
-        Err(BadScript {
-            place: Place::Field(FieldName::Version),
-            why: Reason::Version,
-        })
+    match n {
+        1 => Ok(Version::One),
+        2 => Ok(Version::Two),
+        _ => Err(Reason::Version),
     }
+}
+
+/// The version of a script.
+pub fn version_of(script: &Value) -> Result<Version, BadScript>
+    ensures { result ≡ version_of (view script.now) }
+{
+    let said = placed(Place::Whole, version_said(script))?;
+    placed(Place::Field(FieldName::Version), as_version(said))
 }
 
 /// A number from least to greatest, which has a default.
@@ -98,6 +109,15 @@ fn field_32(
 {
     let n = number_field(name, least, u64::from(greatest), default, found)?;
     Ok(n as u32)
+}
+
+/// The size of a pool, which has a default.
+#[tactic(auto, unfolding(rdm_model::specs::Jobs::is_within))]
+pub fn pool_size(default: u32, found: Option<&Value>) -> Result<u32, Reason>
+    ensures { result ≡ pool_size default (option_map (λ v. view v.now) found.entry) }
+{
+    let size = number_in(1, 65_536, u64::from(default), found)?;
+    Ok(size as u32)
 }
 
 /// The numbers that are no pools.

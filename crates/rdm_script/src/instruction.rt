@@ -2,27 +2,18 @@
 ghost use Rattle.std.specs.Prelude.{◌≡◌};
 ghost use Rattle.serde_json.specs.View.{view};
 ghost use Rattle.rdm_json.specs.Results.{result_map, present};
-ghost use Rattle.rdm_script.specs.Instructions.{as_u32, as_port, open_of, insert_of, reg_of, send_of, want_of, recv_of, cancel_of, note_of, await_of, wait_of, close_of, word_of, said, instr_of};
+ghost use Rattle.rdm_script.specs.Instructions.{as_port, open_of, insert_of, reg_of, send_of, want_of, recv_of, cancel_of, note_of, await_of, wait_of, close_of, word_of, said, instr_of};
 ghost use Rattle.rdm_script.specs.Drafts.{made};
 
 use crate::Reason;
 use crate::content::{as_length, content_of};
 use crate::draft::Draft;
-use rdm_json::{Form, known, number, optional, text};
+use crate::fields::Version;
+use crate::ranges::{as_parts, as_u32, written_of};
+use rdm_json::{Form, is_set, known, number, optional, text};
 use rdm_model::{Instr, OpName};
 use rdm_num::{Connid, Life, PortNo, RecvNo, RecvReq, RegionNo, SendReq, Want};
 use serde_json::Value;
-
-/// The number is below 2^32.
-fn as_u32(n: u64) -> Result<u32, Reason>
-    ensures { result ≡ as_u32 n }
-{
-    if n < 4_294_967_296 {
-        Ok(n as u32)
-    } else {
-        Err(Reason::Limit)
-    }
-}
 
 /// A port that may be absent.
 fn as_port(n: Option<u64>) -> Result<Option<PortNo>, Reason>
@@ -57,23 +48,20 @@ fn insert_of(value: &Value) -> Result<Instr, Reason>
     Ok(Instr::Insert { life })
 }
 
-fn send_of(value: &Value) -> Result<Instr, Reason>
-    ensures { result ≡ send_of (view value.now) }
+fn send_of(version: Version, value: &Value) -> Result<Instr, Reason>
+    ensures { result ≡ send_of version (view value.now) }
 {
-    known(Form::Send, value)?;
+    let written = written_of(version, value)?;
     let to = number(value, "to")?;
-    let region = number(value, "region")?;
-    let at = number(value, "at")?;
-    let len = number(value, "len")?;
     let tag = optional(value, "tag")?;
     let cq_data = optional(value, "data")?;
+    let confirm = is_set(value, "confirm")?;
     Ok(Instr::Send(SendReq {
         to: PortNo(as_u32(to)?),
-        region: RegionNo(as_u32(region)?),
-        at,
-        len: u64::from(as_length(len)?),
+        parts: as_parts(written.as_slice())?,
         tag,
         cq_data,
+        confirm,
     }))
 }
 
@@ -172,14 +160,14 @@ fn word_of(word: &str) -> Result<OpName, Reason>
 }
 
 /// What an object says, whose word is this.
-fn said(word: OpName, value: &Value) -> Result<Draft<'_>, Reason>
-    ensures { result_map made result ≡ said word (view value.now) }
+fn said(version: Version, word: OpName, value: &Value) -> Result<Draft<'_>, Reason>
+    ensures { result_map made result ≡ said version word (view value.now) }
 {
     let instr = match word {
         OpName::Open => open_of(value)?,
         OpName::Insert => insert_of(value)?,
         OpName::Reg => return Ok(Draft::Region(content_of(value)?)),
-        OpName::Send => send_of(value)?,
+        OpName::Send => send_of(version, value)?,
         OpName::Recv => recv_of(value)?,
         OpName::Cancel => cancel_of(value)?,
         OpName::Note => note_of(value)?,
@@ -191,9 +179,9 @@ fn said(word: OpName, value: &Value) -> Result<Draft<'_>, Reason>
 }
 
 /// The instruction of an object.
-pub fn instr_of(value: &Value) -> Result<Draft<'_>, Reason>
-    ensures { result_map made result ≡ instr_of (view value.now) }
+pub fn instr_of(version: Version, value: &Value) -> Result<Draft<'_>, Reason>
+    ensures { result_map made result ≡ instr_of version (view value.now) }
 {
     let word = word_of(text(value, "op")?)?;
-    said(word, value)
+    said(version, word, value)
 }

@@ -9,6 +9,7 @@ mod instruction;
 mod laws;
 mod played;
 mod program;
+mod ranges;
 mod ranks;
 mod script;
 #[cfg(test)]

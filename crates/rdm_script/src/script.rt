@@ -7,7 +7,7 @@ ghost use Rattle.rdm_script.specs.Drafts.{made_rank};
 
 use crate::choices::choices_of;
 use crate::fields::{
-    PoolSizes, Protocol, choices_field, pools_of, protocol_of, ranks_field, top_tested,
+    PoolSizes, Protocol, Version, choices_field, pools_of, protocol_of, ranks_field, version_of,
 };
 use crate::played::is_played;
 use crate::ranks::{RankDraft, make_ranks, ranks_of};
@@ -67,15 +67,16 @@ fn value_job(alloc: Global, script: &Value) -> Result<Job, ScriptRefused>
 fn formed_job(alloc: Global, script: &Value) -> Result<Job, ScriptRefused>
     ensures { Gives result (formed_job (view script.now)) }
 {
-    top_tested(script)?;
+    let version = version_of(script)?;
     let protocol = protocol_of(script)?;
     let pools = pools_of(script.get("pools"))?;
     let values = ranks_field(script)?;
     let picks = choices_field(script)?;
-    let ranks = programs_of(alloc, values)?;
+    let limits = limits_of(protocol, pools);
+    let ranks = programs_of(alloc, version, limits, values)?;
     let choices = choices_of(alloc, values.len() as u32, picks)?;
     Ok(Job {
-        limits: limits_of(protocol, pools),
+        limits,
         inbox: pools.inbox,
         clock: protocol.clock,
         ranks: Ranks::from_vec(make_ranks(alloc, ranks)?),
@@ -102,11 +103,16 @@ fn limits_of(protocol: Protocol, pools: PoolSizes) -> EpLimits
 }
 
 /// The ranks that values say, which are not too big together.
-fn programs_of<'v>(alloc: Global, values: &'v [Value]) -> Result<Vec<RankDraft<'v>>, ScriptRefused>
+fn programs_of<'v>(
+    alloc: Global,
+    version: Version,
+    limits: EpLimits,
+    values: &'v [Value],
+) -> Result<Vec<RankDraft<'v>>, ScriptRefused>
     requires { length values.now < 2 ^ 32 }
-    ensures { GivesAs (λ v. map made_rank v.items) result (programs_of (map view values.now)) }
+    ensures { GivesAs (λ v. map made_rank v.items) result (programs_of version limits (map view values.now)) }
 {
-    let ranks = ranks_of(alloc, values.len() as u32, values)?;
+    let ranks = ranks_of(alloc, version, limits, values.len() as u32, values)?;
     if is_too_big(ranks.as_slice()) {
         Err(whole(Reason::TooBig))
     } else {

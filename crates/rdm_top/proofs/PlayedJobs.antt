@@ -7,13 +7,14 @@ use Rattle.rdm_lists.specs.Lists.{Member}
 use Rattle.rdm_num.specs.declared.limits.EpLimits.{EpLimits}
 use Rattle.rdm_num.specs.declared.numbers.Connid.{Connid}
 use Rattle.rdm_num.specs.declared.request.SendReq.{SendReq}
+use Rattle.rdm_hdr.specs.Fields.{has_bit}
 use Rattle.rdm_pkt.specs.declared.Kind.TheVariants.{Eager, Medium, LongCts}
 use Rattle.rdm_pkt.specs.Choice.{choose, eager_room, both_have}
 use Rattle.rdm_model.specs.declared.job.Job.{Job}
 use Rattle.rdm_model.specs.declared.job.Rank.{Rank}
 use Rattle.rdm_model.specs.declared.job.Instr.{Instr}
 use Rattle.rdm_model.specs.declared.job.Instr.TheVariants.{OpenLife, Insert, Reg, Send, Recv, Cancel, Note, Await, Wait, CloseLife}
-use Rattle.rdm_model.specs.Jobs.{is_fair, law_ops, lives_fit, rank_fits, features_fit, instr_fits, limits_fit, is_within, choices_fit, opens_well, opened_by, is_open_after}
+use Rattle.rdm_model.specs.Jobs.{is_fair, law_ops, lives_fit, rank_fits, features_fit, instr_fits, limits_fit, is_within, spans_length, differ_in_pools, choices_fit, opens_well, opened_by, is_open_after}
 use Rattle.rdm_model.specs.Owns.{rank_of, no_rank}
 use Rattle.rdm_model.specs.Worlds.{new_world}
 use Rattle.rdm_law.proofs.Eager.EagerDeeds.{IsEagerOp}
@@ -57,7 +58,8 @@ opening_eager limits connid _ h = cc
 played_eager : (limits : EpLimits) (connid : Connid) (i : Instr) → opens i ≡ None → is_played_instr limits i ≡ true → IsEagerOp limits connid i
 unfolding opens
 played_eager limits connid (OpenLife c) h played = cc
-played_eager limits connid (Send req) h played = fits_one_packet limits req (eager_has_room req.len (is_some req.tag) (is_some req.cq_data) limits played)
+played_eager limits connid (Send req) h played =
+    fits_one_packet limits req (eager_has_room (spans_length req.parts) (is_some req.tag) (is_some req.cq_data) limits (and_parts (not req.confirm) (goes_eager limits req) played).1)
 played_eager limits connid _ h played = tt
 
 -- after an open a life is open
@@ -124,24 +126,27 @@ one_life limits opened (i ∷ is) fit played instr m =
 -- the lives of a rank's program follow each other, and it's played
 record IsPlayable (limits : EpLimits) (r : Rank) : Type 0 where
   lives : lives_fit false [] r.ops ≡ true
-  played : is_played_rank limits r ≡ true
+  played : list_all (is_played_instr limits) r.ops ≡ true
 
 -- a rank that fits is, where it's played
-playable : (limits : EpLimits) (ports : ℕ) (r : Rank) → rank_fits ports law_ops r ≡ true → is_played_rank limits r ≡ true → IsPlayable limits r
+playable : (limits : EpLimits) (ports : ℕ) (r : Rank) → rank_fits limits ports law_ops r ≡ true → is_played_rank limits r ≡ true → IsPlayable limits r
 unfolding rank_fits
 playable limits ports r fit played =
-    record { lives = (and_parts (features_fit r.features && nat_le (length r.ops) law_ops && list_all (instr_fits ports) r.ops) (lives_fit false [] r.ops) fit).1; played = played }
+    record {
+      lives = (and_parts (differ_in_pools limits r.limits && limits_fit r.limits && features_fit r.features && nat_le (length r.ops) law_ops && list_all (instr_fits ports) r.ops) (lives_fit false [] r.ops) fit).1;
+      played = (and_parts (not (has_bit 1 r.features)) (list_all (is_played_instr limits) r.ops) played).1;
+    }
 
 -- so is each rank of a job, and the empty one that stands for all others
-each_playable : (limits : EpLimits) (ports : ℕ) (ranks : List Rank) → list_all (rank_fits ports law_ops) ranks ≡ true → list_all (is_played_rank limits) ranks ≡ true
+each_playable : (limits : EpLimits) (ports : ℕ) (ranks : List Rank) → list_all (rank_fits limits ports law_ops) ranks ≡ true → list_all (is_played_rank limits) ranks ≡ true
     → (port : ℕ) → IsPlayable limits (get_or ranks port no_rank)
 unfolding lives_fit
 each_playable limits ports [] fit played port = record { lives = refl; played = refl }
 each_playable limits ports (r ∷ rs) fit played zero =
-    playable limits ports r (and_parts (rank_fits ports law_ops r) (list_all (rank_fits ports law_ops) rs) fit).0
+    playable limits ports r (and_parts (rank_fits limits ports law_ops r) (list_all (rank_fits limits ports law_ops) rs) fit).0
     (and_parts (is_played_rank limits r) (list_all (is_played_rank limits) rs) played).0
 each_playable limits ports (r ∷ rs) fit played (suc port) =
-    each_playable limits ports rs (and_parts (rank_fits ports law_ops r) (list_all (rank_fits ports law_ops) rs) fit).1
+    each_playable limits ports rs (and_parts (rank_fits limits ports law_ops r) (list_all (rank_fits limits ports law_ops) rs) fit).1
     (and_parts (is_played_rank limits r) (list_all (is_played_rank limits) rs) played).1 port
 
 -- the life of each port of a job
@@ -153,11 +158,11 @@ played_job_eager : (job : Job) → is_fair law_ops job ≡ true → is_played jo
 unfolding is_fair rank_of life_at
 played_job_eager job fair played port instr m =
     let a = and_parts
-    (limits_fit job.limits && is_within 1 65536 job.inbox && nat_lt job.clock (2 ^ 63) && is_within 1 16 (length job.ranks) && list_all (rank_fits (length job.ranks) law_ops) job.ranks)
+    (limits_fit job.limits && is_within 1 65536 job.inbox && nat_lt job.clock (2 ^ 63) && is_within 1 16 (length job.ranks) && list_all (rank_fits job.limits (length job.ranks) law_ops) job.ranks)
     (choices_fit (length job.ranks) job.choices) fair in
     let b = and_parts
     (limits_fit job.limits && is_within 1 65536 job.inbox && nat_lt job.clock (2 ^ 63) && is_within 1 16 (length job.ranks))
-    (list_all (rank_fits (length job.ranks) law_ops) job.ranks) a.0 in
+    (list_all (rank_fits job.limits (length job.ranks) law_ops) job.ranks) a.0 in
     let p = each_playable job.limits (length job.ranks) job.ranks b.1 played port in
     one_life job.limits [] (rank_of job port).ops p.lives p.played instr m
 

@@ -8,7 +8,7 @@ use Rattle.rdm_pkt.specs.declared.Kind.{Kind}
 use Rattle.rdm_pkt.specs.declared.Kind.TheVariants.{Eager, Medium, LongCts, LongRead, Runt}
 use Rattle.rdm_pkt.specs.Heads.{piece_of}
 use Rattle.rdm_pkt.specs.Openings as Openings
-use Rattle.rdm_pkt.specs.Openings.{rtm, medium_form, runt_form, long_cts_form, no_bytes, room_in, openings}
+use Rattle.rdm_pkt.specs.Openings.{rtm, read_rtm, medium_form, runt_form, long_cts_form, no_bytes, room_in, openings}
 use Rattle.rdm_num.specs.Pieces.{Piece, pieces}
 use Rattle.rdm_hdr.proofs.Opts.{some-then}
 use Rattle.std.specs.Bool.{then_some}
@@ -142,10 +142,10 @@ packets_carry limits m Medium n p h i e =
 packets_carry limits m LongCts n p h i e =
     let room = room_in limits (rtm m (long_cts_form limits m [])) in
     rw (← alone_is (rtm m (long_cts_form limits m (take room m.bytes))) p n e) (front_range room 0 m.bytes)
-packets_carry limits m LongRead n p h i e = rw (← alone_is (rtm m (F.LongRead (length m.bytes) m.send m.iov)) p n e) refl
+packets_carry limits m LongRead n p h i e = rw (← alone_is (read_rtm m (F.LongRead (length m.bytes) m.send m.iov)) p n e) refl
 packets_carry limits m (Runt runt) n p h i e =
-    let room : 0 < room_in limits (rtm m (runt_form m runt no_bytes)) = rw (runt_room limits m runt) (some_room limits m (40 + 24 * length m.iov) h (omega arith)) in
-    mapped_carries (λ q. rtm m (runt_form m runt q)) _ n (take runt m.bytes) p m.bytes (λ q. refl) (λ q. refl)
+    let room : 0 < room_in limits (read_rtm m (runt_form m runt no_bytes)) = rw (runt_room limits m runt) (some_room limits m (40 + 24 * length m.iov) h (omega arith)) in
+    mapped_carries (λ q. read_rtm m (runt_form m runt q)) _ n (take runt m.bytes) p m.bytes (λ q. refl) (λ q. refl)
     (λ q w. piece_carried _ n (take runt m.bytes) q room w ∙ range_of_first runt q.offset (length q.bytes) m.bytes (piece_within _ n (take runt m.bytes) q room w)) e
 
 pub packets_carry_parts : PacketsCarryParts

@@ -13,7 +13,7 @@ use Rattle.rdm_pkt.specs.declared.Form.{Form}
 use Rattle.rdm_pkt.specs.declared.Form.TheVariants as F
 use Rattle.rdm_pkt.specs.declared.Kind.TheVariants.{Eager, Medium, LongCts, LongRead, Runt}
 use Rattle.rdm_pkt.specs.Heads.{piece_of}
-use Rattle.rdm_pkt.specs.Openings.{Message, rtm, medium_form, runt_form, long_cts_form, no_bytes, room_in, openings}
+use Rattle.rdm_pkt.specs.Openings.{Message, rtm, read_rtm, medium_form, runt_form, long_cts_form, no_bytes, room_in, openings}
 use Rattle.rdm_pkt.proofs.PacketSizes.{rtm-size, form-size, tag-size, last-size}
 use Rattle.rdm_tx.specs.declared.spans.Span.{Span}
 use Rattle.rdm_tx.specs.Sends.{span_at, span_of, part}
@@ -34,21 +34,21 @@ pub medium_room : (limits : EpLimits) (m : Message) → room_in limits (rtm m (m
 unfolding room_in
 medium_room limits m =
     let form : Form = medium_form m no_bytes in
-    ap (λ (n : ℕ). limits.mtu - n) (rw (rtm-size m.no m.tag m.opt form, form-size form, tag-size m.tag, last-size form) (omega arith))
+    ap (λ (n : ℕ). limits.mtu - n) (rw (rtm-size m.no m.tag m.confirm m.opt form, form-size form, tag-size m.tag, last-size form) (omega arith))
 
 -- in a first part that asks for grants
 long_cts_room : (limits : EpLimits) (m : Message) → room_in limits (rtm m (long_cts_form limits m [])) ≡ room_beside limits m 24
 unfolding room_in
 long_cts_room limits m =
     let form : Form = long_cts_form limits m [] in
-    ap (λ (n : ℕ). limits.mtu - n) (rw (rtm-size m.no m.tag m.opt form, form-size form, tag-size m.tag, last-size form) (omega arith))
+    ap (λ (n : ℕ). limits.mtu - n) (rw (rtm-size m.no m.tag m.confirm m.opt form, form-size form, tag-size m.tag, last-size form) (omega arith))
 
 -- in a segment of the first part ahead of a read
-pub runt_room : (limits : EpLimits) (m : Message) (runt : ℕ) → room_in limits (rtm m (runt_form m runt no_bytes)) ≡ room_beside limits m (40 + 24 * length m.iov)
+pub runt_room : (limits : EpLimits) (m : Message) (runt : ℕ) → room_in limits (read_rtm m (runt_form m runt no_bytes)) ≡ room_beside limits m (40 + 24 * length m.iov)
 unfolding room_in
 runt_room limits m runt =
     let form : Form = runt_form m runt no_bytes in
-    ap (λ (n : ℕ). limits.mtu - n) (rw (rtm-size m.no m.tag m.opt form, form-size form, tag-size m.tag, last-size form) (omega arith))
+    ap (λ (n : ℕ). limits.mtu - n) (rw (rtm-size m.no m.tag false m.opt form, form-size form, tag-size m.tag, last-size form) (omega arith))
 
 -- what may be there has its size at most
 at_most : (there : Bool) (size : ℕ) → (if there then size else 0) ≤ size
@@ -125,7 +125,7 @@ long_cts_span limits m n room r =
 -- a read list
 pub long_read_span : (limits : EpLimits) (m : Message) (n : ℕ) → then_some (n == 0) (span 0 0) ≡ option_map span_of (slice_get (openings limits m LongRead) n)
 unfolding openings span_of span_at piece_of
-long_read_span limits m n = sym (span_alone (rtm m (F.LongRead (length m.bytes) m.send m.iov)) n)
+long_read_span limits m n = sym (span_alone (read_rtm m (F.LongRead (length m.bytes) m.send m.iov)) n)
 
 -- a segment of the first part ahead of a read
 pub runt_span : (limits : EpLimits) (m : Message) (runt n room : ℕ) → 0 < room → room ≡ room_beside limits m (40 + 24 * length m.iov)
@@ -134,7 +134,7 @@ pub runt_span : (limits : EpLimits) (m : Message) (runt n room : ℕ) → 0 < ro
 unfolding openings span_of span_at piece_of
 runt_span limits m runt n room h r =
     let l : length (take runt m.bytes) ≡ min (length m.bytes) runt = length-take runt m.bytes ∙ omega arith in
-    rw (runt_room limits m runt, ← r, ← l) (span_mapped (λ p. rtm m (runt_form m runt p)) room n (take runt m.bytes) h (λ p. refl))
+    rw (runt_room limits m runt, ← r, ← l) (span_mapped (λ p. read_rtm m (runt_form m runt p)) room n (take runt m.bytes) h (λ p. refl))
 
 -- ---- packets by kind
 
@@ -191,17 +191,17 @@ long_cts_packet limits m n s piece e b =
 
 -- a read list
 pub long_read_packet : (limits : EpLimits) (m : Message) (n : ℕ) (s : Span) → Some s ≡ option_map span_of (slice_get (openings limits m LongRead) n)
-    → Some (rtm m (F.LongRead (length m.bytes) m.send m.iov)) ≡ slice_get (openings limits m LongRead) n
+    → Some (read_rtm m (F.LongRead (length m.bytes) m.send m.iov)) ≡ slice_get (openings limits m LongRead) n
 unfolding openings
 long_read_packet limits m n s e =
-    packet_alone (rtm m (F.LongRead (length m.bytes) m.send m.iov)) (rtm m (F.LongRead (length m.bytes) m.send m.iov)) n s e (λ d. refl)
+    packet_alone (read_rtm m (F.LongRead (length m.bytes) m.send m.iov)) (read_rtm m (F.LongRead (length m.bytes) m.send m.iov)) n s e (λ d. refl)
 
 -- a segment of the first part ahead of a read
 pub runt_packet : (limits : EpLimits) (m : Message) (runt n : ℕ) (s : Span) (piece : List ℕ) → 256 ≤ limits.mtu → length m.iov ≤ 4
     → Some s ≡ option_map span_of (slice_get (openings limits m (Runt runt)) n) → piece ≡ part s m.bytes
-    → Some (rtm m (F.Runt (length m.bytes) m.send m.iov runt s.offset piece)) ≡ slice_get (openings limits m (Runt runt)) n
+    → Some (read_rtm m (F.Runt (length m.bytes) m.send m.iov runt s.offset piece)) ≡ slice_get (openings limits m (Runt runt)) n
 unfolding openings span_of span_at piece_of
 runt_packet limits m runt n s piece h i e b =
-    let room : 0 < room_in limits (rtm m (runt_form m runt no_bytes)) = rw (runt_room limits m runt) (some_room limits m (40 + 24 * length m.iov) h (omega arith)) in
-    packet_mapped (λ p. rtm m (runt_form m runt p)) _ n (take runt m.bytes) s piece m.bytes (λ p. refl)
+    let room : 0 < room_in limits (read_rtm m (runt_form m runt no_bytes)) = rw (runt_room limits m runt) (some_room limits m (40 + 24 * length m.iov) h (omega arith)) in
+    packet_mapped (λ p. read_rtm m (runt_form m runt p)) _ n (take runt m.bytes) s piece m.bytes (λ p. refl)
     (λ p q. piece_carried _ n (take runt m.bytes) p room q ∙ range_of_first runt p.offset (length p.bytes) m.bytes (piece_within _ n (take runt m.bytes) p room q)) e b

@@ -44,7 +44,7 @@ bytes_of (Some p) = p.bytes
 
 -- the bytes of its message that a packet carries
 unfoldable pub carried : Packet → List ℕ
-carried (Rtm number tag opt form) = bytes_of (piece_of form)
+carried (Rtm number tag confirm opt form) = bytes_of (piece_of form)
 carried _ = []
 
 -- each packet carries the bytes of the message that stand at its span

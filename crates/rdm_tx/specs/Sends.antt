@@ -4,6 +4,7 @@ use Rattle.rdm_num.specs.declared.limits.EpLimits.{EpLimits}
 use Rattle.rdm_num.specs.Pieces.{Piece}
 use Rattle.rdm_pkt.specs.declared.Packet.{Packet}
 use Rattle.rdm_pkt.specs.declared.Packet.TheVariants.{Rtm}
+use Rattle.rdm_pkt.specs.declared.Form.{Form}
 use Rattle.rdm_pkt.specs.Heads.{piece_of}
 use Rattle.rdm_pkt.specs.Openings as Openings
 use Rattle.rdm_tx.specs.declared.message.Message.{Message}
@@ -11,7 +12,11 @@ use Rattle.rdm_tx.specs.declared.spans.Span.{Span}
 
 -- the message as it opens, with its bytes
 abbrev pub opened : Message → List ℕ → Openings.Message
-opened m bytes = record { no = m.no; tag = m.tag; opt = m.opt; send = m.send_id; iov = m.iov; bytes = bytes }
+opened m bytes = record { no = m.no; tag = m.tag; confirm = m.confirm; opt = m.opt; send = m.send_id; iov = m.iov; bytes = bytes }
+
+-- the packet of that form which opens the message by its kind
+abbrev pub opener : Message → Form → Packet
+opener m form = Rtm m.no m.tag (Openings.says_confirm m.kind m.confirm) m.opt form
 
 -- the packet that comes after the first n of those that open the message, if there is one
 abbrev pub packet_after : EpLimits → Message → List ℕ → ℕ → Option Packet
@@ -32,7 +37,7 @@ span_at (Some p) = record { offset = p.offset; length = length p.bytes }
 
 -- where the bytes stand in the message that a packet opens it with, and how many they are
 unfoldable pub span_of : Packet → Span
-span_of (Rtm number tag opt form) = span_at (piece_of form)
+span_of (Rtm number tag confirm opt form) = span_at (piece_of form)
 span_of _ = span_at None
 
 -- the bytes of a message that stand there

@@ -104,6 +104,7 @@ impl Cursor {
         Ok(Some(Packet::Rtm {
             no: message.no,
             tag: message.tag,
+            confirm: message.says_confirm(),
             opt: message.opt,
             form,
         }))

@@ -1,8 +1,8 @@
 //! A send's message, and the forms of the packets that open it.
 ghost use Rattle.std.specs.Prelude.{◌≡◌, ◌≤◌, ◌<◌, ◌+◌, ◌-◌, if◌then◌else◌, ℕ, List, length, is_some, IfSome, IfOk};
 ghost use Rattle.rdm_hdr.specs.Headers as Headers;
-ghost use Rattle.rdm_pkt.specs.Openings.{rtm};
-ghost use Rattle.rdm_tx.specs.Sends.{opened, packet_after, span_after, part, IsSpanAfter};
+ghost use Rattle.rdm_pkt.specs.Openings as Openings;
+ghost use Rattle.rdm_tx.specs.Sends.{opener, packet_after, span_after, part, IsSpanAfter};
 
 use crate::spans::{Span, alone, piece};
 use rdm_hdr::{Opt, opt_size, size_if};
@@ -15,6 +15,8 @@ use std::alloc::Global;
 pub struct Message {
     pub no: MsgNo,
     pub tag: Option<u64>,
+    /// Whether it asks for a receipt.
+    pub confirm: bool,
     pub opt: Opt,
     pub send_id: OpId,
     /// Where a receiver reads the message.
@@ -65,7 +67,7 @@ impl Message {
     ) -> Result<Form, NoMemory>
         requires mtu { 256 ≤ limits.now.mtu }
         requires ranges { length self.now.iov ≤ 4 }
-        ensures { IfOk result (λ form. (bytes : List ℕ) (n : ℕ) (s : Span) → length bytes ≡ total → Some s ≡ span_after limits.now self.now bytes n → s.offset ≡ offset → piece.now ≡ part s bytes → Some (rtm (opened self.now bytes) form) ≡ packet_after limits.now self.now bytes n) }
+        ensures { IfOk result (λ form. (bytes : List ℕ) (n : ℕ) (s : Span) → length bytes ≡ total → Some s ≡ span_after limits.now self.now bytes n → s.offset ≡ offset → piece.now ≡ part s bytes → Some (opener self.now form) ≡ packet_after limits.now self.now bytes n) }
     {
         match self.kind {
             Kind::Eager => {
@@ -109,6 +111,16 @@ impl Message {
                     bytes,
                 })
             }
+        }
+    }
+
+    /// Whether its packets say that it asks for a receipt: where it is read, they cannot.
+    pub(crate) fn says_confirm(&self) -> bool
+        ensures { result ≡ Openings.says_confirm self.now.kind self.now.confirm }
+    {
+        match self.kind {
+            Kind::Eager | Kind::Medium | Kind::LongCts => self.confirm,
+            Kind::LongRead | Kind::Runt { .. } => false,
         }
     }
 

@@ -46,7 +46,15 @@ fn limits(mtu: u32) -> EpLimits {
 }
 
 /// A tagged message whose bytes stand at the start of region 0.
-fn message(no: u32, tag: u64, opt: Opt, kind: Kind, length: u64) -> Message {
+fn message(
+    rt: &impl Abort,
+    no: u32,
+    tag: u64,
+    confirm: bool,
+    opt: Opt,
+    kind: Kind,
+    length: u64,
+) -> Message {
     let mut iov = ArrayVec::<IovEntry, 4>::new();
     iov.push(IovEntry {
         offset: 0,
@@ -56,9 +64,10 @@ fn message(no: u32, tag: u64, opt: Opt, kind: Kind, length: u64) -> Message {
     Message {
         no: MsgNo(no),
         tag: Some(tag),
+        confirm,
         opt,
         send_id: OpId(no),
-        iov: Iov::from_array_vec(iov),
+        iov: Iov::from_array_vec(iov).expect(rt, "there is a range"),
         kind,
     }
 }
@@ -115,18 +124,24 @@ fn a_whole_message_is_one_packet(rt: HostRuntime) -> Result<(), Fail> {
         0, 0, 0, 0, 0, 0, 0, 0, 0, 0, 0, 1, 0, 0, 0, 5, 0, 0, 0, 0, 0, 0, 0, 0, 0, 0, 0, 0x68,
         0x65, 0x6c, 0x6c, 0x6f,
     ];
-    let hello = message(0, 7, RAW, Kind::Eager, 5);
+    let hello = message(&rt, 0, 7, false, RAW, Kind::Eager, 5);
     gives_one(&rt, alloc, &hello, b"hello", &addressed)?;
     let identified = [
         0x41, 0x04, 0x08, 0x80, 1, 0, 0, 0, 7, 0, 0, 0, 0, 0, 0, 0, 5, 0, 0, 0, 0x68, 0x69,
     ];
-    let hi = message(1, 7, CONNID, Kind::Eager, 2);
+    let hi = message(&rt, 1, 7, false, CONNID, Kind::Eager, 2);
     gives_one(&rt, alloc, &hi, b"hi", &identified)?;
+    let confirmed = [
+        0xc9, 0x04, 0x08, 0x80, 0, 0, 0, 0, 7, 0, 0, 0, 0, 0, 0, 0, 5, 0, 0, 0, 0x68, 0x65, 0x6c,
+        0x6c, 0x6f,
+    ];
+    let hello = message(&rt, 0, 7, true, CONNID, Kind::Eager, 5);
+    gives_one(&rt, alloc, &hello, b"hello", &confirmed)?;
     let with_cq_data = [
         0x41, 0x04, 0x0a, 0x80, 2, 0, 0, 0, 7, 0, 0, 0, 0, 0, 0, 0, 9, 0, 0, 0, 0, 0, 0, 0, 5, 0,
         0, 0,
     ];
-    let empty = message(2, 7, CQ_DATA, Kind::Eager, 0);
+    let empty = message(&rt, 2, 7, false, CQ_DATA, Kind::Eager, 0);
     gives_one(&rt, alloc, &empty, b"", &with_cq_data)?;
     Ok(())
 }
@@ -140,7 +155,7 @@ fn a_read_is_one_packet(rt: HostRuntime) -> Result<(), Fail> {
         0, 0, 0, 0, 0, 0, 0, 5, 0, 0, 0, 0, 0, 0, 0, 0, 0, 0, 0, 0xd0, 7, 0, 0, 0, 0, 0, 0, 0, 0,
         0, 0, 0, 0, 0, 0,
     ];
-    let read = message(1, 2, CONNID, Kind::LongRead, 2_000);
+    let read = message(&rt, 1, 2, false, CONNID, Kind::LongRead, 2_000);
     gives_one(&rt, alloc, &read, &bytes, &wanted)?;
     Ok(())
 }

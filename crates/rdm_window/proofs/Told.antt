@@ -5,6 +5,7 @@ use Rattle.std.specs.Cmp.{nat_cmp_total, unsigned_tied, first_so, second_so}
 use Rattle.std.specs.Ordering.{nat_cmp}
 use Rattle.std.specs.FinSet as set
 use Rattle.std.proofs.lemmas.Bool.{cases_lt, lt-ltb, le-ltb, le-leb, lt-leb, ltb-true, leb-true, ne_eqb}
+use Rattle.rdm_lists.proofs.Bools.{or_true}
 use Rattle.rdm_window.specs.declared.window.Heard.TheVariants.{New, Waiting, Entered}
 use Rattle.rdm_window.specs.Window.{Hearing, none_heard, state_of, after_hear, IsLeastMissing, NextIsTold}
 use Rattle.rdm_window.specs.Marks.{Marks, IsAdvanced, none_marked, with_mark}
@@ -94,11 +95,6 @@ new_from_next a n is =
 one_more_heard : (first : ℕ) (ring : Marks) (n q : ℕ) → first ≤ q → ring.next ≤ q → set.contains (with_mark ring n).marked q ≡ (nat_eq q n || is_heard first ring q)
 one_more_heard first ring n q from past =
     set.contains-insert nat_cmp_total ring.marked n q ∙ (λ i. unsigned_tied q n i || sym (later first ring q from past) i)
-
--- one of two where the second holds
-or_true : (b : Bool) → (b || true) ≡ true
-or_true true = refl
-or_true false = refl
 
 -- what was heard after a number was marked and the ring advanced
 heard_after : (first : ℕ) (ring new : Marks) (n : ℕ) → IsWindow first ring → ring.next ≤ n → IsAdvanced (with_mark ring n) new → (q : ℕ) → is_heard first new q ≡ (nat_eq q n || is_heard first ring q)

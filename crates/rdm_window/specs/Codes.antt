@@ -1,6 +1,6 @@
 -- How what is held is stored.
-use Rattle.std.specs.Prelude.{◌≡◌, ◌⊎◌, ℕ, List, Option, refl}
-use Rattle.std.specs.Coded.{Coded, code_by, coded×, coded⊎, coded_ℕ, coded_list, coded_option}
+use Rattle.std.specs.Prelude.{◌≡◌, ◌⊎◌, ℕ, Bool, List, Option, refl}
+use Rattle.std.specs.Coded.{Coded, code_by, coded×, coded⊎, coded_ℕ, coded_bool, coded_list, coded_option}
 use Rattle.std.proofs.Common.{inl, inr}
 use base.Stored.{coded_unit}
 use Rattle.std.specs.FinMap as map
@@ -68,10 +68,10 @@ shape_code =
 abbrev pub head_code : Coded Head
 head_code =
     code_by
-    (Option ℕ × (Option ℕ × (ℕ × Shape)))
-    (coded× (coded_option coded_ℕ) (coded× (coded_option coded_ℕ) (coded× coded_ℕ shape_code)))
-    (λ h. (h.tag, (h.cq_data, (h.length, h.shape))))
-    (λ p. record { tag = p.0; cq_data = p.1.0; length = p.1.1.0; shape = p.1.1.1 })
+    (Option ℕ × (Bool × (Option ℕ × (ℕ × Shape))))
+    (coded× (coded_option coded_ℕ) (coded× coded_bool (coded× (coded_option coded_ℕ) (coded× coded_ℕ shape_code))))
+    (λ h. (h.tag, (h.confirm, (h.cq_data, (h.length, h.shape)))))
+    (λ p. record { tag = p.0; confirm = p.1.0; cq_data = p.1.1.0; length = p.1.1.1.0; shape = p.1.1.1.1 })
     (λ _. refl)
 
 -- a message as its head and its pieces

@@ -125,6 +125,7 @@ fn life(port: u32, connid: u32) -> Life {
 fn head() -> Head {
     Head {
         tag: Some(7),
+        confirm: false,
         cq_data: None,
         length: 2,
         shape: Shape::Eager,

@@ -10,13 +10,13 @@ use Rattle.rdm_model.specs.declared.job.Rank.{Rank}
 use Rattle.rdm_model.specs.declared.job.Instr.{Instr}
 use Rattle.rdm_model.specs.declared.job.Instr.TheVariants.{OpenLife, Insert, Reg, Send, Recv, Cancel, Note, Await, Wait, CloseLife}
 use Rattle.rdm_model.specs.Owns.{rank_of, no_rank, port_count}
-use Rattle.rdm_model.specs.Jobs.{is_fair, law_ops, instr_fits, range_fits, sent_length, open_count}
+use Rattle.rdm_model.specs.Jobs.{is_fair, law_ops, instr_fits, parts_fit, sent_length, open_count}
 use Rattle.rdm_law.proofs.Fits.FairJobs.{RankFits, fair_job}
 use Rattle.rdm_world.specs.Budgets.{IsSmall}
 
 -- a fair send is short
 send_short : (ports : ℕ) (i : Instr) → instr_fits ports i ≡ true → sent_length i ≤ 16777216
-unfolding instr_fits range_fits sent_length
+unfolding instr_fits parts_fit sent_length
 send_short ports (Send req) h = (let a = (and_parts _ _ (and_parts _ _ (and_parts _ _ h).0).0).1 in leb-true _ _ (and_parts _ _ a).1)
 send_short ports (OpenLife connid) h = omega arith
 send_short ports (Insert life) h = omega arith

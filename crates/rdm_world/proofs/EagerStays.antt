@@ -25,8 +25,8 @@ use Rattle.rdm_world.specs.Shows.{IsBuiltWorld, StaysBuilt}
 
 -- what the law calls eager is what the endpoint takes
 same_item : (own : Own) (log : List Deed) (from : Life) (item : Item) → Law.IsEagerItem own log from item → IsEagerItem own log from item
-same_item own log from (Spelled (Rtm number tag opt (Eager bytes))) h = h
-same_item own log from (Spelled (Handshake words connid)) h = h
+same_item own log from (Spelled (Rtm number tag confirm opt (Eager bytes))) h = h
+same_item own log from (Spelled (Handshake words connid raw)) h = h
 same_item own log from _ h = elim h [ ]
 
 -- so it is with a datagram

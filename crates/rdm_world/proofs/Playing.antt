@@ -6,6 +6,7 @@ use Rattle.std.proofs.lemmas.Bool.{and_parts, ltb-true, leb-true, cases_lt}
 use Rattle.std.proofs.lemmas.List.{map-append}
 use Rattle.std.proofs.lemmas.List.Folds.{list_any-append}
 use Rattle.rdm_lists.specs.Lists.{below}
+use Rattle.rdm_lists.proofs.Bools.{or_true}
 use Rattle.rdm_model.specs.declared.job.Job.{Job}
 use Rattle.rdm_model.specs.declared.job.Choice.{Choice}
 use Rattle.rdm_model.specs.declared.report.End.{End}
@@ -115,11 +116,6 @@ pub ends_more : (job : Job) (w : World) (n : ℕ) (es : List End) (e : End) → 
 ends_more job w n es e before at =
     let next : n + 1 ≡ suc n = omega arith in
     rw (next, below_more n, before, at) (sym (map-append (end_at job w) (below n) (n ∷ [])))
-
--- something or true
-or_true : (b : Bool) → (b || true) ≡ true
-or_true true = refl
-or_true false = refl
 
 -- one of those below a number passes
 pub any_below : (f : ℕ → Bool) (n i : ℕ) → i < n → f i ≡ true → list_any f (below n) ≡ true

@@ -5,7 +5,7 @@ use Rattle.std.proofs.lemmas.List.{length-set, get_or-set_same, get_or-set_other
 use Rattle.rdm_model.specs.declared.job.Job.{Job}
 use Rattle.rdm_model.specs.declared.entry.Entry.{Entry}
 use Rattle.rdm_model.specs.declared.entry.Act.{Act}
-use Rattle.rdm_model.specs.Owns.{rank_of, port_count}
+use Rattle.rdm_model.specs.Owns.{rank_of, port_count, with_pools}
 use Rattle.rdm_model.specs.Worlds.{World, with_entry}
 use Rattle.rdm_wire.specs.declared.Datagram.{Datagram}
 use Rattle.rdm_wire.specs.Queues.{MemWireState}
@@ -66,7 +66,7 @@ unless_queues job w r act false i = refl
 -- the port of that number with that log and that stash
 abbrev pub port_of : Job → ℕ → List Entry → List Datagram → PortView
 port_of job i log stash =
-    record { number = i; ports = port_count job; inbox = job.inbox; start = job.clock; limits = job.limits; rank = rank_of job i; log = log; stash = stash }
+    record { number = i; ports = port_count job; inbox = job.inbox; start = job.clock; limits = with_pools job.limits (rank_of job i).limits; rank = rank_of job i; log = log; stash = stash }
 
 -- it is the port in a world where these are its log and its stash
 pub port_from : (job : Job) (v : World) (i : ℕ) (log : List Entry) (stash : List Datagram) → log ≡ v.logs i → stash ≡ v.stashes i → port_of job i log stash ≡ port_in job v i

@@ -5,7 +5,7 @@ use Rattle.rdm_lists.specs.Lists.{Member}
 use Rattle.rdm_wire.specs.declared.Datagram.{Datagram}
 use Rattle.rdm_model.specs.declared.job.Job.{Job}
 use Rattle.rdm_model.specs.declared.job.Choice.{Choice}
-use Rattle.rdm_model.specs.Owns.{rank_of, port_count}
+use Rattle.rdm_model.specs.Owns.{rank_of, port_count, with_pools}
 use Rattle.rdm_model.specs.Jobs.{choice_rank}
 use Rattle.rdm_model.specs.Worlds.{World, scene_in, after_choices}
 use Rattle.rdm_port.specs.Views.{PortView}
@@ -15,7 +15,7 @@ use Rattle.rdm_world.specs.Views.{WorldView}
 -- the port of that number in a world
 abbrev pub port_in : Job → World → ℕ → PortView
 port_in job w i =
-    record { number = i; ports = port_count job; inbox = job.inbox; start = job.clock; limits = job.limits; rank = rank_of job i; log = w.logs i; stash = w.stashes i }
+    record { number = i; ports = port_count job; inbox = job.inbox; start = job.clock; limits = with_pools job.limits (rank_of job i).limits; rank = rank_of job i; log = w.logs i; stash = w.stashes i }
 
 -- a world shows one of the definitions: it has its ports and its queues, and nothing is beyond the ports
 pub record IsWorld (job : Job) (w : World) (v : WorldView) : Type 0 where

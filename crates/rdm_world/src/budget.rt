@@ -5,6 +5,7 @@ ghost use Rattle.rdm_model.specs.Jobs.{is_fair, law_ops};
 ghost use Rattle.rdm_model.specs.Played.{round_bound};
 ghost use Rattle.rdm_world.specs.Budgets.{IsSmall};
 
+use rdm_ep::total_length;
 use rdm_model::{Instr, Job, Rank};
 
 /// What the instructions of ranks come to: how many there are, the bytes that they send, and the lives that they open.
@@ -17,11 +18,11 @@ struct Sums {
 
 /// How many bytes a send has.
 #[tactic(auto, unfolding(rdm_model::specs::Jobs::sent_length))]
-fn sent_length(instr: &Instr) -> u64
+fn sent_length(instr: &Instr) -> u128
     ensures { result ≡ Jobs.sent_length instr.now }
 {
     match instr {
-        Instr::Send(request) => request.len,
+        Instr::Send(request) => total_length(&request.parts),
         _ => 0,
     }
 }
@@ -53,7 +54,7 @@ fn rank_sums(rank: &Rank) -> Sums
     }
     Sums {
         ops: instrs.len() as u64,
-        bytes,
+        bytes: bytes as u64,
         opens,
     }
 }

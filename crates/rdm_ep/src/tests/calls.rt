@@ -1,8 +1,9 @@
 //! Calls at an endpoint, each with what is wanted of it.
 use crate::{CancelAnswer, Endpoint, HandleAnswer, Inserted, RecvAnswer, SendAnswer};
+use arrayvec::ArrayVec;
 use rdm_num::{
-    Bytes, Completion, Connid, DatagramNo, EpLimits, Life, NoMemory, OpId, Outcome, PortNo, RecvNo,
-    RecvReq, RegionNo, SendReq, Stamp,
+    Bytes, Completion, Connid, DatagramNo, EpLimits, Life, NoMemory, OpId, Outcome, Parts, PortNo,
+    RecvNo, RecvReq, RegionNo, SendReq, Span, Stamp,
 };
 use rdm_wire::{Body, Datagram, Load, ReadAsk};
 use std::alloc::Global;
@@ -20,8 +21,9 @@ pub enum Call<'a> {
     /// The first region is registered.
     Register(&'a [u8]),
     Insert(Life, Inserted),
-    WaitsSend(SendReq, bool),
-    Send(SendReq, SendAnswer),
+    /// A send of these ranges to port 1, with the tag 7.
+    WaitsSend([Span; 2], bool),
+    Send([Span; 2], SendAnswer),
     WaitsRecv(RecvReq, bool),
     Recv(RecvReq, RecvAnswer),
     IsPosted(RecvNo, bool),
@@ -96,12 +98,36 @@ fn is_registered(endpoint: &mut Endpoint, alloc: Global, bytes: &[u8]) -> bool {
     endpoint.region_count() < 1 && endpoint.reg(alloc, bytes) == Ok(RegionNo(0))
 }
 
-fn is_sent(endpoint: &mut Endpoint, alloc: Global, request: &SendReq, wanted: SendAnswer) -> bool {
-    endpoint.send_count() < 1 && endpoint.send(alloc, request) == wanted
+fn request(parts: [Span; 2]) -> Option<SendReq> {
+    let mut items = ArrayVec::<Span, 4>::new();
+    items.push(parts[0]);
+    items.push(parts[1]);
+    let parts = Parts::from_array_vec(items)?;
+    Some(SendReq {
+        to: PortNo(1),
+        parts,
+        tag: Some(7),
+        cq_data: None,
+        confirm: false,
+    })
+}
+
+fn does_send_wait(endpoint: &Endpoint, parts: [Span; 2], wanted: bool) -> bool {
+    match request(parts) {
+        Some(request) => endpoint.waits_send(&request) == wanted,
+        None => false,
+    }
+}
+
+fn is_sent(endpoint: &mut Endpoint, alloc: Global, parts: [Span; 2], wanted: SendAnswer) -> bool {
+    match request(parts) {
+        Some(request) => endpoint.send_count() < 1 && endpoint.send(alloc, &request) == wanted,
+        None => false,
+    }
 }
 
 fn is_received(endpoint: &mut Endpoint, request: &RecvReq, wanted: RecvAnswer) -> bool {
-    endpoint.receive_count() < 1 && endpoint.recv(request) == wanted
+    endpoint.receive_count() < 2 && endpoint.recv(request) == wanted
 }
 
 fn is_next(endpoint: &Endpoint, alloc: Global, to: Life, bytes: &[u8]) -> bool {
@@ -145,8 +171,8 @@ fn is_right(endpoint: &mut Endpoint, alloc: Global, call: &Call) -> bool {
         Call::Ask(wanted) => is_handled(endpoint, alloc, Ok(ask()), *wanted),
         Call::Register(bytes) => is_registered(endpoint, alloc, bytes),
         Call::Insert(life, wanted) => endpoint.insert(*life) == Ok(*wanted),
-        Call::WaitsSend(request, wanted) => endpoint.waits_send(request) == *wanted,
-        Call::Send(request, wanted) => is_sent(endpoint, alloc, request, *wanted),
+        Call::WaitsSend(parts, wanted) => does_send_wait(endpoint, *parts, *wanted),
+        Call::Send(parts, wanted) => is_sent(endpoint, alloc, *parts, *wanted),
         Call::WaitsRecv(request, wanted) => endpoint.waits_recv(request) == *wanted,
         Call::Recv(request, wanted) => is_received(endpoint, request, *wanted),
         Call::IsPosted(number, wanted) => endpoint.is_posted(*number) == *wanted,

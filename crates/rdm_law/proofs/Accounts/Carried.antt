@@ -1,5 +1,5 @@
 -- The bytes that a life took: which datagram brought each piece.
-use Rattle.std.proofs.Common.{◌≡◌, ℕ, true, false, cond, ◌&&◌, List, [], ◌∷◌, Option, Some, None, refl, ◌⊎◌, inl, inr, ◌∙◌, ap, subst}
+use Rattle.std.proofs.Common.{Bool, ◌≡◌, ℕ, true, false, cond, ◌&&◌, List, [], ◌∷◌, Option, Some, None, refl, ◌⊎◌, inl, inr, ◌∙◌, ap, subst}
 use Rattle.std.specs.Prelude.{◌==◌, is_some, option_to_list}
 use Rattle.std.proofs.lemmas.Bool.{eqb-true, eq-eqb, and_from}
 use Rattle.rdm_lists.specs.Lists.{Member}
@@ -11,7 +11,7 @@ use Rattle.rdm_num.specs.declared.numbers.MsgNo.{MsgNo}
 use Rattle.rdm_num.specs.declared.numbers.OpId.{OpId}
 use Rattle.rdm_hdr.specs.declared.Opt.{Opt}
 use Rattle.rdm_pkt.specs.declared.Form.{Form}
-use Rattle.rdm_pkt.specs.declared.Packet.TheVariants.{Rtm, Cts, CtsData, Eor, Handshake}
+use Rattle.rdm_pkt.specs.declared.Packet.TheVariants.{Rtm, Cts, CtsData, Eor, Handshake, Receipt}
 use Rattle.rdm_pkt.specs.Heads.{piece_of, head_of}
 use Rattle.rdm_wire.specs.declared.ReadData.{ReadData}
 use Rattle.rdm_match.specs.Matcher.{Pair, is_pair}
@@ -29,9 +29,10 @@ use Rattle.rdm_num.proofs.Lives.{same_life-true, same_life-refl}
 pub record FromRtm (n : ℕ) (item : Item) (x : Piece) : Type 0 where
   pub number : MsgNo
   pub tag : Option ℕ
+  pub confirm : Bool
   pub opt : Opt
   pub form : Form
-  pub is : item ≡ Spelled (Rtm number tag opt form)
+  pub is : item ≡ Spelled (Rtm number tag confirm opt form)
   pub number_is : number.0 ≡ n
   pub piece_is : piece_of form ≡ Some x
 
@@ -57,9 +58,9 @@ Brought ps source n item x = FromRtm n item x ⊎ (FromData ps source n item x �
 -- a piece is brought by one of three kinds
 pub piece_cases : (ps : List Pair) (source : Life) (n : ℕ) (item : Item) (x : Piece) → piece_by ps source n item ≡ Some x → Brought ps source n item x
 unfolding piece_by
-piece_cases ps source n (Spelled (Rtm number tag opt form)) x h =
-    (elim (number.0 == n) as (λ b. (number.0 == n) ≡ b → cond b (piece_of form) None ≡ Some x → Brought ps source n (Spelled (Rtm number tag opt form)) x) [
-      | true ↦ λ t k. inl (record { number = number; tag = tag; opt = opt; form = form; is = refl; number_is = eqb-true number.0 n t; piece_is = k })
+piece_cases ps source n (Spelled (Rtm number tag confirm opt form)) x h =
+    (elim (number.0 == n) as (λ b. (number.0 == n) ≡ b → cond b (piece_of form) None ≡ Some x → Brought ps source n (Spelled (Rtm number tag confirm opt form)) x) [
+      | true ↦ λ t k. inl (record { number = number; tag = tag; confirm = confirm; opt = opt; form = form; is = refl; number_is = eqb-true number.0 n t; piece_is = k })
       | false ↦ λ t k. cc
     ]) refl h
 piece_cases ps source n (Spelled (CtsData recv offset connid bytes)) x h =
@@ -70,7 +71,8 @@ piece_cases ps source n (Gives g) x h =
     inr (inr (record { data' = g; is = refl; at_is = ap (λ (y : Piece). y.offset) t.1; bytes_are = ap (λ (y : Piece). y.bytes) t.1; paired = t.0 }))
 piece_cases ps source n (Spelled (Cts send recv size connid)) x h = cc
 piece_cases ps source n (Spelled (Eor send recv connid)) x h = cc
-piece_cases ps source n (Spelled (Handshake words connid)) x h = cc
+piece_cases ps source n (Spelled (Handshake words connid raw)) x h = cc
+piece_cases ps source n (Spelled (Receipt number connid)) x h = cc
 piece_cases ps source n (Asks a) x h = cc
 piece_cases ps source n Garbled x h = cc
 
@@ -122,10 +124,10 @@ carried_from first heads (d ∷ before) source n x h =
     ]
 
 -- a packet that opens a message tells its head
-rtm_heard : (source : Life) (n : ℕ) (item : Item) (number : MsgNo) (tag : Option ℕ) (opt : Opt) (form : Form) → item ≡ Spelled (Rtm number tag opt form) → number.0 ≡ n
-    → head_by source n (Took source item) ≡ Some (head_of tag opt form)
+rtm_heard : (source : Life) (n : ℕ) (item : Item) (number : MsgNo) (tag : Option ℕ) (confirm : Bool) (opt : Opt) (form : Form) → item ≡ Spelled (Rtm number tag confirm opt form) → number.0 ≡ n
+    → head_by source n (Took source item) ≡ Some (head_of tag confirm opt form)
 unfolding head_by
-rtm_heard source n item number tag opt form is number_is =
+rtm_heard source n item number tag confirm opt form is number_is =
     let t : (same_life source source && number.0 == n) ≡ true = and_from _ _ (same_life-refl source) (eq-eqb number.0 n number_is) in
     rw (is, t) refl
 
@@ -143,8 +145,8 @@ brought_heard : (first : ℕ) (heads : Heads) (before : List Deed) (source : Lif
     → Brought (pairs first heads before) source n item x → is_some (heard_head (d ∷ before) source n) ≡ true
 unfolding heard_head
 brought_heard first heads before source n d item x t (inl b) =
-    let e = rtm_heard source n item b.number b.tag b.opt b.form b.is b.number_is in
-    some-or_else_right (heard_head before source n) (head_by source n d) (is_some_from (head_by source n d) (head_of b.tag b.opt b.form) (ap (head_by source n) t ∙ e))
+    let e = rtm_heard source n item b.number b.tag b.confirm b.opt b.form b.is b.number_is in
+    some-or_else_right (heard_head before source n) (head_by source n d) (is_some_from (head_by source n d) (head_of b.tag b.confirm b.opt b.form) (ap (head_by source n) t ∙ e))
 brought_heard first heads before source n d item x t (inr (inl b)) =
     some-or_else_left (heard_head before source n) (head_by source n d) (paired_heard first heads before b.recv.0 source n b.paired)
 brought_heard first heads before source n d item x t (inr (inr b)) =

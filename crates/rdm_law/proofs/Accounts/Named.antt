@@ -9,7 +9,7 @@ use Rattle.rdm_num.specs.declared.limits.EpLimits.{EpLimits}
 use Rattle.rdm_num.specs.declared.head.Head.{Head}
 use Rattle.rdm_num.specs.declared.head.Shape.TheVariants as S
 use Rattle.rdm_pkt.specs.declared.Packet.{Packet}
-use Rattle.rdm_pkt.specs.declared.Packet.TheVariants.{Rtm, Cts, CtsData, Eor, Handshake}
+use Rattle.rdm_pkt.specs.declared.Packet.TheVariants.{Rtm, Cts, CtsData, Eor, Handshake, Receipt}
 use Rattle.rdm_pkt.specs.declared.Kind.{Kind}
 use Rattle.rdm_pkt.specs.declared.Kind.TheVariants.{Eager, Medium, LongCts, LongRead, Runt}
 use Rattle.rdm_pkt.specs.Openings.{Message, shape_by, message_head}
@@ -66,11 +66,12 @@ pair_known job history life' p played m =
 
 -- what is pushed of a send opens its message, or is granted
 abbrev pub IsOfSend : Packet → Type 0
-IsOfSend (Rtm number tag opt form) = Unit {0}
+IsOfSend (Rtm number tag confirm opt form) = Unit {0}
 IsOfSend (CtsData recv offset connid bytes) = Unit {0}
 IsOfSend (Cts send recv size connid) = ⊥
 IsOfSend (Eor send recv connid) = ⊥
-IsOfSend (Handshake words connid) = ⊥
+IsOfSend (Handshake words connid raw) = ⊥
+IsOfSend (Receipt number connid) = ⊥
 
 -- what is pushed of a send opens its message or is granted
 pub of_send : (own : Own) (s : Sent) (p : Packet) (k : ℕ) (log : List Deed) → WasDueAt own (Sends s p) k log → IsOfSend p

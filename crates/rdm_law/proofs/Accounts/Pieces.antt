@@ -68,9 +68,9 @@ cond_none true o x h = (refl, h)
 cond_none false o x h = cc
 
 -- the bytes of a packet that opens a message
-rtm_piece : (number : MsgNo) (tag : Option ℕ) (opt : Opt) (form : Form) → packet_piece (Rtm number tag opt form) ≡ piece_of form
+rtm_piece : (number : MsgNo) (tag : Option ℕ) (confirm : Bool) (opt : Opt) (form : Form) → packet_piece (Rtm number tag confirm opt form) ≡ piece_of form
 unfolding packet_piece
-rtm_piece number tag opt form = refl
+rtm_piece number tag confirm opt form = refl
 
 -- the bytes of a packet of granted bytes
 data_piece : (recv : OpId) (offset : ℕ) (connid : Connid) (bytes : List ℕ) → packet_piece (CtsData recv offset connid bytes) ≡ Some (record { offset = offset; bytes = bytes })
@@ -89,11 +89,11 @@ found_number job history life' from recv n p m r h =
 pub item_piece : (job : Job) (history : List Entry) (life' from : Life) (n : ℕ) (x : Piece) (item : Item) (d : Datagram) → Played job history
     → (t : TakenDue job history life' from item d) → piece_by (pairs_of job history life') from n item ≡ Some x → PieceOf job history life' from n x t.place
 unfolding piece_by
-item_piece job history life' from n x (Spelled (Rtm number tag opt form)) d played t h =
-    let o = opened job history life' from number tag opt form d t in
+item_piece job history life' from n x (Spelled (Rtm number tag confirm opt form)) d played t h =
+    let o = opened job history life' from number tag confirm opt form d t in
     let c = cond_none (nat_eq number.0 n) (piece_of form) x h in
     let known = known_at job history life' from number.0 n (eqb-true number.0 n c.0) o.known in
-    sent_piece job history life' from n known (Rtm number tag opt form) x t.place o.was_due (rtm_piece number tag opt form ∙ c.1)
+    sent_piece job history life' from n known (Rtm number tag confirm opt form) x t.place o.was_due (rtm_piece number tag confirm opt form ∙ c.1)
 item_piece job history life' from n x (Spelled (CtsData recv offset connid bytes)) d played t h =
     let w = data_went job history life' from recv offset connid bytes d t in
     let g = data_known job history life' from recv offset connid bytes t.place played w in

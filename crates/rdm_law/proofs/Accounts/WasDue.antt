@@ -1,5 +1,5 @@
 -- What the due items of a life were: packets of its sends, each pushed once.
-use Rattle.std.proofs.Common.{◌≡◌, ℕ, true, List, [], ◌∷◌, length, Option, Some, ◌⊎◌, inl, inr, sym, ◌∙◌}
+use Rattle.std.proofs.Common.{Bool, ◌≡◌, ℕ, true, List, [], ◌∷◌, length, Option, Some, ◌⊎◌, inl, inr, sym, ◌∙◌}
 use Rattle.rdm_lists.specs.Lists.{Member}
 use Rattle.rdm_num.specs.Pieces.{Piece, overlaps}
 use Rattle.rdm_num.specs.declared.numbers.MsgNo.{MsgNo}
@@ -56,10 +56,10 @@ pub due_is : (own : Own) (s : Sent) (p : Packet) (k : ℕ) (log : List Deed) →
 due_is own s p k log h = push_is own (heard_by own.limits.first log) s p k log (was_due_pushed own (Sends s p) k log h)
 
 -- a packet that opens a message tells the head of its send's message
-pub due_rtm : (own : Own) (s : Sent) (number : MsgNo) (tag : Option ℕ) (opt : Opt) (form : Form) (k : ℕ) (log : List Deed) → WasDueAt own (Sends s (Rtm number tag opt form)) k log
-    → (number ≡ s.message.no) × (tag ≡ s.message.tag) × (opt ≡ s.message.opt) × (head_of tag opt form ≡ message_head own.limits s.message s.kind)
-due_rtm own s number tag opt form k log h =
-    rtm_push own (heard_by own.limits.first log) s number tag opt form k log (was_due_pushed own (Sends s (Rtm number tag opt form)) k log h)
+pub due_rtm : (own : Own) (s : Sent) (number : MsgNo) (tag : Option ℕ) (confirm : Bool) (opt : Opt) (form : Form) (k : ℕ) (log : List Deed) → WasDueAt own (Sends s (Rtm number tag confirm opt form)) k log
+    → (number ≡ s.message.no) × (tag ≡ s.message.tag) × (opt ≡ s.message.opt) × (head_of tag confirm opt form ≡ message_head own.limits s.message s.kind)
+due_rtm own s number tag confirm opt form k log h =
+    rtm_push own (heard_by own.limits.first log) s number tag confirm opt form k log (was_due_pushed own (Sends s (Rtm number tag confirm opt form)) k log h)
 
 -- granted bytes name the receive of the first grant
 pub due_data : (own : Own) (s : Sent) (recv : OpId) (offset : ℕ) (connid : Connid) (bytes : List ℕ) (k : ℕ) (log : List Deed)
@@ -75,8 +75,8 @@ due_once own s t p q x y k l log e h j c f o =
     push_once own (heard_by own.limits.first log) s t p q x y k l log e (was_due_pushed own (Sends s p) k log h) (was_due_pushed own (Sends t q) l log j) c f o
 
 -- the one packet that opens a message is one due item
-pub due_opening : (own : Own) (s : Sent) (number number' : MsgNo) (tag tag' : Option ℕ) (opt opt' : Opt) (form form' : Form) (k l : ℕ) (log : List Deed)
-    → IsSingle s.kind → WasDueAt own (Sends s (Rtm number tag opt form)) k log → WasDueAt own (Sends s (Rtm number' tag' opt' form')) l log → k ≡ l
-due_opening own s number number' tag tag' opt opt' form form' k l log i h j =
-    opening_once own (heard_by own.limits.first log) s number number' tag tag' opt opt' form form' k l log i
-    (was_due_pushed own (Sends s (Rtm number tag opt form)) k log h) (was_due_pushed own (Sends s (Rtm number' tag' opt' form')) l log j)
+pub due_opening : (own : Own) (s : Sent) (number number' : MsgNo) (tag tag' : Option ℕ) (confirm confirm' : Bool) (opt opt' : Opt) (form form' : Form) (k l : ℕ) (log : List Deed)
+    → IsSingle s.kind → WasDueAt own (Sends s (Rtm number tag confirm opt form)) k log → WasDueAt own (Sends s (Rtm number' tag' confirm' opt' form')) l log → k ≡ l
+due_opening own s number number' tag tag' confirm confirm' opt opt' form form' k l log i h j =
+    opening_once own (heard_by own.limits.first log) s number number' tag tag' confirm confirm' opt opt' form form' k l log i
+    (was_due_pushed own (Sends s (Rtm number tag confirm opt form)) k log h) (was_due_pushed own (Sends s (Rtm number' tag' confirm' opt' form')) l log j)

@@ -1,6 +1,7 @@
 -- A lawful history of a fair job has no more entries than the job's bound.
 use Rattle.std.proofs.Common.{◌≡◌, ℕ, ◌+◌, ◌*◌, ◌≤◌, List, [], ◌∷◌, length, refl, arith}
 use Rattle.rdm_num.specs.declared.numbers.Life.{Life}
+use Rattle.rdm_model.specs.Grants.{data_room}
 use Rattle.rdm_model.specs.declared.job.Job.{Job}
 use Rattle.rdm_model.specs.declared.entry.Entry.{Entry}
 use Rattle.rdm_model.specs.Deeds.{Deed, deed_count}
@@ -44,7 +45,7 @@ count_total f (d ∷ before) = let r = count_total f before in omega arith
 life_pushes : (job : Job) (history : List Entry) (l : Life) → Played job history → length (seen_lives (life_deeds job history l)) ≤ length (lives_of job history)
     → total is_push' (life_deeds job history l)
     ≤ (length (lives_of job history) + total (pair_load job history l) (pairs_of job history l)) + (total sent_bytes (sends_of job history l) + total send_load (sends_of job history l))
-unfolding own_of
+unfolding own_of data_room
 life_pushes job history l played seen =
     let own = own_of job l in
     let log = life_deeds job history l in

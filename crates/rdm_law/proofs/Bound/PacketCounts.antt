@@ -6,10 +6,10 @@ use Rattle.rdm_lists.specs.Lists.{Member}
 use Rattle.rdm_num.specs.Pieces.{Piece, piece_bytes, cut, pieces}
 use Rattle.rdm_num.specs.declared.limits.EpLimits.{EpLimits}
 use Rattle.rdm_pkt.specs.declared.Packet.{Packet}
-use Rattle.rdm_pkt.specs.declared.Packet.TheVariants.{Rtm, Cts, CtsData, Eor, Handshake}
+use Rattle.rdm_pkt.specs.declared.Packet.TheVariants.{Rtm, Cts, CtsData, Eor, Handshake, Receipt}
 use Rattle.rdm_pkt.specs.declared.Kind.{Kind}
 use Rattle.rdm_pkt.specs.declared.Kind.TheVariants.{Eager, Medium, LongCts, LongRead, Runt}
-use Rattle.rdm_pkt.specs.Openings.{Message, medium_form, runt_form, no_bytes, rtm, room_in, openings}
+use Rattle.rdm_pkt.specs.Openings.{Message, medium_form, runt_form, no_bytes, rtm, read_rtm, room_in, openings}
 use Rattle.rdm_model.specs.Deeds.{Deed}
 use Rattle.rdm_model.specs.Owns.{Own}
 use Rattle.rdm_model.specs.Grants.{data_room}
@@ -55,8 +55,8 @@ openings_count limits m Medium =
 openings_count limits m LongCts = omega arith
 openings_count limits m LongRead = omega arith
 openings_count limits m (Runt runt) =
-    let size : ℕ = room_in limits (rtm m (runt_form m runt no_bytes)) in
-    let l = length-map (pieces size (take runt m.bytes)) (λ (x : Piece). rtm m (runt_form m runt x)) in
+    let size : ℕ = room_in limits (read_rtm m (runt_form m runt no_bytes)) in
+    let l = length-map (pieces size (take runt m.bytes)) (λ (x : Piece). read_rtm m (runt_form m runt x)) in
     let c = pieces_count size (take runt m.bytes) in
     let t = length-take runt m.bytes in
     omega arith
@@ -75,10 +75,11 @@ HasByte _ = ⊥
 one_count : (p : Packet) (ps : List Packet) → HasByte p → length ps ≤ piece_bytes (pieces_in ps) → length (p ∷ ps) ≤ piece_bytes (pieces_in (p ∷ ps))
 unfolding pieces_in piece_bytes packet_piece
 one_count (CtsData recv offset connid bytes) ps h le = omega arith
-one_count (Rtm number tag opt form) ps h le = elim h [ ]
+one_count (Rtm number tag confirm opt form) ps h le = elim h [ ]
 one_count (Cts send recv size connid) ps h le = elim h [ ]
 one_count (Eor send recv connid) ps h le = elim h [ ]
-one_count (Handshake words connid) ps h le = elim h [ ]
+one_count (Handshake words connid raw) ps h le = elim h [ ]
+one_count (Receipt number connid) ps h le = elim h [ ]
 
 -- such packets are no more than their bytes
 bytes_count : (ps : List Packet) → ((p : Packet) → Member p ps → HasByte p) → length ps ≤ piece_bytes (pieces_in ps)
@@ -106,10 +107,11 @@ data_byte own log s (CtsData recv offset connid bytes) local room m h d =
     let is = push.is in
     let same : bytes ≡ push.bytes = cc in
     (let l = ap length same in omega arith)
-data_byte own log s (Rtm number tag opt form) local room m h d = elim d [ ]
+data_byte own log s (Rtm number tag confirm opt form) local room m h d = elim d [ ]
 data_byte own log s (Cts send recv size connid) local room m h d = elim d [ ]
 data_byte own log s (Eor send recv connid) local room m h d = elim d [ ]
-data_byte own log s (Handshake words connid) local room m h d = elim d [ ]
+data_byte own log s (Handshake words connid raw) local room m h d = elim d [ ]
+data_byte own log s (Receipt number connid) local room m h d = elim d [ ]
 
 -- a send has no more packets than its message has bytes, and one
 pub packets_counted : (own : Own) (log : List Deed) (s : Sent) → LifeLocal own log → 0 < data_room own.limits → Member s (sends own (heard_by own.limits.first log) log)

@@ -1,5 +1,5 @@
 -- The lives from which a life took something, each once.
-use Rattle.std.proofs.Common.{◌≡◌, ℕ, zero, suc, true, false, cond, List, [], ◌∷◌, ◌++◌, length, Some, refl, arith, inl, inr, ap, subst}
+use Rattle.std.proofs.Common.{None, ◌≡◌, ℕ, zero, suc, true, false, cond, List, [], ◌∷◌, ◌++◌, length, Some, refl, arith, inl, inr, ap, subst}
 use Rattle.std.specs.Prelude.{slice_get}
 use Rattle.std.specs.List.{list_any}
 use Rattle.rdm_lists.specs.Lists.{Member}
@@ -26,7 +26,7 @@ seen_lives (d ∷ before) = seen_lives before ++ seen_new before d
 pub greeted : (own : Own) (before : List Deed) (d : Deed) → length (handshake_by own before d) ≡ length (seen_new before d)
 unfolding handshake_by seen_new
 greeted own before (Took from item) =
-    let one : Reply = reply from (Spelled (Handshake (own.features ∷ []) own.life.connid)) in
+    let one : Reply = reply from (Spelled (Handshake (own.features ∷ []) own.life.connid None)) in
     elim (list_any (is_from from) before) as (λ b. length (cond b [] (one ∷ [])) ≡ length (cond b [] (from ∷ []))) [ true ↦ refl | false ↦ refl ]
 greeted own before (Did instr) = refl
 greeted own before PushedNote = refl

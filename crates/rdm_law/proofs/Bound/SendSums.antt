@@ -9,15 +9,11 @@ use Rattle.rdm_model.specs.Owns.{Own, Messages}
 use Rattle.rdm_model.specs.Currents.{current}
 use Rattle.rdm_model.specs.Regions.{regions}
 use Rattle.rdm_model.specs.Matches.{Receive, receives, received_by, with_received}
-use Rattle.rdm_model.specs.Sends.{Sent, sends, sent_by, sent_to_current, range_of, new_sent, with_sent}
+use Rattle.rdm_model.specs.Sends.{Sent, sends, sent_by, sent_to_current, bytes_of, new_sent, with_sent}
+use Rattle.rdm_law.proofs.Fits.Spans.{spans_few, spans_total}
 use Rattle.rdm_law.proofs.Bound.LifeCounts.{deed_weight}
 use Rattle.rdm_law.proofs.Bound.NoteCounts.{one}
 use Rattle.rdm_lists.proofs.Sums.{total, total-append}
-
--- a range has no more bytes than were asked for
-range_few : (rs : List (List ℕ)) (region at len : ℕ) → length (range_of rs region at len) ≤ len
-unfolding range_of
-range_few rs region at len = let a = length-take len (drop at (get_or rs region [])) in omega arith
 
 -- how many bytes a send has
 abbrev pub sent_bytes : Sent → ℕ
@@ -29,9 +25,9 @@ unfolding sent_to_current
 one_sent own before sents req None bytes = omega arith
 one_sent own before sents req (Some to) bytes = omega arith
 
--- of no more bytes than its range
-sent_few : (own : Own) (before : List Deed) (sents : List Sent) (req : SendReq) (o : Option Life) (bytes : List ℕ) → length bytes ≤ req.len
-    → total sent_bytes (sent_to_current own before sents req o bytes) ≤ req.len
+-- of no more bytes than its ranges
+sent_few : (own : Own) (before : List Deed) (sents : List Sent) (req : SendReq) (o : Option Life) (bytes : List ℕ) → length bytes ≤ sent_length (Send req)
+    → total sent_bytes (sent_to_current own before sents req o bytes) ≤ sent_length (Send req)
 unfolding total sent_to_current new_sent
 sent_few own before sents req None bytes le = omega arith
 sent_few own before sents req (Some to) bytes le = omega arith
@@ -41,7 +37,7 @@ newest_few : (own : Own) (ms : Messages) (before : List Deed) (sents : List Sent
     → length (sent_by own ms before sents d) + length (received_by rs before d) ≤ deed_weight one d
 unfolding deed_weight sent_by received_by
 newest_few own ms before sents rs (Did (Send req)) =
-    let a = one_sent own before sents req (current before req.to.0) (range_of (regions own.limits.first ms before) req.region.0 req.at req.len) in omega arith
+    let a = one_sent own before sents req (current before req.to.0) (bytes_of (regions own.limits.first ms before) req.parts) in omega arith
 newest_few own ms before sents rs (Did (Recv req)) = omega arith
 newest_few own ms before sents rs _ = omega arith
 
@@ -50,7 +46,7 @@ newest_bytes : (own : Own) (ms : Messages) (before : List Deed) (sents : List Se
 unfolding deed_weight sent_length total sent_by
 newest_bytes own ms before sents (Did (Send req)) =
     let rs = regions own.limits.first ms before in
-    sent_few own before sents req (current before req.to.0) (range_of rs req.region.0 req.at req.len) (range_few rs req.region.0 req.at req.len)
+    sent_few own before sents req (current before req.to.0) (bytes_of rs req.parts) (let a = spans_few rs req.parts in let b = spans_total req.parts in omega arith)
 newest_bytes own ms before sents _ = omega arith
 
 -- sends and receives are no more than instructions

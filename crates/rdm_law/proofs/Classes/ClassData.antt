@@ -118,7 +118,7 @@ fair_room job h = let low = leb-true 256 job.limits.mtu (and_parts _ _ (and_part
 
 -- the sender's headers leave room
 own_room : (job : Job) (l : Life) → data_room (own_of job l).limits ≡ data_room job.limits
-unfolding own_of
+unfolding own_of data_room
 own_room job l = refl
 
 -- granted bytes that arrive are for a live receive

@@ -1,5 +1,5 @@
 -- What arrives has bytes that are missing, or opens a message for the first time: no Overlap.
-use Rattle.std.proofs.Common.{◌≡◌, ℕ, ◌≤◌, true, false, ◌&&◌, List, length, Option, Some, None, refl, arith, sym, ◌∙◌, ap, subst}
+use Rattle.std.proofs.Common.{Bool, ◌≡◌, ℕ, ◌≤◌, true, false, ◌&&◌, List, length, Option, Some, None, refl, arith, sym, ◌∙◌, ap, subst}
 use Rattle.std.specs.Prelude.{is_some, nat_lt}
 use Rattle.std.proofs.lemmas.Bool.{and_left, and_right, or_from, le-ltb, eq-eqb, not_from_true}
 use Rattle.rdm_lists.specs.Lists.{Member}
@@ -125,59 +125,59 @@ whole_single (F.Medium size offset bytes) limits m (Runt r) w e = elim w [ ]
 whole_single (F.Runt size send iov runt offset bytes) limits m (Runt r) w e = elim w [ ]
 
 -- a packet that tells the head tells the shape
-head_shape_of : (tag : Option ℕ) (opt : Opt) (form : Form) (limits : EpLimits) (m : Message) (kind : Kind) → head_of tag opt form ≡ message_head limits m kind → shape_of form ≡ shape_by limits m kind
+head_shape_of : (tag : Option ℕ) (confirm : Bool) (opt : Opt) (form : Form) (limits : EpLimits) (m : Message) (kind : Kind) → head_of tag confirm opt form ≡ message_head limits m kind → shape_of form ≡ shape_by limits m kind
 unfolding head_of message_head
-head_shape_of tag opt form limits m kind e = ap (λ (h : Head). h.shape) e
+head_shape_of tag confirm opt form limits m kind e = ap (λ (h : Head). h.shape) e
 
 -- the one packet that opens a message was not taken before
-pub opens_first : (job : Job) (history : List Entry) (to from : Life) (number : MsgNo) (tag : Option ℕ) (opt : Opt) (form : Form) (d : Datagram)
-    → Arrives job history to from (Spelled (Rtm number tag opt form)) d → IsWhole form → (h : Head) → heard_head (life_deeds job history to) from number.0 ≡ Some h → ⊥
-opens_first job history to from number tag opt form d a w h e =
-    let o = opened job history to from number tag opt form d a.taken in
+pub opens_first : (job : Job) (history : List Entry) (to from : Life) (number : MsgNo) (tag : Option ℕ) (confirm : Bool) (opt : Opt) (form : Form) (d : Datagram)
+    → Arrives job history to from (Spelled (Rtm number tag confirm opt form)) d → IsWhole form → (h : Head) → heard_head (life_deeds job history to) from number.0 ≡ Some h → ⊥
+opens_first job history to from number tag confirm opt form d a w h e =
+    let o = opened job history to from number tag confirm opt form d a.taken in
     let t = heard_taken (life_deeds job history to) from number.0 h e in
-    let was = taken_pushed job history to from (Spelled (Rtm t.number t.tag t.opt t.form)) a.played t.took in
-    let p = opened job history to from t.number t.tag t.opt t.form was.datagram was.taken in
+    let was = taken_pushed job history to from (Spelled (Rtm t.number t.tag t.confirm t.opt t.form)) a.played t.took in
+    let p = opened job history to from t.number t.tag t.confirm t.opt t.form was.datagram was.taken in
     let known : Known job history to from number.0 = record { sent = p.known.sent; member = p.known.member; to_is = p.known.to_is; number_is = p.known.number_is ∙ t.number_is } in
     let same : known.sent ≡ o.known.sent = known_one job history to from number.0 known o.known in
-    let was_due : WasDueAt (own_of job from) (Sends o.known.sent (Rtm t.number t.tag t.opt t.form)) was.taken.place (life_deeds job history from) =
-    subst (λ (s : Sent). WasDueAt (own_of job from) (Sends s (Rtm t.number t.tag t.opt t.form)) was.taken.place (life_deeds job history from)) same p.was_due in
-    let single = whole_single form job.limits o.known.sent.message o.known.sent.kind w (head_shape_of tag opt form job.limits o.known.sent.message o.known.sent.kind o.head_is) in
-    taken_before job history to from (Spelled (Rtm number tag opt form)) (Spelled (Rtm t.number t.tag t.opt t.form)) d a was
-    (due_opening (own_of job from) o.known.sent t.number number t.tag tag t.opt opt t.form form was.taken.place a.taken.place (life_deeds job history from) single was_due o.was_due)
+    let was_due : WasDueAt (own_of job from) (Sends o.known.sent (Rtm t.number t.tag t.confirm t.opt t.form)) was.taken.place (life_deeds job history from) =
+    subst (λ (s : Sent). WasDueAt (own_of job from) (Sends s (Rtm t.number t.tag t.confirm t.opt t.form)) was.taken.place (life_deeds job history from)) same p.was_due in
+    let single = whole_single form job.limits o.known.sent.message o.known.sent.kind w (head_shape_of tag confirm opt form job.limits o.known.sent.message o.known.sent.kind o.head_is) in
+    taken_before job history to from (Spelled (Rtm number tag confirm opt form)) (Spelled (Rtm t.number t.tag t.confirm t.opt t.form)) d a was
+    (due_opening (own_of job from) o.known.sent t.number number t.tag tag t.confirm confirm t.opt opt t.form form was.taken.place a.taken.place (life_deeds job history from) single was_due o.was_due)
 
 -- a packet that opens a message brings its bytes
-rtm_brings : (ps : List Pair) (from : Life) (number : MsgNo) (tag : Option ℕ) (opt : Opt) (form : Form) → piece_by ps from number.0 (Spelled (Rtm number tag opt form)) ≡ piece_of form
+rtm_brings : (ps : List Pair) (from : Life) (number : MsgNo) (tag : Option ℕ) (confirm : Bool) (opt : Opt) (form : Form) → piece_by ps from number.0 (Spelled (Rtm number tag confirm opt form)) ≡ piece_of form
 unfolding piece_by
-rtm_brings ps from number tag opt form = rw (eq-eqb number.0 number.0 refl) refl
+rtm_brings ps from number tag confirm opt form = rw (eq-eqb number.0 number.0 refl) refl
 
 -- a packet that opens a heard message repeats nothing
-not_repeated : (job : Job) (history : List Entry) (to from : Life) (number : MsgNo) (tag : Option ℕ) (opt : Opt) (form : Form) (d : Datagram) (ports : ℕ) (port_log : List Deed)
-    → Arrives job history to from (Spelled (Rtm number tag opt form)) d → (h : Head) → heard_head (life_deeds job history to) from number.0 ≡ Some h
+not_repeated : (job : Job) (history : List Entry) (to from : Life) (number : MsgNo) (tag : Option ℕ) (confirm : Bool) (opt : Opt) (form : Form) (d : Datagram) (ports : ℕ) (port_log : List Deed)
+    → Arrives job history to from (Spelled (Rtm number tag confirm opt form)) d → (h : Head) → heard_head (life_deeds job history to) from number.0 ≡ Some h
     → repeats (arriving_scene job history to ports port_log) from number.0 form ≡ false
 unfolding repeats piece_of
-not_repeated job history to from number tag opt (F.Medium size offset bytes) d ports port_log a h e =
+not_repeated job history to from number tag confirm opt (F.Medium size offset bytes) d ports port_log a h e =
     let form : Form = F.Medium size offset bytes in
     let x : Piece = record { offset = offset; bytes = bytes } in
-    not_taken job history to from number.0 x (Spelled (Rtm number tag opt form)) d ports port_log a
-    (item_piece job history to from number.0 x (Spelled (Rtm number tag opt form)) d a.played a.taken (rtm_brings (pairs_of job history to) from number tag opt form))
+    not_taken job history to from number.0 x (Spelled (Rtm number tag confirm opt form)) d ports port_log a
+    (item_piece job history to from number.0 x (Spelled (Rtm number tag confirm opt form)) d a.played a.taken (rtm_brings (pairs_of job history to) from number tag confirm opt form))
     (heard_known job history to from number.0 h a.played e)
-not_repeated job history to from number tag opt (F.Runt size send iov runt offset bytes) d ports port_log a h e =
+not_repeated job history to from number tag confirm opt (F.Runt size send iov runt offset bytes) d ports port_log a h e =
     let form : Form = F.Runt size send iov runt offset bytes in
     let x : Piece = record { offset = offset; bytes = bytes } in
-    not_taken job history to from number.0 x (Spelled (Rtm number tag opt form)) d ports port_log a
-    (item_piece job history to from number.0 x (Spelled (Rtm number tag opt form)) d a.played a.taken (rtm_brings (pairs_of job history to) from number tag opt form))
+    not_taken job history to from number.0 x (Spelled (Rtm number tag confirm opt form)) d ports port_log a
+    (item_piece job history to from number.0 x (Spelled (Rtm number tag confirm opt form)) d a.played a.taken (rtm_brings (pairs_of job history to) from number tag confirm opt form))
     (heard_known job history to from number.0 h a.played e)
-not_repeated job history to from number tag opt (F.Eager bytes) d ports port_log a h e = absurd (opens_first job history to from number tag opt (F.Eager bytes) d a tt h e)
-not_repeated job history to from number tag opt (F.LongCts size send credits bytes) d ports port_log a h e = absurd (opens_first job history to from number tag opt (F.LongCts size send credits bytes) d a tt h e)
-not_repeated job history to from number tag opt (F.LongRead size send iov) d ports port_log a h e = absurd (opens_first job history to from number tag opt (F.LongRead size send iov) d a tt h e)
+not_repeated job history to from number tag confirm opt (F.Eager bytes) d ports port_log a h e = absurd (opens_first job history to from number tag confirm opt (F.Eager bytes) d a tt h e)
+not_repeated job history to from number tag confirm opt (F.LongCts size send credits bytes) d ports port_log a h e = absurd (opens_first job history to from number tag confirm opt (F.LongCts size send credits bytes) d a tt h e)
+not_repeated job history to from number tag confirm opt (F.LongRead size send iov) d ports port_log a h e = absurd (opens_first job history to from number tag confirm opt (F.LongRead size send iov) d a tt h e)
 
 -- a packet that opens a message repeats nothing, heard or not
-heard_not_repeated : (job : Job) (history : List Entry) (to from : Life) (number : MsgNo) (tag : Option ℕ) (opt : Opt) (form : Form) (d : Datagram) (ports : ℕ) (port_log : List Deed)
-    → Arrives job history to from (Spelled (Rtm number tag opt form)) d → (o : Option Head) → heard_head (life_deeds job history to) from number.0 ≡ o
+heard_not_repeated : (job : Job) (history : List Entry) (to from : Life) (number : MsgNo) (tag : Option ℕ) (confirm : Bool) (opt : Opt) (form : Form) (d : Datagram) (ports : ℕ) (port_log : List Deed)
+    → Arrives job history to from (Spelled (Rtm number tag confirm opt form)) d → (o : Option Head) → heard_head (life_deeds job history to) from number.0 ≡ o
     → (is_heard (life_deeds job history to) from number.0 && repeats (arriving_scene job history to ports port_log) from number.0 form) ≡ false
 unfolding is_heard
-heard_not_repeated job history to from number tag opt form d ports port_log a None e = and_left _ _ (ap (λ (o : Option Head). is_some o) e)
-heard_not_repeated job history to from number tag opt form d ports port_log a (Some h) e = and_right _ _ (not_repeated job history to from number tag opt form d ports port_log a h e)
+heard_not_repeated job history to from number tag confirm opt form d ports port_log a None e = and_left _ _ (ap (λ (o : Option Head). is_some o) e)
+heard_not_repeated job history to from number tag confirm opt form d ports port_log a (Some h) e = and_right _ _ (not_repeated job history to from number tag confirm opt form d ports port_log a h e)
 
 -- the number of a message that was sent is not below the first
 number_from : (job : Job) (history : List Entry) (to from : Life) (n : ℕ) → Known job history to from n → nat_lt n (own_of job to).limits.first ≡ false
@@ -203,9 +203,9 @@ given_brings ps from g n h = rw h refl
 pub overlap_free : (job : Job) (history : List Entry) (to from : Life) (item : Item) (d : Datagram) → Arrives job history to from item d → (ports : ℕ) (port_log : List Deed)
     → is_overlap (arriving_scene job history to ports port_log) from item ≡ false
 unfolding is_overlap
-overlap_free job history to from (Spelled (Rtm number tag opt form)) d a ports port_log =
-    or_from _ _ (number_from job history to from number.0 (opened job history to from number tag opt form d a.taken).known)
-    (heard_not_repeated job history to from number tag opt form d ports port_log a (heard_head (life_deeds job history to) from number.0) refl)
+overlap_free job history to from (Spelled (Rtm number tag confirm opt form)) d a ports port_log =
+    or_from _ _ (number_from job history to from number.0 (opened job history to from number tag confirm opt form d a.taken).known)
+    (heard_not_repeated job history to from number tag confirm opt form d ports port_log a (heard_head (life_deeds job history to) from number.0) refl)
 overlap_free job history to from (Spelled (CtsData recv offset connid bytes)) d a ports port_log =
     pair_not_taken job history to from recv.0 (record { offset = offset; bytes = bytes }) (Spelled (CtsData recv offset connid bytes)) d ports port_log a
     (data_brings (pairs_of job history to) from recv offset connid bytes) (live_pair (arriving_scene job history to ports port_log) from recv.0) refl

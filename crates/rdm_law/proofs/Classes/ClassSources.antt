@@ -3,6 +3,7 @@ use Rattle.rdm_model.proofs.Sending.{grant_taken}
 use Rattle.std.specs.Bool.{then_some}
 use Rattle.rdm_law.proofs.Replies.Seen.{owed_seen}
 use Rattle.rdm_law.proofs.Lives.Held.{sent_current, took_current}
+use Rattle.rdm_pkt.specs.Openings.{says_confirm}
 use Rattle.rdm_pkt.specs.declared.Form.{Form}
 use Rattle.rdm_model.specs.Currents.{current}
 use Rattle.std.proofs.Common.{◌≡◌, ℕ, Bool, true, false, cond, ◌&&◌, List, [], ◌∷◌, Option, Some, None, refl, inl, inr, sym, ◌∙◌, ap, is_some, subst, is_none, ◌⊎◌, not}
@@ -10,6 +11,7 @@ use Rattle.std.specs.Prelude.{slice_get, ◌==◌}
 use Rattle.std.proofs.lemmas.Bool.{and_from, eq-eqb, not_from_true, and_right, and_left}
 use Rattle.rdm_lists.specs.Lists.{Member}
 use Rattle.rdm_num.specs.Lives.{same_life, op_id}
+use Rattle.rdm_num.specs.declared.numbers.PortNo.{PortNo}
 use Rattle.rdm_num.specs.declared.numbers.Life.{Life}
 use Rattle.rdm_num.specs.declared.numbers.Connid.{Connid}
 use Rattle.rdm_hdr.specs.declared.Opt.{Opt}
@@ -20,7 +22,7 @@ use Rattle.rdm_model.specs.declared.job.Job.{Job}
 use Rattle.rdm_model.specs.declared.entry.Entry.{Entry}
 use Rattle.rdm_model.specs.Deeds.{Deed, Took, Item, Spelled}
 use Rattle.rdm_model.specs.Owns.{Own, Messages, Heads, own_of}
-use Rattle.rdm_model.specs.Sources.{is_raw_of, is_connid_of, names_source, is_malformed, has_raw}
+use Rattle.rdm_model.specs.Sources.{is_port_of, is_raw_of, is_connid_of, names_source, is_malformed, has_raw}
 use Rattle.rdm_model.specs.Sends.{Sent, known_by, known_word, wants_raw, opt_for, sends}
 use Rattle.rdm_model.specs.Grants.{grants}
 use Rattle.rdm_model.specs.Replies.{Reply}
@@ -62,8 +64,8 @@ sent_names own s p k log h =
 
 -- a reply that a deed makes owed names its life
 new_names : (own : Own) (heads : Heads) (sents : List Sent) (d : Deed) (before : List Deed) (r : Reply) → NewReply own heads sents d before r → is_malformed own.life r.item ≡ false
-unfolding is_malformed names_source
-new_names own heads sents d before r (inl n) = rw n.is (not_from_true (own.life.connid.0 == own.life.connid.0) (eq-eqb own.life.connid.0 own.life.connid.0 refl))
+unfolding is_malformed names_source is_port_of
+new_names own heads sents d before r (inl n) = rw n.is (not_from_true _ (and_from (own.life.connid.0 == own.life.connid.0) true (eq-eqb own.life.connid.0 own.life.connid.0 refl) refl))
 new_names own heads sents d before r (inr (inl n)) = rw n.is refl
 new_names own heads sents d before r (inr (inr (inl n))) = rw n.is (not_from_true (own.life.connid.0 == own.life.connid.0) (eq-eqb own.life.connid.0 own.life.connid.0 refl))
 new_names own heads sents d before r (inr (inr (inr (inl n)))) = rw n.is (not_from_true (own.life.connid.0 == own.life.connid.0) (eq-eqb own.life.connid.0 own.life.connid.0 refl))
@@ -90,29 +92,29 @@ well_formed job history to from item d t =
     ]
 
 -- a handshake tells the features
-known_now : (peer : Life) (d : Deed) (word : ℕ) → known_by peer d ≡ Some word → (words : List ℕ) × (connid : Connid) × (d ≡ Took peer (Spelled (Handshake words connid)))
+known_now : (peer : Life) (d : Deed) (word : ℕ) → known_by peer d ≡ Some word → (words : List ℕ) × (connid : Connid) × (raw : Option PortNo) × (d ≡ Took peer (Spelled (Handshake words connid raw)))
 unfolding known_by
-known_now peer (Took from (Spelled (Handshake words connid))) word h =
+known_now peer (Took from (Spelled (Handshake words connid raw))) word h =
     (elim (same_life from peer) as (λ b. same_life from peer ≡ b → cond b (slice_get words 0) None ≡ Some word
-    → (ws : List ℕ) × (c : Connid) × (Took from (Spelled (Handshake words connid)) ≡ Took peer (Spelled (Handshake ws c)))) [
-      | true ↦ λ t k. (words, connid, ap (λ (x : Life). Took x (Spelled (Handshake words connid))) (same_life-true from peer t))
+    → (ws : List ℕ) × (c : Connid) × (r : Option PortNo) × (Took from (Spelled (Handshake words connid raw)) ≡ Took peer (Spelled (Handshake ws c r)))) [
+      | true ↦ λ t k. (words, connid, raw, ap (λ (x : Life). Took x (Spelled (Handshake words connid raw))) (same_life-true from peer t))
       | false ↦ λ t k. cc
     ]) refl h
 known_now peer _ word h = cc
 
 -- a handshake was taken from a life of which something is known
-pub known_shake : (log : List Deed) (peer : Life) (word : ℕ) → known_word log peer ≡ Some word → (words : List ℕ) × (connid : Connid) × Member (Took peer (Spelled (Handshake words connid))) log
+pub known_shake : (log : List Deed) (peer : Life) (word : ℕ) → known_word log peer ≡ Some word → (words : List ℕ) × (connid : Connid) × (raw : Option PortNo) × Member (Took peer (Spelled (Handshake words connid raw))) log
 unfolding known_word
 known_shake [] peer word h = cc
 known_shake (d ∷ before) peer word h =
     elim (or_else_cases (known_word before peer) (known_by peer d) word h) [
-      | inl a ↦ (let r = known_shake before peer word a in (r.0, r.1, inr r.2))
-      | inr a ↦ (let r = known_now peer d word a.1 in (r.0, r.1, inl r.2))
+      | inl a ↦ (let r = known_shake before peer word a in (r.0, r.1, r.2, inr r.3))
+      | inr a ↦ (let r = known_now peer d word a.1 in (r.0, r.1, r.2, inl r.3))
     ]
 
 -- something was taken from a life of which something is known
 known_taken : (log : List Deed) (peer : Life) (word : ℕ) → known_word log peer ≡ Some word → (item : Item) × Member (Took peer item) log
-known_taken log peer word h = let r = known_shake log peer word h in (Spelled (Handshake r.0 r.1), r.2)
+known_taken log peer word h = let r = known_shake log peer word h in (Spelled (Handshake r.0 r.1 r.2), r.3)
 
 -- no raw address is left out for a life of which nothing is known
 raw_known : (own : Own) (before : List Deed) (s : Sent) (opt : Opt) (o : Option ℕ) → known_word before s.to ≡ o → opt ≡ opt_for own.life (wants_raw (known_word before s.to)) s.req.cq_data
@@ -123,7 +125,7 @@ raw_known own before s opt None k e =
 raw_known own before s opt (Some word) k e = inr (known_taken before s.to word k)
 
 -- a packet of a send has the raw address that its message has
-has_raw_at : (p : Packet) (s : Sent) (form : Form) → p ≡ Rtm s.message.no s.message.tag s.message.opt form → is_some s.message.opt.raw ≡ true → has_raw (Spelled p) ≡ true
+has_raw_at : (p : Packet) (s : Sent) (form : Form) → p ≡ Rtm s.message.no s.message.tag (says_confirm s.kind s.message.confirm) s.message.opt form → is_some s.message.opt.raw ≡ true → has_raw (Spelled p) ≡ true
 unfolding has_raw
 has_raw_at p s form e h = rw e h
 

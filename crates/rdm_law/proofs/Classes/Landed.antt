@@ -147,11 +147,11 @@ and_false true b h = inr (refl, h)
 and_false false b h = inl refl
 
 -- a packet that opens a message and is taken has new bytes
-rtm_new : (s : Scene) (from : Life) (n : ℕ) (tag : Option ℕ) (opt : Opt) (number : MsgNo) (form : Form) (x : Piece) → number.0 ≡ n
-    → is_overlap s from (Spelled (Rtm number tag opt form)) ≡ false → piece_of form ≡ Some x
+rtm_new : (s : Scene) (from : Life) (n : ℕ) (tag : Option ℕ) (confirm : Bool) (opt : Opt) (number : MsgNo) (form : Form) (x : Piece) → number.0 ≡ n
+    → is_overlap s from (Spelled (Rtm number tag confirm opt form)) ≡ false → piece_of form ≡ Some x
     → IsApart x (carried_pieces s.own.limits.first s.ms.head s.log from n)
 unfolding is_overlap is_heard
-rtm_new s from n tag opt number form x e h is q m =
+rtm_new s from n tag confirm opt number form x e h is q m =
     let o = (or_parts (nat_lt number.0 s.own.limits.first) (is_some (heard_head s.log from number.0) && repeats s from number.0 form) h).1 in
     elim (and_false (is_some (heard_head s.log from number.0)) (repeats s from number.0 form) o) [
       | inl a ↦ absurd (
@@ -183,7 +183,7 @@ given_missing s from n g op over paired =
 brought_new : (s : Scene) (from : Life) (n : ℕ) (item : Item) (x : Piece) → is_no_op s from item ≡ false → is_overlap s from item ≡ false
     → Brought (pairs s.own.limits.first s.ms.head s.log) from n item x → IsApart x (carried_pieces s.own.limits.first s.ms.head s.log from n)
 brought_new s from n item x op over (inl b) q m =
-    rtm_new s from n b.tag b.opt b.number b.form x b.number_is (subst (λ (i : Item). is_overlap s from i ≡ false) b.is over) b.piece_is q m
+    rtm_new s from n b.tag b.confirm b.opt b.number b.form x b.number_is (subst (λ (i : Item). is_overlap s from i ≡ false) b.is over) b.piece_is q m
 brought_new s from n item x op over (inr (inl b)) q m =
     let o : is_no_op s from (Spelled (CtsData b.recv x.offset b.connid x.bytes)) ≡ false = subst (λ (i : Item). is_no_op s from i ≡ false) b.is op in
     let v : is_overlap s from (Spelled (CtsData b.recv x.offset b.connid x.bytes)) ≡ false = subst (λ (i : Item). is_overlap s from i ≡ false) b.is over in

@@ -10,7 +10,8 @@ use Rattle.rdm_pkt.specs.declared.Form.TheVariants.{Eager}
 use Rattle.rdm_pkt.specs.Choice.{eager_room}
 use Rattle.rdm_model.specs.declared.job.Instr.{Instr}
 use Rattle.rdm_model.specs.declared.job.Instr.TheVariants.{OpenLife, Insert, Send}
-use Rattle.rdm_model.specs.Owns.{Own}
+use Rattle.rdm_model.specs.Jobs.{spans_length}
+use Rattle.rdm_model.specs.Owns.{Own, with_pools}
 use Rattle.rdm_model.specs.Deeds.{Deed, Did, PushedNote, Pushed, TookNote, Took, Polled, Nothing, Item, Spelled}
 use Rattle.rdm_model.specs.Currents.{inserted_by, last_inserted, seen_by, first_seen, current}
 use Rattle.rdm_model.specs.Heard.{is_heard}
@@ -18,18 +19,18 @@ use Rattle.rdm_lists.proofs.Options.{or_else_cases, then_some_parts}
 
 -- the message has room in one packet, whatever its headers
 abbrev pub FitsOnePacket : EpLimits → SendReq → Type 0
-FitsOnePacket limits req = (raw : Bool) → nat_le req.len (eager_room (is_some req.tag) (is_some req.cq_data) raw limits) ≡ true
+FitsOnePacket limits req = (raw : Bool) → nat_le (spans_length req.parts) (eager_room (is_some req.tag) (is_some req.cq_data) raw limits) ≡ true
 
 -- a message in one packet that was not heard of, or a handshake
 abbrev pub IsEagerItem : Own → List Deed → Life → Item → Type 0
-IsEagerItem own before from (Spelled (Rtm number tag opt (Eager bytes))) = (own.limits.first ≤ number.0) × (is_heard before from number.0 ≡ false)
-IsEagerItem own before from (Spelled (Handshake words connid)) = Unit {0}
+IsEagerItem own before from (Spelled (Rtm number tag confirm opt (Eager bytes))) = (own.limits.first ≤ number.0) × (is_heard before from number.0 ≡ false)
+IsEagerItem own before from (Spelled (Handshake words connid raw)) = Unit {0}
 IsEagerItem own before from _ = ⊥
 
 -- a message of a life in one packet, or a handshake
 abbrev pub IsEagerPacket : (first : ℕ) → Packet → Type 0
-IsEagerPacket first (Rtm number tag opt (Eager bytes)) = first ≤ number.0
-IsEagerPacket first (Handshake words connid) = Unit {0}
+IsEagerPacket first (Rtm number tag confirm opt (Eager bytes)) = first ≤ number.0
+IsEagerPacket first (Handshake words connid raw) = Unit {0}
 IsEagerPacket first _ = ⊥
 
 -- so of what a datagram is read as
@@ -67,6 +68,24 @@ IsEagerDeed limits lives Nothing = Unit {0}
 abbrev pub AreEagerDeeds : EpLimits → (lives : ℕ → Connid) → List Deed → Type 0
 AreEagerDeeds limits lives [] = Unit {0}
 AreEagerDeeds limits lives (d ∷ before) = AreEagerDeeds limits lives before × IsEagerDeed limits lives d
+
+-- an instruction is eager by limits with other pools, since pools are nothing to a packet
+did_with_pools : (limits pools : EpLimits) (lives : ℕ → Connid) (instr : Instr) → IsEagerDid limits lives instr → IsEagerDid (with_pools limits pools) lives instr
+unfolding eager_room
+did_with_pools limits pools lives (Insert life) h = h
+did_with_pools limits pools lives (Send req) h = h
+did_with_pools limits pools lives _ h = tt
+
+-- so is a deed
+deed_with_pools : (limits pools : EpLimits) (lives : ℕ → Connid) (d : Deed) → IsEagerDeed limits lives d → IsEagerDeed (with_pools limits pools) lives d
+deed_with_pools limits pools lives (Did instr) h = did_with_pools limits pools lives instr h
+deed_with_pools limits pools lives (Took from item) h = h
+deed_with_pools limits pools lives _ h = tt
+
+-- so are all deeds
+pub deeds_with_pools : (limits pools : EpLimits) (lives : ℕ → Connid) (log : List Deed) → AreEagerDeeds limits lives log → AreEagerDeeds (with_pools limits pools) lives log
+deeds_with_pools limits pools lives [] h = tt
+deeds_with_pools limits pools lives (d ∷ before) h = (deeds_with_pools limits pools lives before h.0, deed_with_pools limits pools lives d h.1)
 
 -- what a deed inserts is the one life of its port
 inserted_the : (limits : EpLimits) (lives : ℕ → Connid) (port : ℕ) (d : Deed) (l : Life) → IsEagerDeed limits lives d → inserted_by port d ≡ Some l → IsTheLife lives l

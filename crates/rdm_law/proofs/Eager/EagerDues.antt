@@ -22,11 +22,12 @@ use Rattle.rdm_model.specs.Deeds.{Deed, Did, Took, Item, Spelled, Asks}
 use Rattle.rdm_model.specs.Owns.{Own, Messages, Heads, no_head}
 use Rattle.rdm_model.specs.Heard.{head_by, heard_head}
 use Rattle.rdm_model.specs.Regions.{regions}
-use Rattle.rdm_model.specs.Sends.{Sent, sends_to, new_sent, range_of, sends}
+use Rattle.rdm_model.specs.Sends.{Sent, sends_to, new_sent, bytes_of, sends}
 use Rattle.rdm_model.specs.Replies.{Reply, asks_for, end_for}
 use Rattle.rdm_model.specs.Local.{heads_by}
 use Rattle.rdm_model.proofs.Numbers.{sends_keep}
 use Rattle.rdm_law.proofs.Replies.Owed.{NewReply, OwedIn, shape_in, recv_in}
+use Rattle.rdm_law.proofs.Fits.Spans.{spans_total}
 use Rattle.rdm_law.proofs.Fits.SentFits.{SentFits}
 use Rattle.rdm_law.proofs.Eager.EagerDeeds.{FitsOnePacket, IsEagerLoad, IsTheLife, IsEagerDeed, AreEagerDeeds, current_the}
 use Rattle.rdm_lists.proofs.Options.{or_else_cases, then_some_parts}
@@ -34,12 +35,12 @@ use Rattle.rdm_lists.proofs.Options.{or_else_cases, then_some_parts}
 -- a head that an eager packet tells is of one packet
 eager_head : (first : ℕ) (source : Life) (n : ℕ) (from : Life) (item : Item) (h : Head) → IsEagerLoad first item → head_by source n (Took from item) ≡ Some h → h.shape ≡ S.Eager
 unfolding head_by head_of shape_of
-eager_head first source n from (Spelled (Rtm number tag opt (F.Eager bytes))) h k is =
-    sym (ap (λ (x : Head). x.shape) (then_some_parts (same_life from source && number.0 == n) (head_of tag opt (F.Eager bytes)) h is).1)
-eager_head first source n from (Spelled (Rtm number tag opt (F.Medium size offset bytes))) h k is = elim k [ ]
-eager_head first source n from (Spelled (Rtm number tag opt (F.LongCts size send credits bytes))) h k is = elim k [ ]
-eager_head first source n from (Spelled (Rtm number tag opt (F.LongRead size send iov))) h k is = elim k [ ]
-eager_head first source n from (Spelled (Rtm number tag opt (F.Runt size send iov runt offset bytes))) h k is = elim k [ ]
+eager_head first source n from (Spelled (Rtm number tag confirm opt (F.Eager bytes))) h k is =
+    sym (ap (λ (x : Head). x.shape) (then_some_parts (same_life from source && number.0 == n) (head_of tag confirm opt (F.Eager bytes)) h is).1)
+eager_head first source n from (Spelled (Rtm number tag confirm opt (F.Medium size offset bytes))) h k is = elim k [ ]
+eager_head first source n from (Spelled (Rtm number tag confirm opt (F.LongCts size send credits bytes))) h k is = elim k [ ]
+eager_head first source n from (Spelled (Rtm number tag confirm opt (F.LongRead size send iov))) h k is = elim k [ ]
+eager_head first source n from (Spelled (Rtm number tag confirm opt (F.Runt size send iov runt offset bytes))) h k is = elim k [ ]
 eager_head first source n from _ h k is = cc
 
 -- so is one that a deed tells
@@ -141,7 +142,7 @@ eager_sends own lives ms (d ∷ before) k s m =
     let did : IsEagerDeed own.limits lives (Did (Send n.req)) = subst (IsEagerDeed own.limits lives) n.by k.1 in
     subst (EagerSent own lives) (sym n.is)
     (new_eager own lives before (length (sends own ms before)) (length (sends_to (sends own ms before) n.to)) n.req n.to
-    (range_of (regions own.limits.first ms before) n.req.region.0 n.req.at n.req.len)
+    (bytes_of (regions own.limits.first ms before) n.req.parts)
     (current_the own.limits lives n.req.to.0 before n.to k.0 n.current) did))
     s m
 
@@ -155,4 +156,4 @@ eager_chosen n tagged cq_data raw features known limits h = rw h refl
 pub eager_kind : (own : Own) (lives : ℕ → Connid) (s : Sent) → EagerSent own lives s → SentFits own s → s.kind ≡ Eager
 eager_kind own lives s p f =
     f.kind_is ∙ eager_chosen (length s.message.bytes) (is_some s.req.tag) (is_some s.req.cq_data) f.raw own.features f.known own.limits
-    (subst (λ (n : ℕ). nat_le n (eager_room (is_some s.req.tag) (is_some s.req.cq_data) f.raw own.limits) ≡ true) (sym f.size) (p.fits f.raw))
+    (subst (λ (n : ℕ). nat_le n (eager_room (is_some s.req.tag) (is_some s.req.cq_data) f.raw own.limits) ≡ true) (spans_total s.req.parts ∙ sym f.size) (p.fits f.raw))

@@ -3,6 +3,7 @@ use Rattle.std.proofs.Common.{◌≡◌, ◌≤◌, Bool, true, false, nat_le, l
 use Rattle.rdm_num.specs.declared.request.SendReq.{SendReq}
 use Rattle.rdm_num.specs.declared.limits.EpLimits.{EpLimits}
 use Rattle.rdm_pkt.specs.Choice.{eager_room}
+use Rattle.rdm_model.specs.Jobs.{spans_length}
 use Rattle.rdm_law.proofs.Fits.Headers.{common_length, eager_room_is}
 use Rattle.rdm_law.proofs.Eager.EagerDeeds.{FitsOnePacket}
 
@@ -13,12 +14,12 @@ raw_is_longest tagged cq_data true = omega arith
 raw_is_longest tagged cq_data false = omega arith
 
 -- what has room beside a raw address has room in one packet, whatever its headers
-pub fits_one_packet : (limits : EpLimits) (req : SendReq) → nat_le req.len (eager_room (is_some req.tag) (is_some req.cq_data) true limits) ≡ true → FitsOnePacket limits req
+pub fits_one_packet : (limits : EpLimits) (req : SendReq) → nat_le (spans_length req.parts) (eager_room (is_some req.tag) (is_some req.cq_data) true limits) ≡ true → FitsOnePacket limits req
 fits_one_packet limits req h = λ raw.
     let tagged = is_some req.tag in
     let cq_data = is_some req.cq_data in
     let a = eager_room_is tagged cq_data raw limits in
     let b = eager_room_is tagged cq_data true limits in
     let c = raw_is_longest tagged cq_data raw in
-    let d = leb-true req.len (eager_room tagged cq_data true limits) h in
-    le-leb req.len (eager_room tagged cq_data raw limits) (omega arith)
+    let d = leb-true (spans_length req.parts) (eager_room tagged cq_data true limits) h in
+    le-leb (spans_length req.parts) (eager_room tagged cq_data raw limits) (omega arith)

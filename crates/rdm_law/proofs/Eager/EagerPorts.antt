@@ -30,8 +30,9 @@ use Rattle.rdm_model.specs.Owns.{rank_of}
 use Rattle.rdm_model.specs.Notes.{tells_open, opens, knows_open}
 use Rattle.rdm_model.specs.Scenes.{deeds_at}
 use Rattle.rdm_model.specs.Local.{Local}
+use Rattle.rdm_law.specs.Worlds.{TookOnce}
 use Rattle.rdm_law.proofs.Lives.Lives.{at_of_life}
-use Rattle.rdm_law.proofs.Played.Delivers.{AllHadWaited, handled_waited}
+use Rattle.rdm_law.proofs.Played.Delivers.{handled_waited}
 use Rattle.rdm_law.proofs.Accounts.Wired.{HandledIn}
 use Rattle.rdm_law.proofs.Lives.Opened.{open_opened, note_pushed}
 use Rattle.rdm_law.proofs.Lives.Knows.{note_handled, opens_parts, tells_parts, act_knows}
@@ -80,7 +81,7 @@ open_is job lives port log c plain h = opened_the job lives port log c plain (op
 
 -- the life of which a port was told is the one of the port that told
 told_the : (job : Job) (lives : ℕ → Connid) (logs : ℕ → List Entry) (port : ℕ) (log : List Entry) (l : Life) → EagerJob job lives → ((p : ℕ) → Local job p (logs p))
-    → AllHadWaited logs port log → Member (TookNote l.port (Opened l.connid)) (deeds_at job port log) → IsTheLife lives l
+    → TookOnce logs port log → Member (TookNote l.port (Opened l.connid)) (deeds_at job port log) → IsTheLife lives l
 told_the job lives logs port log l plain local had m =
     let h = note_handled job port log l.port (Opened l.connid) m in
     let src = h.0.src.0 in
@@ -89,7 +90,7 @@ told_the job lives logs port log l plain local had m =
 
 -- a life that a port knows to be open is the one of its port
 knows_the : (job : Job) (lives : ℕ → Connid) (logs : ℕ → List Entry) (port : ℕ) (log : List Entry) (l : Life) → EagerJob job lives → ((p : ℕ) → Local job p (logs p))
-    → AllHadWaited logs port log → knows_open port (deeds_at job port log) l ≡ true → IsTheLife lives l
+    → TookOnce logs port log → knows_open port (deeds_at job port log) l ≡ true → IsTheLife lives l
 unfolding knows_open
 knows_the job lives logs port log l plain local had h =
     let ds = deeds_at job port log in
@@ -158,7 +159,7 @@ act_eager limits lives ops (Poll c) did h = tt
 
 -- the newest deed of a port is eager
 newest_eager : (job : Job) (lives : ℕ → Connid) (logs : ℕ → List Entry) (port : ℕ) (e : Entry) (before : List Entry) → EagerJob job lives → ((p : ℕ) → Local job p (logs p))
-    → AllHadWaited logs port before → Local job port (e ∷ before) → IsEagerHandle lives job.limits.first e.act → IsEagerDeed job.limits lives (deed_of (rank_of job port).ops e.act)
+    → TookOnce logs port before → Local job port (e ∷ before) → IsEagerHandle lives job.limits.first e.act → IsEagerDeed job.limits lives (deed_of (rank_of job port).ops e.act)
 newest_eager job lives logs port e before plain local had l h =
     let ops = (rank_of job port).ops in
     act_eager job.limits lives ops e.act
@@ -168,7 +169,7 @@ newest_eager job lives logs port e before plain local had l h =
 
 -- the deeds of each life of a port are eager
 pub life_eager : (job : Job) (lives : ℕ → Connid) (logs : ℕ → List Entry) (port : ℕ) (c : Connid) (log : List Entry) → EagerJob job lives → ((p : ℕ) → Local job p (logs p))
-    → AllHadWaited logs port log → Local job port log → AreEagerHandles lives job.limits.first log → AreEagerDeeds job.limits lives (of_life c (deeds_at job port log))
+    → TookOnce logs port log → Local job port log → AreEagerHandles lives job.limits.first log → AreEagerDeeds job.limits lives (of_life c (deeds_at job port log))
 unfolding of_life deeds_at deeds
 life_eager job lives logs port c [] plain local had l h = tt
 life_eager job lives logs port c (e ∷ before) plain local had l h =

@@ -1,5 +1,5 @@
 -- What waits for a port of an eager world is built for the endpoint that is open there.
-use Rattle.std.proofs.Common.{◌≡◌, ℕ, false, List, ◌++◌, Option, Some, None, IsTrue, refl, sym, ap, subst}
+use Rattle.std.proofs.Common.{Bool, ◌≡◌, ℕ, false, List, ◌++◌, Option, Some, None, IsTrue, refl, sym, ap, subst}
 use Rattle.rdm_lists.specs.Lists.{Member}
 use Rattle.rdm_num.specs.Lives.{life}
 use Rattle.rdm_num.specs.declared.numbers.Connid.{Connid}
@@ -8,7 +8,7 @@ use Rattle.rdm_num.specs.declared.numbers.MsgNo.{MsgNo}
 use Rattle.rdm_hdr.specs.declared.Opt.{Opt}
 use Rattle.rdm_pkt.specs.declared.Form.{Form}
 use Rattle.rdm_pkt.specs.declared.Packet.{Packet}
-use Rattle.rdm_pkt.specs.declared.Packet.TheVariants.{Rtm, Cts, CtsData, Eor, Handshake}
+use Rattle.rdm_pkt.specs.declared.Packet.TheVariants.{Rtm, Cts, CtsData, Eor, Handshake, Receipt}
 use Rattle.rdm_pkt.specs.declared.Form.TheVariants.{Eager, Medium, LongCts, LongRead, Runt}
 use Rattle.rdm_pkt.specs.Reading.{packet_in}
 use Rattle.rdm_wire.specs.declared.Datagram.{Datagram}
@@ -42,15 +42,16 @@ open_unheard job lives i w port number d None fair plain p m has = refl
 open_unheard job lives i w port number d (Some c) fair plain p m has = waits_unheard job lives i w port c d number fair plain p m has
 
 -- a packet that opens a message is one of the life that pushed it
-has_message : (d : Datagram) (from to : Connid) (bytes : List ℕ) (number : MsgNo) (tag : Option ℕ) (opt : Opt) (form : Form) → d.body ≡ Between from to (PacketLoad bytes)
-    → packet_in bytes ≡ Some (Rtm number tag opt form) → HasMessage (life d.src from) number d
+has_message : (d : Datagram) (from to : Connid) (bytes : List ℕ) (number : MsgNo) (tag : Option ℕ) (confirm : Bool) (opt : Opt) (form : Form) → d.body ≡ Between from to (PacketLoad bytes)
+    → packet_in bytes ≡ Some (Rtm number tag confirm opt form) → HasMessage (life d.src from) number d
 unfolding item_of packet_item
-has_message d from to bytes number tag opt form body packet = record {
+has_message d from to bytes number tag confirm opt form body packet = record {
   to = to;
   load = PacketLoad bytes;
   src_is = refl;
   body_is = body;
   tag = tag;
+  confirm = confirm;
   opt = opt;
   form = form;
   item_is = ap packet_item packet;
@@ -61,16 +62,17 @@ packet_built : (job : Job) (lives : ℕ → Connid) (w : World) (port : ℕ) (d 
     → EagerJob job lives → EagerWorld job lives w → Member d (waiting_in w port) → d.body ≡ Between from to (PacketLoad bytes) → packet_in bytes ≡ Some p
     → IsEagerPacket job.limits.first p → IsEagerItem (own_of job (life_at port o)) (of_open_life o (deeds_at job port (w.logs port))) (life d.src from) (Spelled p)
 unfolding own_of
-packet_built job lives w port d from to bytes (Rtm number tag opt (Eager data')) o fair plain world m body packet h =
-    (h, open_unheard job lives (life d.src from) w port number d o fair plain world m (has_message d from to bytes number tag opt (Eager data') body packet))
-packet_built job lives w port d from to bytes (Handshake words connid) o fair plain world m body packet h = tt
-packet_built job lives w port d from to bytes (Rtm number tag opt (Medium size offset data')) o fair plain world m body packet h = h
-packet_built job lives w port d from to bytes (Rtm number tag opt (LongCts size send credits data')) o fair plain world m body packet h = h
-packet_built job lives w port d from to bytes (Rtm number tag opt (LongRead size send iov)) o fair plain world m body packet h = h
-packet_built job lives w port d from to bytes (Rtm number tag opt (Runt size send iov runt offset data')) o fair plain world m body packet h = h
+packet_built job lives w port d from to bytes (Rtm number tag confirm opt (Eager data')) o fair plain world m body packet h =
+    (h, open_unheard job lives (life d.src from) w port number d o fair plain world m (has_message d from to bytes number tag confirm opt (Eager data') body packet))
+packet_built job lives w port d from to bytes (Handshake words connid raw) o fair plain world m body packet h = tt
+packet_built job lives w port d from to bytes (Rtm number tag confirm opt (Medium size offset data')) o fair plain world m body packet h = h
+packet_built job lives w port d from to bytes (Rtm number tag confirm opt (LongCts size send credits data')) o fair plain world m body packet h = h
+packet_built job lives w port d from to bytes (Rtm number tag confirm opt (LongRead size send iov)) o fair plain world m body packet h = h
+packet_built job lives w port d from to bytes (Rtm number tag confirm opt (Runt size send iov runt offset data')) o fair plain world m body packet h = h
 packet_built job lives w port d from to bytes (Cts send recv size connid) o fair plain world m body packet h = h
 packet_built job lives w port d from to bytes (CtsData recv offset connid data') o fair plain world m body packet h = h
 packet_built job lives w port d from to bytes (Eor send recv connid) o fair plain world m body packet h = h
+packet_built job lives w port d from to bytes (Receipt number connid) o fair plain world m body packet h = h
 
 -- what waits is built
 body_built : (job : Job) (lives : ℕ → Connid) (w : World) (port : ℕ) (d : Datagram) (body : Body) (o : Option Connid) → IsTrue (is_fair law_ops job) → EagerJob job lives → EagerWorld job lives w

@@ -1,5 +1,5 @@
 -- An eager life pushes each message once: a message that waits was not heard of yet.
-use Rattle.std.proofs.Common.{◌≡◌, ℕ, ◌-◌, false, is_some, slice_get, List, [], ◌∷◌, Option, Some, None, IsTrue, refl, inl, inr, sym, ◌∙◌, ap, subst}
+use Rattle.std.proofs.Common.{Bool, ◌≡◌, ℕ, ◌-◌, false, is_some, slice_get, List, [], ◌∷◌, Option, Some, None, IsTrue, refl, inl, inr, sym, ◌∙◌, ap, subst}
 use Rattle.rdm_lists.specs.Lists.{Member}
 use Rattle.rdm_num.specs.Lives.{life}
 use Rattle.rdm_num.specs.declared.numbers.PortNo.{PortNo}
@@ -23,7 +23,7 @@ use Rattle.rdm_model.specs.declared.entry.Entry.{Entry}
 use Rattle.rdm_model.specs.declared.entry.Act.{Act}
 use Rattle.rdm_model.specs.declared.entry.Act.TheVariants.{Handle}
 use Rattle.rdm_model.specs.Deeds.{Deed, Item, Spelled, item_of, of_life}
-use Rattle.rdm_model.specs.Owns.{Own, Messages, own_of, port_count}
+use Rattle.rdm_model.specs.Owns.{rank_of, Own, Messages, own_of, port_count}
 use Rattle.rdm_model.specs.Jobs.{is_fair, law_ops}
 use Rattle.rdm_model.specs.Heard.{heard_head, is_heard}
 use Rattle.rdm_model.specs.Scenes.{deeds_at}
@@ -48,6 +48,7 @@ use Rattle.rdm_law.proofs.Fits.FairJobs.{fair_job}
 use Rattle.rdm_law.proofs.Played.GoesWell.{life_fits}
 use Rattle.rdm_law.proofs.Played.Delivers.{handled_waited}
 use Rattle.rdm_law.proofs.Played.Sound.{waiting_in}
+use Rattle.rdm_law.proofs.Eager.EagerDeeds.{deeds_with_pools}
 use Rattle.rdm_law.proofs.Eager.EagerDues.{eager_sends, eager_kind}
 use Rattle.rdm_law.proofs.Eager.EagerPorts.{EagerJob, IsEagerBody, handled_eager, life_eager}
 use Rattle.rdm_law.proofs.Eager.EagerPlayed.{EagerWorld}
@@ -58,27 +59,28 @@ pub record RtmDue (own : Own) (to : Life) (number : MsgNo) (k : ℕ) (log : List
   pub sent : Sent
   pub to_is : sent.to ≡ to
   pub tag : Option ℕ
+  pub confirm : Bool
   pub opt : Opt
   pub form : Form
-  pub was_due : WasDueAt own (Sends sent (Rtm number tag opt form)) k log
+  pub was_due : WasDueAt own (Sends sent (Rtm number tag confirm opt form)) k log
 
 -- such a packet was due where it went out
-rtm_by_due : (own : Own) (k : ℕ) (log : List Deed) (t : Due) (to : Life) (item : Item) (number : MsgNo) (tag : Option ℕ) (opt : Opt) (form : Form)
-    → WasDueAt own t k log → due_going (Some t) ≡ Some (Goes to item) → item ≡ Spelled (Rtm number tag opt form) → RtmDue own to number k log
+rtm_by_due : (own : Own) (k : ℕ) (log : List Deed) (t : Due) (to : Life) (item : Item) (number : MsgNo) (tag : Option ℕ) (confirm : Bool) (opt : Opt) (form : Form)
+    → WasDueAt own t k log → due_going (Some t) ≡ Some (Goes to item) → item ≡ Spelled (Rtm number tag confirm opt form) → RtmDue own to number k log
 unfolding due_going
-rtm_by_due own k log (Sends s p) to item number tag opt form h g is =
-    let same : p ≡ Rtm number tag opt form = cc in
+rtm_by_due own k log (Sends s p) to item number tag confirm opt form h g is =
+    let same : p ≡ Rtm number tag confirm opt form = cc in
     let dest : s.to ≡ to = cc in
-    record { sent = s; to_is = dest; tag = tag; opt = opt; form = form; was_due = subst (λ (x : Packet). WasDueAt own (Sends s x) k log) same h }
-rtm_by_due own k log (Replies r) to item number tag opt form h g is =
-    let same : r.item ≡ Spelled (Rtm number tag opt form) = cc in
-    absurd (owed_rtm own (heard_by own.limits.first log) log r number tag opt form (was_due_owed own r k log h) same)
+    record { sent = s; to_is = dest; tag = tag; confirm = confirm; opt = opt; form = form; was_due = subst (λ (x : Packet). WasDueAt own (Sends s x) k log) same h }
+rtm_by_due own k log (Replies r) to item number tag confirm opt form h g is =
+    let same : r.item ≡ Spelled (Rtm number tag confirm opt form) = cc in
+    absurd (owed_rtm own (heard_by own.limits.first log) log r number tag confirm opt form (was_due_owed own r k log h) same)
 
 -- a pushed packet that opens a message was due
-pushed_rtm : (job : Job) (port : ℕ) (from : Connid) (to : Life) (load : Load) (d : Datagram) (log : List Entry) (number : MsgNo) (tag : Option ℕ) (opt : Opt) (form : Form)
-    → (p : PushedDue job port from to load d log) → item_of load ≡ Spelled (Rtm number tag opt form) → RtmDue (own_of job (life_of port from)) to number p.place (of_life from (deeds_at job port log))
-pushed_rtm job port from to load d log number tag opt form p is =
-    rtm_by_due (own_of job (life_of port from)) p.place (of_life from (deeds_at job port log)) p.due' to p.item number tag opt form p.was_due p.gives
+pushed_rtm : (job : Job) (port : ℕ) (from : Connid) (to : Life) (load : Load) (d : Datagram) (log : List Entry) (number : MsgNo) (tag : Option ℕ) (confirm : Bool) (opt : Opt) (form : Form)
+    → (p : PushedDue job port from to load d log) → item_of load ≡ Spelled (Rtm number tag confirm opt form) → RtmDue (own_of job (life_of port from)) to number p.place (of_life from (deeds_at job port log))
+pushed_rtm job port from to load d log number tag confirm opt form p is =
+    rtm_by_due (own_of job (life_of port from)) p.place (of_life from (deeds_at job port log)) p.due' to p.item number tag confirm opt form p.was_due p.gives
     (sym (bears_item p.item load p.bears) ∙ is)
 
 -- sends to one life with one number are one send
@@ -95,14 +97,14 @@ opens_once : (own : Own) (to : Life) (number : MsgNo) (k l : ℕ) (log : List De
     → RtmDue own to number k log → RtmDue own to number l log → k ≡ l
 opens_once own to number k l log eager a b =
     let ms = heard_by own.limits.first log in
-    let ma = due_member own a.sent (Rtm number a.tag a.opt a.form) k log a.was_due in
-    let mb = due_member own b.sent (Rtm number b.tag b.opt b.form) l log b.was_due in
-    let na = (due_rtm own a.sent number a.tag a.opt a.form k log a.was_due).0 in
-    let nb = (due_rtm own b.sent number b.tag b.opt b.form l log b.was_due).0 in
+    let ma = due_member own a.sent (Rtm number a.tag a.confirm a.opt a.form) k log a.was_due in
+    let mb = due_member own b.sent (Rtm number b.tag b.confirm b.opt b.form) l log b.was_due in
+    let na = (due_rtm own a.sent number a.tag a.confirm a.opt a.form k log a.was_due).0 in
+    let nb = (due_rtm own b.sent number b.tag b.confirm b.opt b.form l log b.was_due).0 in
     let same : a.sent ≡ b.sent = numbered_once own ms log a.sent b.sent ma mb (a.to_is ∙ sym b.to_is) (sym na ∙ nb) in
     let single : IsSingle a.sent.kind = subst IsSingle (sym (eager a.sent ma)) tt in
-    let then' : WasDueAt own (Sends a.sent (Rtm number b.tag b.opt b.form)) l log = subst (λ (s : Sent). WasDueAt own (Sends s (Rtm number b.tag b.opt b.form)) l log) (sym same) b.was_due in
-    due_opening own a.sent number number a.tag b.tag a.opt b.opt a.form b.form k l log single a.was_due then'
+    let then' : WasDueAt own (Sends a.sent (Rtm number b.tag b.confirm b.opt b.form)) l log = subst (λ (s : Sent). WasDueAt own (Sends s (Rtm number b.tag b.confirm b.opt b.form)) l log) (sym same) b.was_due in
+    due_opening own a.sent number number a.tag b.tag a.confirm b.confirm a.opt b.opt a.form b.form k l log single a.was_due then'
 
 -- an eager life opens the message of a number to a life once
 life_opens_once : (job : Job) (lives : ℕ → Connid) (i to : Life) (w : World) (number : MsgNo) (k l : ℕ) → IsTrue (is_fair law_ops job) → EagerJob job lives → EagerWorld job lives w
@@ -115,7 +117,9 @@ life_opens_once job lives i to w number k l fair plain p a b =
     let mine = of_life i.connid (deeds_at job i.port.0 log) in
     let local = p.sound.local i.port.0 in
     let fits = life_fits job i.port.0 log i.connid (fair_job job fair) local (p.sound.handled i.port.0) in
-    let deeds = life_eager job lives w.logs i.port.0 i.connid log plain p.sound.local (p.sound.delivers.handled i.port.0) local (p.has.handled i.port.0) in
+    let deeds =
+    deeds_with_pools job.limits (rank_of job i.port.0).limits lives mine
+    (life_eager job lives w.logs i.port.0 i.connid log plain p.sound.local (p.sound.delivers.handled i.port.0) local (p.has.handled i.port.0)) in
     let ms = heard_by own.limits.first mine in
     let bytes : MessagesFit ms = λ source n. bytes_by_fit own.limits.first mine source n fits.taken in
     let sent : (s : Sent) → Member s (own_sends own mine) → SentFits own s = sent_fits (port_count job) own ms mine bytes fits.deeds_fit in
@@ -137,9 +141,10 @@ pub record HasMessage (from : Life) (number : MsgNo) (d : Datagram) : Type 0 whe
   pub src_is : d.src ≡ from.port
   pub body_is : d.body ≡ Between from.connid to load
   pub tag : Option ℕ
+  pub confirm : Bool
   pub opt : Opt
   pub form : Form
-  pub item_is : item_of load ≡ Spelled (Rtm number tag opt form)
+  pub item_is : item_of load ≡ Spelled (Rtm number tag confirm opt form)
 
 -- what was pushed by a source was pushed by its port
 pushed_there : (logs : ℕ → List Entry) (d : Datagram) (l : Life) → d.src ≡ l.port → PushedIn d (logs d.src.0) → PushedIn d (logs l.port.0)
@@ -154,8 +159,8 @@ message_once job lives i w number d q fair plain p hd hq md mq to_is =
     let mine = of_life i.connid (deeds_at job i.port.0 log) in
     let a = pushed_due job i.port.0 i.connid md.to md.load d log local (pushed_there w.logs d i md.src_is hd) md.body_is in
     let b = pushed_due job i.port.0 i.connid mq.to mq.load q log local (pushed_there w.logs q i mq.src_is hq) mq.body_is in
-    let x = pushed_rtm job i.port.0 i.connid (life d.dst md.to) md.load d log number md.tag md.opt md.form a.1 md.item_is in
-    let y = pushed_rtm job i.port.0 i.connid (life q.dst mq.to) mq.load q log number mq.tag mq.opt mq.form b.1 mq.item_is in
+    let x = pushed_rtm job i.port.0 i.connid (life d.dst md.to) md.load d log number md.tag md.confirm md.opt md.form a.1 md.item_is in
+    let y = pushed_rtm job i.port.0 i.connid (life q.dst mq.to) mq.load q log number mq.tag mq.confirm mq.opt mq.form b.1 mq.item_is in
     let y' : RtmDue (own_of job i) (life d.dst md.to) number b.1.place mine = subst (λ (l : Life). RtmDue (own_of job i) l number b.1.place mine) (sym to_is) y in
     let same : a.1.place ≡ b.1.place = life_opens_once job lives i (life d.dst md.to) w number a.1.place b.1.place fair plain p x y' in
     placed_once job i.port.0 i.connid d q b.1.place log (subst (λ (k : ℕ). PlacedAt job i.port.0 i.connid d k log) same a.1.placed) b.1.placed
@@ -190,7 +195,7 @@ waits_unheard job lives i w port c d number fair plain p m has =
     let wait = p.sound.delivers.waits port d m in
     heard_none (heard_head mine i number.0) (λ h is.
     let t = heard_taken mine i number.0 h is in
-    let k = taken_handled job port c i (Spelled (Rtm t.number t.tag t.opt t.form)) (w.logs port) (p.sound.local port) t.took in
+    let k = taken_handled job port c i (Spelled (Rtm t.number t.tag t.confirm t.opt t.form)) (w.logs port) (p.sound.local port) t.took in
     let q = k.0 in
     let had = handled_waited w.logs port q (w.logs port) (p.sound.delivers.handled port) k.1 in
     let mq : HasMessage i number q = record {
@@ -199,9 +204,10 @@ waits_unheard job lives i w port c d number fair plain p m has =
       src_is = k.2.src_is;
       body_is = k.2.body_is;
       tag = t.tag;
+      confirm = t.confirm;
       opt = t.opt;
       form = t.form;
-      item_is = k.2.item_is ∙ ap (λ (x : MsgNo). Spelled (Rtm x t.tag t.opt t.form)) (same_number t.number number t.number_is);
+      item_is = k.2.item_is ∙ ap (λ (x : MsgNo). Spelled (Rtm x t.tag t.confirm t.opt t.form)) (same_number t.number number t.number_is);
     } in
     let to_q = eager_to lives first q q.body i.connid c k.2.load (handled_eager lives first q (w.logs port) (p.has.handled port) k.1) k.2.body_is in
     let to_d = eager_to lives first d d.body i.connid has.to has.load (p.has.waiting port d m) has.body_is in

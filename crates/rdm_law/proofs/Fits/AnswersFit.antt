@@ -1,10 +1,14 @@
 -- What the answers of sends and receives say of them: their ranges lie in their regions, and their messages have numbers left.
 use Rattle.std.proofs.Common.{◌≡◌, ℕ, suc, ◌+◌, ◌<◌, ◌≤◌, Bool, true, false, cond, leb-false, ltb-false, List, [], ◌∷◌, ◌++◌, map, length, get_or, option_to_list, Option, Some, None, refl, arith, ◌∙◌, ap, subst}
 use Rattle.std.specs.Prelude.{filter}
+use Rattle.std.specs.List.{list_any}
 use Rattle.std.proofs.lemmas.List.{map-append}
+use Rattle.rdm_lists.specs.Lists.{Member}
+use Rattle.rdm_lists.proofs.Members.{list_any_false}
 use Rattle.rdm_lists.specs.Lists.{first_case}
 use Rattle.rdm_num.specs.Lives.{same_life}
 use Rattle.rdm_num.specs.declared.numbers.Life.{Life}
+use Rattle.rdm_num.specs.declared.parts.Span.{Span}
 use Rattle.rdm_num.specs.declared.request.SendReq.{SendReq}
 use Rattle.rdm_num.specs.declared.request.RecvReq.{RecvReq}
 use Rattle.rdm_model.specs.declared.job.Instr.TheVariants.{Send, Recv}
@@ -17,7 +21,7 @@ use Rattle.rdm_model.specs.Deeds.{Deed, Did}
 use Rattle.rdm_model.specs.Currents.{current}
 use Rattle.rdm_model.specs.Owns.{Own, Messages}
 use Rattle.rdm_model.specs.Regions.{regions}
-use Rattle.rdm_model.specs.Sends.{Sent, sends_to, new_sent, sent_to_current, range_of, sent_by, with_sent, sends}
+use Rattle.rdm_model.specs.Sends.{Sent, sends_to, new_sent, sent_to_current, bytes_of, sent_by, with_sent, sends}
 use Rattle.rdm_model.specs.Scenes.{Scene}
 use Rattle.rdm_model.specs.Answers.{regions_of, is_out_of_range, has_no_number, has_no_region, send_answer, recv_answer, answer_of}
 use Rattle.rdm_model.specs.Local.{heard_by}
@@ -36,12 +40,12 @@ unfolding first_case
 case_past true why cs last what h = absurd (refused_did why what h)
 case_past false why cs last what h = (refl, h)
 
--- a send that did has its range in its region, and a number left
+-- a send that did has its ranges in their regions, and a number left
 send_answered : (s : Scene) (req : SendReq) (what : DidWhat) → send_answer s req ≡ DidAnswer what
-    → (is_out_of_range s req.region.0 req.at req.len ≡ false) × (has_no_number s (current s.log req.to.0) ≡ false)
+    → (list_any (λ (p : Span). is_out_of_range s p.region.0 p.at p.len) req.parts ≡ false) × (has_no_number s (current s.log req.to.0) ≡ false)
 unfolding send_answer
 send_answered s req what h =
-    let a = case_past (has_no_region s req.region.0) NoRegion _ _ what h in
+    let a = case_past (list_any (λ (p : Span). has_no_region s p.region.0) req.parts) NoRegion _ _ what h in
     let b = case_past _ Range _ _ what a.1 in
     let c = case_past _ NoEntry _ _ what b.1 in
     let d = case_past _ Busy _ _ what c.1 in
@@ -74,7 +78,9 @@ in_sizes ports own port_log log region at len fit h =
 range_step : (own : Own) (before : List Deed) (d : Deed) → AllRangesFit before → LifeStep own before d → RangeFits before d
 unfolding answer_of
 range_step own before (Did (Send req)) fit step =
-    in_sizes step.0 own step.1 before req.region.0 req.at req.len fit (send_answered (life_scene step.0 own step.1 before) req step.2 step.3).0
+    let s = life_scene step.0 own step.1 before in
+    let none = (send_answered s req step.2 step.3).0 in
+    λ p m. in_sizes step.0 own step.1 before p.region.0 p.at p.len fit (list_any_false (λ (q : Span). is_out_of_range s q.region.0 q.at q.len) req.parts none p m)
 range_step own before (Did (Recv req)) fit step =
     in_sizes step.0 own step.1 before req.region.0 req.at req.len fit (recv_answered (life_scene step.0 own step.1 before) req step.2 step.3)
 range_step own before _ fit step = tt
@@ -105,7 +111,7 @@ to_current own before sents req (Some to) bytes = refl
 life_of_sent : (own : Own) (ms : Messages) (before : List Deed) (sents : List Sent) (d : Deed) → map (λ (s : Sent). s.to) (sent_by own ms before sents d) ≡ sent_life before d
 unfolding sent_by sent_life
 life_of_sent own ms before sents (Did (Send req)) =
-    to_current own before sents req (current before req.to.0) (range_of (regions own.limits.first ms before) req.region.0 req.at req.len)
+    to_current own before sents req (current before req.to.0) (bytes_of (regions own.limits.first ms before) req.parts)
 life_of_sent own ms before sents _ = refl
 
 -- sends go to the same lives by any account of the messages

@@ -1,5 +1,5 @@
 -- What goes out next from a life can go.
-use Rattle.std.proofs.Common.{◌≡◌, ℕ, ◌+◌, ◌-◌, ◌<◌, min, Bool, true, false, cond, nat_lt, ltb-true, ◌||◌, List, [], ◌∷◌, ◌++◌, length, is_some, take, drop, Some, refl, arith, true≢false, inl, inr, sym, ◌∙◌, ap, subst, length-append, length-take, length-drop}
+use Rattle.std.proofs.Common.{◌≡◌, ℕ, ◌+◌, ◌-◌, ◌*◌, ◌<◌, min, Bool, true, false, cond, nat_lt, ltb-true, ◌||◌, List, [], ◌∷◌, ◌++◌, length, is_some, take, drop, Some, refl, arith, true≢false, inl, inr, sym, ◌∙◌, ap, subst, length-append, length-take, length-drop}
 use Rattle.std.specs.Prelude.{flat_map}
 use Rattle.std.proofs.lemmas.Bool.{and_parts, cases_lt}
 use Rattle.rdm_lists.specs.Lists.{Member}
@@ -16,7 +16,7 @@ use Rattle.rdm_pkt.specs.declared.Kind.{Kind}
 use Rattle.rdm_pkt.specs.declared.Kind.TheVariants.{Eager, Medium, LongCts, LongRead, Runt}
 use Rattle.rdm_pkt.specs.Grammar.{form_fields, last_fields, entry_fields, head_fields, layout, fits}
 use Rattle.rdm_num.specs.declared.numbers.Connid.{Connid}
-use Rattle.rdm_pkt.specs.Openings.{rtm, medium_form, runt_form, long_cts_form, no_bytes, room_in, openings}
+use Rattle.rdm_pkt.specs.Openings.{rtm, read_rtm, medium_form, runt_form, long_cts_form, no_bytes, room_in, openings}
 use Rattle.rdm_model.specs.Deeds.{Deed, Took, Item, Spelled}
 use Rattle.rdm_model.specs.Owns.{Own, Messages}
 use Rattle.rdm_model.specs.Sends.{Sent, sends}
@@ -36,7 +36,7 @@ use Rattle.rdm_law.proofs.Fits.SentFits.{SentFits, DeedsFit, sent_fits}
 use Rattle.rdm_law.proofs.Fits.RepliesFit.{OwnFits, HeadsFit, replies_fit}
 use Rattle.rdm_law.proofs.Fits.PacketsFit.{data_fits}
 use Rattle.rdm_law.proofs.Fits.Headers.{fields_length, PieceFits, pieces_fit, common_length, common_short}
-use Rattle.rdm_law.proofs.Fits.OpeningsFit.{LimitsFit, chosen_kind, longer, room_is, eager_fits, segment_fits, first_fits, read_fits, runt_fits, size_below}
+use Rattle.rdm_law.proofs.Fits.OpeningsFit.{LimitsFit, chosen_kind, longer, room_is, eager_fits, segment_fits, first_fits, ranges_fit, read_fits, runt_fits, size_below}
 use Rattle.rdm_lists.proofs.Members.{member-append_right, member-map}
 use Rattle.rdm_lists.proofs.Places.{slice_get-member}
 
@@ -53,12 +53,17 @@ some_bytes own s f l h =
     let b = l.mtu in
     omega arith
 
+-- how long a read list is, where no bytes follow
+list_header : (iov : List IovEntry) → fields_length (flat_map entry_fields iov ++ Data [] ∷ []) ≡ 24 * length iov
+unfolding fields_length entry_fields
+list_header [] = refl
+list_header (e ∷ es) = let r = list_header es in omega arith
+
 -- how long the headers ahead of a read are
-runt_header : (own : Own) (s : Sent) (n : ℕ) → SentFits own s → fields_length (form_fields (runt_form s.message n no_bytes)) + fields_length (last_fields (runt_form s.message n no_bytes)) ≡ 56
-unfolding form_fields last_fields fields_length entry_fields
-runt_header own s n f =
-    let P : List IovEntry → Type 0 = λ iov. 32 + fields_length (flat_map entry_fields iov ++ Data [] ∷ []) ≡ 56 in
-    subst P (sym f.iov_is) refl
+runt_header : (s : Sent) (n : ℕ)
+    → fields_length (form_fields (runt_form s.message n no_bytes)) + fields_length (last_fields (runt_form s.message n no_bytes)) ≡ 32 + 24 * length s.message.iov
+unfolding form_fields last_fields fields_length
+runt_header s n = let r = list_header s.message.iov in omega arith
 
 -- each packet that a send owes from the start fits
 openings_fit : (own : Own) (s : Sent) (kind : Kind) (p : Packet) → OwnFits own → LimitsFit own.limits → SentFits own s → s.kind ≡ kind → Member p (openings own.limits s.message kind)
@@ -68,14 +73,14 @@ openings_fit own s Eager p o l f is m = only_one (λ x. fits x ≡ true) (rtm s.
 openings_fit own s Medium p o l f is m =
     let long = longer own s f l (chosen_kind own s f Medium is) in
     let some = some_bytes own s f l long in
-    let room = room_is own s (medium_form s.message no_bytes) f 16 l refl (omega arith) in
+    let room = room_is own s s.message.confirm (medium_form s.message no_bytes) f 16 l refl (omega arith) in
     let r = member-map (λ (x : Piece). rtm s.message (medium_form s.message x)) p (pieces (room_in own.limits (rtm s.message (medium_form s.message no_bytes))) s.message.bytes) m in
     subst (λ x. fits x ≡ true) r.2
     (segment_fits own s r.0 o f (pieces_fit (room_in own.limits (rtm s.message (medium_form s.message no_bytes))) s.message.bytes r.0 room.0 (omega arith) f.bytes r.1))
 openings_fit own s LongCts p o l f is m =
     let long = longer own s f l (chosen_kind own s f LongCts is) in
     let size = room_in own.limits (rtm s.message (long_cts_form own.limits s.message [])) in
-    let room = room_is own s (long_cts_form own.limits s.message []) f 16 l refl (omega arith) in
+    let room = room_is own s s.message.confirm (long_cts_form own.limits s.message []) f 16 l refl (omega arith) in
     let some = room.0 in
     let rest = room.1 in
     let front = length-take size s.message.bytes in
@@ -84,18 +89,19 @@ openings_fit own s LongCts p o l f is m =
 openings_fit own s LongRead p o l f is m =
     let long = longer own s f l (chosen_kind own s f LongRead is) in
     let some = some_bytes own s f l long in
-    only_one (λ x. fits x ≡ true) (rtm s.message (F.LongRead (length s.message.bytes) s.message.send s.message.iov)) p m (read_fits own s o f (omega arith))
+    only_one (λ x. fits x ≡ true) (read_rtm s.message (F.LongRead (length s.message.bytes) s.message.send s.message.iov)) p m (read_fits own s o f (omega arith))
 openings_fit own s (Runt n) p o l f is m =
     let chosen = chosen_kind own s f (Runt n) is in
     let long = longer own s f l chosen.0 in
     let some = some_bytes own s f l long in
     let first : 0 < own.limits.runt = ltb-true _ _ (and_parts (nat_lt 0 own.limits.runt) _ chosen.1).0 in
     let part : min own.limits.runt (length s.message.bytes - 1) ≡ n = chosen.2 in
-    let size = room_in own.limits (rtm s.message (runt_form s.message n no_bytes)) in
-    let room = room_is own s (runt_form s.message n no_bytes) f 56 l (runt_header own s n f) (omega arith) in
+    let size = room_in own.limits (read_rtm s.message (runt_form s.message n no_bytes)) in
+    let few = (ranges_fit own s f (omega arith)).2 in
+    let room = room_is own s false (runt_form s.message n no_bytes) f (32 + 24 * length s.message.iov) l (runt_header s n) (omega arith) in
     let front = length-take n s.message.bytes in
     let whole : length (take n s.message.bytes) ≡ n = omega arith in
-    let r = member-map (λ (x : Piece). rtm s.message (runt_form s.message n x)) p (pieces size (take n s.message.bytes)) m in
+    let r = member-map (λ (x : Piece). read_rtm s.message (runt_form s.message n x)) p (pieces size (take n s.message.bytes)) m in
     let piece : PieceFits (length (take n s.message.bytes)) r.0 = pieces_fit size (take n s.message.bytes) r.0 room.0 (omega arith) (bytes_front n s.message.bytes f.bytes) r.1 in
     subst (λ x. fits x ≡ true) r.2
     (runt_fits own s n r.0 o f (omega arith) (omega arith) (subst (λ (k : ℕ). PieceFits k r.0) whole piece))

@@ -22,6 +22,7 @@ use Rattle.rdm_model.specs.Deeds.{Deed, deed_by_next, deed_by_push, deed_by_hand
 use Rattle.rdm_model.specs.Owns.{rank_of, no_rank, port_count}
 use Rattle.rdm_model.specs.Jobs.{is_fair, law_ops, features_fit, rank_fits, instr_fits, is_within}
 use Rattle.rdm_model.specs.Scenes.{Scene, deeds_at}
+use Rattle.rdm_num.specs.declared.limits.EpLimits.{EpLimits}
 use Rattle.rdm_model.specs.Classes.{class_of}
 use Rattle.rdm_model.specs.Steps.{count, is_next, Does}
 use Rattle.rdm_model.specs.Local.{own_scene, Local}
@@ -39,14 +40,14 @@ pub record RankFits (ports : ℕ) (r : Rank) : Type 0 where
   pub ops : list_all (instr_fits ports) r.ops ≡ true
 
 -- a fair rank
-a_rank : (ports : ℕ) (r : Rank) → rank_fits ports law_ops r ≡ true → RankFits ports r
+a_rank : (limits : EpLimits) (ports : ℕ) (r : Rank) → rank_fits limits ports law_ops r ≡ true → RankFits ports r
 unfolding rank_fits features_fit
-a_rank ports r h =
+a_rank limits ports r h =
     let a = and_parts _ _ h in
     let b = and_parts _ _ a.0 in
     let c = and_parts _ _ b.0 in
     let d = and_parts _ _ c.0 in
-    let e = and_parts _ _ d.0 in
+    let e = and_parts _ _ d.1 in
     let f : r.features < 32 = ltb-true _ _ e.0 in
     record { features = omega arith; few = leb-true _ _ c.1; ops = b.1 }
 
@@ -55,10 +56,10 @@ no_rank_fits : (ports : ℕ) → RankFits ports no_rank
 no_rank_fits ports = record { features = omega arith; few = omega arith; ops = refl }
 
 -- the rank of a number, or none
-some_rank : (ports : ℕ) (rs : List Rank) (n : ℕ) → list_all (rank_fits ports law_ops) rs ≡ true → RankFits ports (get_or rs n no_rank)
-some_rank ports [] n h = no_rank_fits ports
-some_rank ports (r ∷ rs) zero h = a_rank ports r (and_parts (rank_fits ports law_ops r) (list_all (rank_fits ports law_ops) rs) h).0
-some_rank ports (r ∷ rs) (suc n) h = some_rank ports rs n (and_parts (rank_fits ports law_ops r) (list_all (rank_fits ports law_ops) rs) h).1
+some_rank : (limits : EpLimits) (ports : ℕ) (rs : List Rank) (n : ℕ) → list_all (rank_fits limits ports law_ops) rs ≡ true → RankFits ports (get_or rs n no_rank)
+some_rank limits ports [] n h = no_rank_fits ports
+some_rank limits ports (r ∷ rs) zero h = a_rank limits ports r (and_parts (rank_fits limits ports law_ops r) (list_all (rank_fits limits ports law_ops) rs) h).0
+some_rank limits ports (r ∷ rs) (suc n) h = some_rank limits ports rs n (and_parts (rank_fits limits ports law_ops r) (list_all (rank_fits limits ports law_ops) rs) h).1
 
 -- what the proofs use of a fair job
 pub record JobFits (job : Job) : Type 0 where
@@ -76,7 +77,7 @@ fair_job job h =
     let d = and_parts _ _ c.0 in
     let e = and_parts _ _ d.0 in
     let ports = and_parts _ _ c.1 in
-    record { limits = limits_are job.limits e.0; ports = leb-true _ _ ports.1; ranks = λ port. some_rank (port_count job) job.ranks port b.1 }
+    record { limits = limits_are job.limits e.0; ports = leb-true _ _ ports.1; ranks = λ port. some_rank job.limits (port_count job) job.ranks port b.1 }
 
 -- an instruction that did is one of the program
 did_by_next : (ports : ℕ) (ops : List Instr) (index : ℕ) (o : Option Instr) (answer : Answer) → list_all (instr_fits ports) ops ≡ true → slice_get ops index ≡ o

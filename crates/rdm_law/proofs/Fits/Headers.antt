@@ -61,11 +61,11 @@ unfolding fields_length
 number_length number fs = refl
 
 -- a packet that opens a message is as long as its headers and its last fields
-pub rtm_length : (number : MsgNo) (tag : Option ℕ) (opt : Opt) (form : Form)
-    → length (spelling (Rtm number tag opt form)) ≡ 8 + fields_length (form_fields form) + fields_length (tag_fields tag) + fields_length (opt_fields opt) + fields_length (last_fields form)
+pub rtm_length : (number : MsgNo) (tag : Option ℕ) (confirm : Bool) (opt : Opt) (form : Form)
+    → length (spelling (Rtm number tag confirm opt form)) ≡ 8 + fields_length (form_fields form) + fields_length (tag_fields tag) + fields_length (opt_fields opt) + fields_length (last_fields form)
 unfolding spelling layout
-rtm_length number tag opt form =
-    let kind = type_of form + cond (is_some tag) 1 0 in
+rtm_length number tag confirm opt form =
+    let kind = type_of confirm form + cond (is_some tag) 1 0 in
     let head : List Field = head_fields kind (rtm_flags tag opt) in
     let front : List Field = head ++ Number 4 number.0 ∷ form_fields form in
     let a = spelled_length (front ++ tag_fields tag ++ opt_fields opt ++ last_fields form) in
@@ -143,7 +143,7 @@ no_header = refl
 pub eager_room_is : (tagged cq_data raw : Bool) (limits : EpLimits) → eager_room tagged cq_data raw limits ≡ limits.mtu - common_length tagged cq_data raw
 unfolding eager_room common_length
 eager_room_is tagged cq_data raw limits =
-    let a = rtm_length (record { 0 = 0 }) (then_some tagged 0) (opt_like cq_data raw) (F.Eager []) in
+    let a = rtm_length (record { 0 = 0 }) (then_some tagged 0) false (opt_like cq_data raw) (F.Eager []) in
     let b = tag_like_length tagged in
     let c = opt_like_length cq_data raw in
     let d = no_data in
@@ -151,11 +151,11 @@ eager_room_is tagged cq_data raw limits =
     omega arith
 
 -- how long a packet of a life's message is
-pub sent_length_is : (number : MsgNo) (tag : Option ℕ) (life : Life) (raw : Bool) (cq_data : Option ℕ) (form : Form)
-    → length (spelling (Rtm number tag (opt_for life raw cq_data) form)) ≡ common_length (is_some tag) (is_some cq_data) raw + fields_length (form_fields form) + fields_length (last_fields form)
+pub sent_length_is : (number : MsgNo) (tag : Option ℕ) (confirm : Bool) (life : Life) (raw : Bool) (cq_data : Option ℕ) (form : Form)
+    → length (spelling (Rtm number tag confirm (opt_for life raw cq_data) form)) ≡ common_length (is_some tag) (is_some cq_data) raw + fields_length (form_fields form) + fields_length (last_fields form)
 unfolding common_length
-sent_length_is number tag life raw cq_data form =
-    let a = rtm_length number tag (opt_for life raw cq_data) form in
+sent_length_is number tag confirm life raw cq_data form =
+    let a = rtm_length number tag confirm (opt_for life raw cq_data) form in
     let b = tag_length tag in
     let c = opt_length life raw cq_data in
     omega arith

@@ -1,5 +1,5 @@
 -- The packets that open a message of an accepted send fit.
-use Rattle.std.proofs.Common.{◌≡◌, ℕ, ◌+◌, ◌-◌, ◌<◌, ◌≤◌, min, true, false, nat_lt, nat_le, leb-false, leb-true, lt-ltb, le-leb, eq-eqb, ◌&&◌, List, [], ◌∷◌, length, is_some, Option, refl, arith, sym, ◌∙◌, subst}
+use Rattle.std.proofs.Common.{Bool, ◌≡◌, ℕ, ◌+◌, ◌-◌, ◌<◌, ◌≤◌, min, true, false, nat_lt, nat_le, leb-false, leb-true, lt-ltb, le-leb, eq-eqb, ◌&&◌, List, [], ◌∷◌, length, is_some, Option, refl, arith, sym, ◌∙◌, subst}
 use Rattle.std.specs.Prelude.{flat_map}
 use Rattle.std.specs.List.{list_all}
 use Rattle.std.proofs.lemmas.Bool.{and_parts, and_from}
@@ -14,13 +14,14 @@ use Rattle.rdm_pkt.specs.declared.Form.{Form}
 use Rattle.rdm_pkt.specs.declared.Form.TheVariants as F
 use Rattle.rdm_pkt.specs.declared.Kind.{Kind}
 use Rattle.rdm_pkt.specs.Choice.{eager_room, both_have}
-use Rattle.rdm_pkt.specs.Grammar.{form_fields, last_fields, entry_fields, iov_fits, form_fits, fits, spelling}
-use Rattle.rdm_pkt.specs.Openings.{rtm, medium_form, runt_form, long_cts_form, room_in}
+use Rattle.rdm_pkt.specs.Grammar.{form_fields, last_fields, entry_fields, iov_fits, form_fits, confirm_fits, fits, spelling}
+use Rattle.rdm_pkt.specs.Openings.{rtm, read_rtm, medium_form, runt_form, long_cts_form, room_in}
 use Rattle.rdm_model.specs.Jobs.{limits_fit, option_fits, len_max, is_within}
 use Rattle.rdm_model.specs.Owns.{Own}
 use Rattle.rdm_model.specs.Sends.{Sent, opt_for}
 use Rattle.rdm_law.proofs.Fits.Fitting.{AreBytes}
 use Rattle.rdm_law.proofs.Fits.SmallBytes.{all_append}
+use Rattle.rdm_law.proofs.Fits.Spans.{read_list_fits}
 use Rattle.rdm_law.proofs.Fits.SentFits.{SentFits}
 use Rattle.rdm_law.proofs.Fits.RepliesFit.{OwnFits}
 use Rattle.rdm_law.proofs.Fits.PacketsFit.{all_fields, word_field, long_field, data_field, HeadersFit, headers_fit, rtm_from}
@@ -52,12 +53,12 @@ limits_are limits h =
     record { mtu = leb-true _ _ mtu.0; credits = omega arith; credits_top = omega arith }
 
 -- a packet that opens the message of a send fits by its form
-opens_fit : (own : Own) (s : Sent) (form : Form) → OwnFits own → SentFits own s → form_fits form ≡ true → list_all field_fits (form_fields form) ≡ true
-    → list_all field_fits (last_fields form) ≡ true → fits (rtm s.message form) ≡ true
-opens_fit own s form o f a b c =
+opens_fit : (own : Own) (s : Sent) (confirm : Bool) (form : Form) → OwnFits own → SentFits own s → confirm_fits confirm form ≡ true → form_fits form ≡ true → list_all field_fits (form_fields form) ≡ true
+    → list_all field_fits (last_fields form) ≡ true → fits (Rtm s.message.no s.message.tag confirm s.message.opt form) ≡ true
+opens_fit own s confirm form o f r a b c =
     let tag : option_fits s.message.tag ≡ true = subst (λ (t : Option ℕ). option_fits t ≡ true) (sym f.tag_is) f.tag in
     let headers : HeadersFit s.message.opt = subst HeadersFit (sym f.opt_is) (headers_fit own.life f.raw s.req.cq_data o.port o.connid f.cq_data) in
-    rtm_from s.message.no s.message.tag s.message.opt form f.no tag headers a b c
+    rtm_from s.message.no s.message.tag confirm s.message.opt form f.no tag headers r a b c
 
 -- the number of a send as packets carry it is in its range
 send_below : (own : Own) (s : Sent) → SentFits own s → s.message.send.0 < 4294967296
@@ -65,44 +66,33 @@ send_below own s f = subst (λ (x : OpId). x.0 < 4294967296) (sym f.send_is) f.n
 
 -- the length of a message of a send
 pub size_below : (own : Own) (s : Sent) → SentFits own s → length s.message.bytes ≤ len_max
-size_below own s f = let a = f.size in let b = f.ends in omega arith
+size_below own s f = let a = f.size in let b = f.top in omega arith
 
--- the list of one range has the whole message
-one_range : (own : Own) (s : Sent) → SentFits own s → 0 < length s.message.bytes → (iov_fits s.message.iov (length s.message.bytes) ≡ true)
-    × (list_all field_fits (flat_map entry_fields s.message.iov) ≡ true) × (length s.message.iov ≡ 1)
-unfolding iov_fits entry_fields
-one_range own s f some =
-    let e : IovEntry = record { offset = s.req.at; length = s.req.len; key = s.req.region.0 } in
-    let size = f.size in
-    let ends = f.ends in
-    let key = f.key in
-    let test : iov_fits (e ∷ []) (length s.message.bytes) ≡ true =
-    and_from _ _ (and_from _ _ refl (and_from _ _ (and_from _ _ (le-leb 1 s.req.len (omega arith)) (lt-ltb (s.req.at + s.req.len) 18446744073709551616 (omega arith))) refl))
-    (eq-eqb (0 + s.req.len) (length s.message.bytes) (omega arith)) in
-    let fields : list_all field_fits (flat_map entry_fields (e ∷ [])) ≡ true =
-    all_fields (Number 8 s.req.at ∷ Number 8 s.req.len ∷ Number 8 s.req.region.0 ∷ [])
-    (long_field s.req.at (omega arith), (long_field s.req.len (omega arith), (long_field s.req.region.0 (omega arith), tt))) in
-    let P : List IovEntry → Type 0 = λ iov. (iov_fits iov (length s.message.bytes) ≡ true) × (list_all field_fits (flat_map entry_fields iov) ≡ true) × (length iov ≡ 1) in
-    subst P (sym f.iov_is) (test, fields, refl)
+-- the read list of a message that has a byte
+pub ranges_fit : (own : Own) (s : Sent) → SentFits own s → 0 < length s.message.bytes → (iov_fits s.message.iov (length s.message.bytes) ≡ true)
+    × (list_all field_fits (flat_map entry_fields s.message.iov) ≡ true) × (length s.message.iov ≤ 4)
+ranges_fit own s f some =
+    let P : List IovEntry → Type 0 = λ iov. (iov_fits iov (length s.message.bytes) ≡ true) × (list_all field_fits (flat_map entry_fields iov) ≡ true) × (length iov ≤ 4) in
+    subst P (sym f.iov_is) (read_list_fits s.req.parts (length s.message.bytes) f.few f.spans (sym f.size) some)
 
 -- how many bytes a packet of a send has beside those of the message
-headers_of : (own : Own) (s : Sent) (form : Form) (f : SentFits own s)
-    → length (spelling (rtm s.message form)) ≡ common_length (is_some s.req.tag) (is_some s.req.cq_data) f.raw + fields_length (form_fields form) + fields_length (last_fields form)
-headers_of own s form f =
-    let P : Opt → Option ℕ → Type 0 = λ opt tag. length (spelling (Rtm s.message.no tag opt form))
+headers_of : (own : Own) (s : Sent) (confirm : Bool) (form : Form) (f : SentFits own s)
+    → length (spelling (Rtm s.message.no s.message.tag confirm s.message.opt form)) ≡ common_length (is_some s.req.tag) (is_some s.req.cq_data) f.raw + fields_length (form_fields form) + fields_length (last_fields form)
+headers_of own s confirm form f =
+    let P : Opt → Option ℕ → Type 0 = λ opt tag. length (spelling (Rtm s.message.no tag confirm opt form))
     ≡ common_length (is_some s.req.tag) (is_some s.req.cq_data) f.raw + fields_length (form_fields form) + fields_length (last_fields form) in
-    let a : P (opt_for own.life f.raw s.req.cq_data) s.req.tag = sent_length_is s.message.no s.req.tag own.life f.raw s.req.cq_data form in
+    let a : P (opt_for own.life f.raw s.req.cq_data) s.req.tag = sent_length_is s.message.no s.req.tag confirm own.life f.raw s.req.cq_data form in
     let b : P (opt_for own.life f.raw s.req.cq_data) s.message.tag = subst (λ (t : Option ℕ). P (opt_for own.life f.raw s.req.cq_data) t) (sym f.tag_is) a in
     subst (λ (o : Opt). P o s.message.tag) (sym f.opt_is) b
 
 -- what is left for a message's bytes in a packet with headers of that length beside the common ones
-pub room_is : (own : Own) (s : Sent) (form : Form) (f : SentFits own s) (more : ℕ) → LimitsFit own.limits → fields_length (form_fields form) + fields_length (last_fields form) ≡ more
+pub room_is : (own : Own) (s : Sent) (confirm : Bool) (form : Form) (f : SentFits own s) (more : ℕ) → LimitsFit own.limits → fields_length (form_fields form) + fields_length (last_fields form) ≡ more
     → more ≤ 190
-    → (0 < room_in own.limits (rtm s.message form))
-    × (room_in own.limits (rtm s.message form) + more ≡ own.limits.mtu - common_length (is_some s.req.tag) (is_some s.req.cq_data) f.raw)
+    → (0 < room_in own.limits (Rtm s.message.no s.message.tag confirm s.message.opt form))
+    × (room_in own.limits (Rtm s.message.no s.message.tag confirm s.message.opt form) + more ≡ own.limits.mtu - common_length (is_some s.req.tag) (is_some s.req.cq_data) f.raw)
 unfolding room_in
-room_is own s form f more l is top =
-    let a = headers_of own s form f in
+room_is own s confirm form f more l is top =
+    let a = headers_of own s confirm form f in
     let b = common_short (is_some s.req.tag) (is_some s.req.cq_data) f.raw in
     let c = l.mtu in
     (omega arith, omega arith)
@@ -129,17 +119,17 @@ chosen_kind own s f kind is =
 
 -- a whole message
 pub eager_fits : (own : Own) (s : Sent) → OwnFits own → SentFits own s → fits (rtm s.message (F.Eager s.message.bytes)) ≡ true
-unfolding form_fits form_fields last_fields
-eager_fits own s o f = opens_fit own s (F.Eager s.message.bytes) o f refl refl (all_fields (Data s.message.bytes ∷ []) (data_field s.message.bytes f.bytes, tt))
+unfolding form_fits confirm_fits form_fields last_fields
+eager_fits own s o f = opens_fit own s s.message.confirm (F.Eager s.message.bytes) o f refl refl refl (all_fields (Data s.message.bytes ∷ []) (data_field s.message.bytes f.bytes, tt))
 
 -- a segment
 pub segment_fits : (own : Own) (s : Sent) (x : Piece) → OwnFits own → SentFits own s → PieceFits (length s.message.bytes) x → fits (rtm s.message (medium_form s.message x)) ≡ true
-unfolding form_fits form_fields last_fields
+unfolding form_fits confirm_fits form_fields last_fields
 segment_fits own s x o f p =
     let top = size_below own s f in
     let some = p.some in
     let within = p.within in
-    opens_fit own s (medium_form s.message x) o f
+    opens_fit own s s.message.confirm (medium_form s.message x) o f refl
     (and_from _ _ (le-leb 1 (length x.bytes) some) (le-leb (x.offset + length x.bytes) (length s.message.bytes) within))
     (all_fields (Number 8 (length s.message.bytes) ∷ Number 8 x.offset ∷ []) (long_field (length s.message.bytes) (omega arith), (long_field x.offset (omega arith), tt)))
     (all_fields (Data x.bytes ∷ []) (data_field x.bytes p.bytes, tt))
@@ -147,10 +137,10 @@ segment_fits own s x o f p =
 -- a first part that asks for grants
 pub first_fits : (own : Own) (s : Sent) (bytes : List ℕ) → OwnFits own → LimitsFit own.limits → SentFits own s → 0 < length bytes → length bytes < length s.message.bytes → AreBytes bytes
     → fits (rtm s.message (long_cts_form own.limits s.message bytes)) ≡ true
-unfolding form_fits form_fields last_fields
+unfolding form_fits confirm_fits form_fields last_fields
 first_fits own s bytes o l f some less small =
     let top = size_below own s f in
-    opens_fit own s (long_cts_form own.limits s.message bytes) o f
+    opens_fit own s s.message.confirm (long_cts_form own.limits s.message bytes) o f refl
     (and_from _ _ (and_from _ _ (le-leb 1 (length bytes) some) (lt-ltb (length bytes) (length s.message.bytes) less)) (le-leb 1 own.limits.credits l.credits))
     (all_fields (Number 8 (length s.message.bytes) ∷ Number 4 s.message.send.0 ∷ Number 4 own.limits.credits ∷ [])
     (long_field (length s.message.bytes) (omega arith), (word_field s.message.send.0 (send_below own s f), (word_field own.limits.credits l.credits_top, tt))))
@@ -158,28 +148,28 @@ first_fits own s bytes o l f some less small =
 
 -- a message to be read
 pub read_fits : (own : Own) (s : Sent) → OwnFits own → SentFits own s → 0 < length s.message.bytes
-    → fits (rtm s.message (F.LongRead (length s.message.bytes) s.message.send s.message.iov)) ≡ true
-unfolding form_fits form_fields last_fields
+    → fits (read_rtm s.message (F.LongRead (length s.message.bytes) s.message.send s.message.iov)) ≡ true
+unfolding form_fits confirm_fits form_fields last_fields
 read_fits own s o f some =
     let top = size_below own s f in
-    let iov = one_range own s f some in
-    let one = iov.2 in
-    opens_fit own s (F.LongRead (length s.message.bytes) s.message.send s.message.iov) o f iov.0
+    let iov = ranges_fit own s f some in
+    let few = iov.2 in
+    opens_fit own s false (F.LongRead (length s.message.bytes) s.message.send s.message.iov) o f refl iov.0
     (all_fields (Number 8 (length s.message.bytes) ∷ Number 4 s.message.send.0 ∷ Number 4 (length s.message.iov) ∷ [])
     (long_field (length s.message.bytes) (omega arith), (word_field s.message.send.0 (send_below own s f), (word_field (length s.message.iov) (omega arith), tt))))
     iov.1
 
 -- a segment of the first part ahead of a read
 pub runt_fits : (own : Own) (s : Sent) (runt : ℕ) (x : Piece) → OwnFits own → SentFits own s → 0 < runt → runt < length s.message.bytes → PieceFits runt x
-    → fits (rtm s.message (runt_form s.message runt x)) ≡ true
-unfolding form_fits form_fields last_fields
+    → fits (read_rtm s.message (runt_form s.message runt x)) ≡ true
+unfolding form_fits confirm_fits form_fields last_fields
 runt_fits own s runt x o f first less p =
     let top = size_below own s f in
-    let iov = one_range own s f (omega arith) in
-    let one = iov.2 in
+    let iov = ranges_fit own s f (omega arith) in
+    let few = iov.2 in
     let some = p.some in
     let within = p.within in
-    opens_fit own s (runt_form s.message runt x) o f
+    opens_fit own s false (runt_form s.message runt x) o f refl
     (and_from _ _ (and_from _ _ (and_from _ _ (and_from _ _ iov.0 (le-leb 1 (length x.bytes) some)) (le-leb (x.offset + length x.bytes) runt within)) (le-leb 1 runt first))
     (lt-ltb runt (length s.message.bytes) less))
     (all_fields (Number 8 (length s.message.bytes) ∷ Number 4 s.message.send.0 ∷ Number 4 (length s.message.iov) ∷ Number 8 runt ∷ Number 8 x.offset ∷ []) (

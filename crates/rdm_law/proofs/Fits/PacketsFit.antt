@@ -10,10 +10,10 @@ use Rattle.rdm_hdr.specs.Fields.{Field, Number, Data, field_fits, fields_fit}
 use Rattle.rdm_hdr.specs.Headers.{base_fields, raw_fields, cq_data_fields, connid_fields, opt_fields, opt_flags}
 use Rattle.rdm_hdr.specs.declared.Opt.{Opt}
 use Rattle.rdm_pkt.specs.declared.Packet.{Packet}
-use Rattle.rdm_pkt.specs.declared.Packet.TheVariants.{Rtm, Cts, CtsData, Eor, Handshake}
+use Rattle.rdm_pkt.specs.declared.Packet.TheVariants.{Rtm, Cts, CtsData, Eor, Handshake, Receipt}
 use Rattle.rdm_pkt.specs.declared.Form.{Form}
 use Rattle.rdm_pkt.specs.declared.Form.TheVariants.{Eager, Medium, LongCts, LongRead, Runt}
-use Rattle.rdm_pkt.specs.Grammar.{head_fields, type_of, rtm_flags, form_fields, tag_fields, last_fields, layout, form_fits, opt_fits, packet_fits, fits}
+use Rattle.rdm_pkt.specs.Grammar.{sender_opt, head_fields, type_of, rtm_flags, form_fields, tag_fields, last_fields, layout, form_fits, opt_fits, confirm_fits, packet_fits, fits}
 use Rattle.rdm_model.specs.Jobs.{option_fits}
 use Rattle.rdm_model.specs.Sends.{opt_for}
 use Rattle.rdm_law.proofs.Fits.Fitting.{AreBytes}
@@ -95,23 +95,26 @@ data_fits recv offset connid bytes a b c d e =
     (all_fields fs (word_field recv.0 a, (long_field (length bytes) (omega arith), (long_field offset (omega arith), (word_field connid.0 d, (data_field bytes e, tt)))))))
 
 -- features
-pub handshake_fits : (features : ℕ) (connid : Connid) → features < 18446744073709551616 → connid.0 < 4294967296 → fits (Handshake (features ∷ []) connid) ≡ true
-unfolding packet_fits layout
+pub handshake_fits : (features : ℕ) (connid : Connid) → features < 18446744073709551616 → connid.0 < 4294967296 → fits (Handshake (features ∷ []) connid None) ≡ true
+unfolding packet_fits layout sender_opt opt_fields raw_fields cq_data_fields connid_fields opt_flags
 handshake_fits features connid a b =
-    fits_from (Handshake (features ∷ []) connid) refl
+    fits_from (Handshake (features ∷ []) connid None) refl
     (all_append field_fits (head_fields 9 32768 ++ Number 4 4 ∷ Number 8 features ∷ []) (Number 4 connid.0 ∷ [])
     (all_append field_fits (head_fields 9 32768) (Number 4 4 ∷ Number 8 features ∷ []) (head_fits 9 32768 (omega arith) (omega arith))
     (all_fields (Number 4 4 ∷ Number 8 features ∷ []) (word_field 4 (omega arith), (long_field features a, tt))))
     (all_fields (Number 4 connid.0 ∷ []) (word_field connid.0 b, tt)))
 
 -- a packet type is small
-kind_small : (form : Form) → type_of form ≤ 192
+kind_small : (confirm : Bool) (form : Form) → type_of confirm form ≤ 204
 unfolding type_of
-kind_small (Eager bytes) = omega arith
-kind_small (Medium size offset bytes) = omega arith
-kind_small (LongCts size send credits bytes) = omega arith
-kind_small (LongRead size send iov) = omega arith
-kind_small (Runt size send iov runt offset bytes) = omega arith
+kind_small true (Eager bytes) = omega arith
+kind_small false (Eager bytes) = omega arith
+kind_small true (Medium size offset bytes) = omega arith
+kind_small false (Medium size offset bytes) = omega arith
+kind_small true (LongCts size send credits bytes) = omega arith
+kind_small false (LongCts size send credits bytes) = omega arith
+kind_small confirm (LongRead size send iov) = omega arith
+kind_small confirm (Runt size send iov runt offset bytes) = omega arith
 
 -- either of two numbers is within what both are within
 pub cond_below : (b : Bool) (m n top : ℕ) → m ≤ top → n ≤ top → cond b m n ≤ top
@@ -162,15 +165,16 @@ headers_fit life false cq_data a b h = record {
 }
 
 -- a packet that opens a message
-pub rtm_from : (number : MsgNo) (tag : Option ℕ) (opt : Opt) (form : Form) → number.0 < 4294967296 → option_fits tag ≡ true → HeadersFit opt → form_fits form ≡ true
-    → list_all field_fits (form_fields form) ≡ true → list_all field_fits (last_fields form) ≡ true → fits (Rtm number tag opt form) ≡ true
+pub rtm_from : (number : MsgNo) (tag : Option ℕ) (confirm : Bool) (opt : Opt) (form : Form) → number.0 < 4294967296 → option_fits tag ≡ true → HeadersFit opt → confirm_fits confirm form ≡ true
+    → form_fits form ≡ true
+    → list_all field_fits (form_fields form) ≡ true → list_all field_fits (last_fields form) ≡ true → fits (Rtm number tag confirm opt form) ≡ true
 unfolding packet_fits layout
-rtm_from number tag opt form a t o f h l =
-    let kind = type_of form + cond (is_some tag) 1 0 in
+rtm_from number tag confirm opt form a t o c f h l =
+    let kind = type_of confirm form + cond (is_some tag) 1 0 in
     let head : List Field = head_fields kind (rtm_flags tag opt) in
     let front : List Field = head ++ Number 4 number.0 ∷ form_fields form in
-    let small : kind < 256 = (let x = kind_small form in let y = cond_below (is_some tag) 1 0 1 (omega arith) (omega arith) in omega arith) in
-    fits_from (Rtm number tag opt form) (and_from (opt_fits opt) (form_fits form) o.one f)
+    let small : kind < 256 = (let x = kind_small confirm form in let y = cond_below (is_some tag) 1 0 1 (omega arith) (omega arith) in omega arith) in
+    fits_from (Rtm number tag confirm opt form) (and_from _ _ (and_from (confirm_fits confirm form) (opt_fits opt) c o.one) f)
     (all_append field_fits (front ++ tag_fields tag ++ opt_fields opt) (last_fields form)
     (all_append field_fits (front ++ tag_fields tag) (opt_fields opt)
     (all_append field_fits front (tag_fields tag)

@@ -3,6 +3,7 @@ use Rattle.std.proofs.Common.{◌≡◌, ℕ, zero, suc, ◌+◌, ◌≤◌, tru
 use Rattle.std.specs.List.{list_all}
 use Rattle.std.proofs.lemmas.Bool.{and_parts}
 use Rattle.rdm_lists.specs.Lists.{Member}
+use Rattle.rdm_num.specs.declared.parts.Span.{Span}
 use Rattle.rdm_num.specs.declared.request.RecvReq.{RecvReq}
 use Rattle.rdm_num.specs.declared.numbers.Life.{Life}
 use Rattle.rdm_model.specs.declared.job.Instr.TheVariants.{OpenLife, Insert, Reg, Send, Recv, Cancel, Note, Await, Wait, CloseLife}
@@ -116,10 +117,10 @@ unfoldable pub sizes : List Deed → List ℕ
 sizes [] = []
 sizes (d ∷ before) = sizes before ++ map length (region_by d)
 
--- the range of a send or a receive lies in its region
+-- the range of a receive, or each of a send, lies in its region
 abbrev pub RangeFits : List Deed → Deed → Type 0
 RangeFits before (Did (Recv req)) = req.at + req.len ≤ get_or (sizes before) req.region.0 0
-RangeFits before (Did (Send req)) = req.at + req.len ≤ get_or (sizes before) req.region.0 0
+RangeFits before (Did (Send req)) = (p : Span) → Member p req.parts → p.at + p.len ≤ get_or (sizes before) p.region.0 0
 RangeFits before _ = Unit {0}
 
 -- so of all deeds

@@ -74,9 +74,9 @@ form_shape (Runt size send iov runt offset bytes) h =
 -- so are those of a head that a deed tells
 head_by_fits : (source : Life) (n : ℕ) (d : Deed) (h : Head) → TakenFits d → head_by source n d ≡ Some h → ShapeFits h.shape h.length
 unfolding head_by head_of
-head_by_fits source n (Took from (Spelled (Rtm number tag opt form))) h fit is =
-    subst (λ (x : Head). ShapeFits x.shape x.length) (then_some_parts (same_life from source && number.0 == n) (head_of tag opt form) h is).1
-    (form_shape form (rtm_fits number tag opt form fit).header)
+head_by_fits source n (Took from (Spelled (Rtm number tag confirm opt form))) h fit is =
+    subst (λ (x : Head). ShapeFits x.shape x.length) (then_some_parts (same_life from source && number.0 == n) (head_of tag confirm opt form) h is).1
+    (form_shape form (rtm_fits number tag confirm opt form fit).header)
 head_by_fits source n _ h fit is = cc
 
 -- so are those of a head that was heard

@@ -5,6 +5,7 @@ use Rattle.std.proofs.lemmas.List.{length-map}
 use Rattle.rdm_lists.specs.Lists.{Member}
 use Rattle.rdm_num.specs.Lives.{op_id}
 use Rattle.rdm_num.specs.declared.numbers.Life.{Life}
+use Rattle.rdm_num.specs.declared.parts.Span.{Span}
 use Rattle.rdm_num.specs.declared.request.SendReq.{SendReq}
 use Rattle.rdm_pkt.specs.Choice.{choose}
 use Rattle.rdm_model.specs.declared.job.Instr.TheVariants.{Send, Recv}
@@ -14,11 +15,12 @@ use Rattle.rdm_model.specs.Owns.{Own, Messages}
 use Rattle.rdm_model.specs.Jobs.{instr_fits, range_fits, option_fits, len_max}
 use Rattle.rdm_model.specs.Matches.{Receive, receives, received_by, with_received}
 use Rattle.rdm_model.specs.Regions.{regions}
-use Rattle.rdm_model.specs.Sends.{Sent, sends_to, new_sent, range_of, known_word, wants_raw, opt_for, sends}
+use Rattle.rdm_model.specs.Sends.{Sent, sends_to, new_sent, read_list, bytes_of, known_word, wants_raw, opt_for, sends}
 use Rattle.rdm_model.proofs.Numbers.{NewSent, sends_keep}
 use Rattle.rdm_law.proofs.Fits.Fitting.{AreBytes}
 use Rattle.rdm_law.proofs.Fits.SmallBytes.{bytes_front, bytes_rest}
 use Rattle.rdm_law.proofs.Fits.RegionsFit.{MessagesFit, AllAreBytes, DidFits, AllDidFit, regions_fit, RangeFits, AllRangesFit}
+use Rattle.rdm_law.proofs.Fits.Spans.{SpanFits, IsInside, PartsFit, parts_are, span_total, spans_bytes, spans_size}
 use Rattle.rdm_law.proofs.Fits.RegionSizes.{region_size, size_bound}
 use Rattle.rdm_law.proofs.Fits.AnswersFit.{sent_life, sent_lives, lives_of_sends, sends_to_count, NumberFits, AllNumbersFit}
 
@@ -88,54 +90,35 @@ pub record SentFits (own : Own) (s : Sent) : Type 0 where
   pub known : Option ℕ
   pub opt_is : s.message.opt ≡ opt_for own.life raw s.req.cq_data
   pub kind_is : s.kind ≡ choose (length s.message.bytes) (is_some s.req.tag) (is_some s.req.cq_data) raw own.features known own.limits
-  pub iov_is : s.message.iov ≡ record { offset = s.req.at; length = s.req.len; key = s.req.region.0 } ∷ []
+  pub iov_is : s.message.iov ≡ read_list s.req.parts
   pub bytes : AreBytes s.message.bytes
-  pub size : length s.message.bytes ≡ s.req.len
-  pub ends : s.req.at + s.req.len ≤ len_max
-  pub key : s.req.region.0 < 4294967296
+  pub size : length s.message.bytes ≡ span_total s.req.parts
+  pub top : span_total s.req.parts ≤ len_max
+  pub few : length s.req.parts ≤ 4
+  pub spans : (p : Span) → Member p s.req.parts → SpanFits p
 
 -- the request has its numbers in their ranges
 pub record RequestFits (req : SendReq) : Type 0 where
-  pub key : req.region.0 < 4294967296
+  pub parts : PartsFit req.parts
   pub tag : option_fits req.tag ≡ true
   pub cq_data : option_fits req.cq_data ≡ true
 
 -- a send that is fair has its numbers in their ranges
 request_fits : (ports : ℕ) (req : SendReq) → instr_fits ports (Send req) ≡ true → RequestFits req
-unfolding instr_fits range_fits
+unfolding instr_fits
 request_fits ports req h =
     let a = and_parts _ _ h in
     let b = and_parts _ _ a.0 in
     let c = and_parts _ _ b.0 in
-    let d = and_parts _ _ c.1 in
-    let e = and_parts _ _ d.0 in
-    record { key = ltb-true _ _ e.0; tag = b.1; cq_data = a.1 }
-
--- one of the regions, or none, is of bytes
-get_or_bytes : (rs : List (List ℕ)) (n : ℕ) → AllAreBytes rs → AreBytes (get_or rs n [])
-get_or_bytes [] n h = refl
-get_or_bytes (r ∷ rs) zero h = h r (inl refl)
-get_or_bytes (r ∷ rs) (suc n) h = get_or_bytes rs n (λ x m. h x (inr m))
-
--- a range of a region is of bytes
-range_bytes : (rs : List (List ℕ)) (region at len : ℕ) → AllAreBytes rs → AreBytes (range_of rs region at len)
-unfolding range_of
-range_bytes rs region at len h = bytes_front len (drop at (get_or rs region [])) (bytes_rest at (get_or rs region []) (get_or_bytes rs region h))
-
--- a range that ends within its region is as long as it says
-range_length : (rs : List (List ℕ)) (region at len : ℕ) → at + len ≤ length (get_or rs region []) → length (range_of rs region at len) ≡ len
-unfolding range_of
-range_length rs region at len h =
-    let a = length-take len (drop at (get_or rs region [])) in
-    let b = length-drop at (get_or rs region []) in
-    omega arith
+    record { parts = parts_are req.parts c.1; tag = b.1; cq_data = a.1 }
 
 -- a new send of such a request fits
 made_fits : (own : Own) (before : List Deed) (count messages : ℕ) (req : SendReq) (to : Life) (bytes : List ℕ) → count < 4294967296
-    → own.limits.first + messages < 4294967296 → RequestFits req → AreBytes bytes → length bytes ≡ req.len → req.at + req.len ≤ len_max
+    → own.limits.first + messages < 4294967296 → RequestFits req → AreBytes bytes → length bytes ≡ span_total req.parts
+    → ((p : Span) → Member p req.parts → SpanFits p)
     → SentFits own (new_sent own before count messages req to bytes)
 unfolding new_sent
-made_fits own before count messages req to bytes below within fit bs size ends = record {
+made_fits own before count messages req to bytes below within fit bs size spans = record {
   number = below;
   no = within;
   send_is = refl;
@@ -149,8 +132,9 @@ made_fits own before count messages req to bytes below within fit bs size ends =
   iov_is = refl;
   bytes = bs;
   size = size;
-  ends = ends;
-  key = fit.key;
+  top = fit.parts.top;
+  few = fit.parts.few;
+  spans = spans;
 }
 
 -- each deed of a life fits: what did, what was taken, the ranges and the numbers
@@ -173,16 +157,18 @@ new_fits ports own ms d before s h fit n =
     let P : Deed → Type 0 = λ x. DidFits ports x × RangeFits before x × NumberFits own.limits.first before x in
     let now : P (Did (Send n.req)) = subst P n.by (fit.did.1, fit.ranges.1, fit.numbers.1) in
     let rs = regions own.limits.first ms before in
-    let range : n.req.at + n.req.len ≤ length (get_or rs n.req.region.0 []) =
-    (let a = now.1 in let b = region_size own.limits.first ms before n.req.region.0 was.ranges in omega arith) in
-    let bytes = range_of rs n.req.region.0 n.req.at n.req.len in
+    let inside : (p : Span) → Member p n.req.parts → IsInside rs p = λ p m.
+    (let a = now.1 p m in let b = region_size own.limits.first ms before p.region.0 was.ranges in omega arith) in
+    let bytes = bytes_of rs n.req.parts in
     let within : own.limits.first + length (sends_to (sends own ms before) n.to) < 4294967296 =
     (let a = now.2 n.to n.current in let b = sends_to_count own ms before n.to in omega arith) in
     let below : length (sends own ms before) < 4294967296 = (let a = sends_count own ms before in let b = was.count in omega arith) in
-    let ends : n.req.at + n.req.len ≤ len_max = (let a = now.1 in let b = size_bound ports before n.req.region.0 was.did in omega arith) in
+    let fair = request_fits ports n.req now.0 in
+    let spans : (p : Span) → Member p n.req.parts → SpanFits p = λ p m.
+    ((let a = now.1 p m in let b = size_bound ports before p.region.0 was.did in omega arith), fair.parts.keys p m) in
     subst (SentFits own) (sym n.is)
-    (made_fits own before (length (sends own ms before)) (length (sends_to (sends own ms before) n.to)) n.req n.to bytes below within (request_fits ports n.req now.0)
-    (range_bytes rs n.req.region.0 n.req.at n.req.len (regions_fit ports own.limits.first ms before h was.did)) (range_length rs n.req.region.0 n.req.at n.req.len range) ends)
+    (made_fits own before (length (sends own ms before)) (length (sends_to (sends own ms before) n.to)) n.req n.to bytes below within fair
+    (spans_bytes rs n.req.parts (regions_fit ports own.limits.first ms before h was.did)) (spans_size rs n.req.parts inside) spans)
 
 -- each send fits, by any account of messages of bytes
 pub sent_fits : (ports : ℕ) (own : Own) (ms : Messages) (log : List Deed) → MessagesFit ms → DeedsFit ports own.limits.first log

@@ -13,7 +13,7 @@ use Rattle.rdm_num.specs.declared.numbers.MsgNo.{MsgNo}
 use Rattle.rdm_num.specs.declared.numbers.OpId.{OpId}
 use Rattle.rdm_num.specs.declared.numbers.Connid.{Connid}
 use Rattle.rdm_pkt.specs.declared.Packet.{Packet}
-use Rattle.rdm_pkt.specs.declared.Packet.TheVariants.{Rtm, Cts, CtsData, Eor, Handshake}
+use Rattle.rdm_pkt.specs.declared.Packet.TheVariants.{Rtm, Cts, CtsData, Eor, Handshake, Receipt}
 use Rattle.rdm_pkt.specs.declared.Form.{Form}
 use Rattle.rdm_pkt.specs.declared.Form.TheVariants.{Eager, Medium, LongCts, LongRead, Runt}
 use Rattle.rdm_pkt.specs.Heads.{piece_of}
@@ -83,12 +83,12 @@ pub record RtmFits (number : MsgNo) (tag : Option ℕ) (form : Form) : Type 0 wh
   pub last : list_all field_fits (last_fields form) ≡ true
 
 -- the fields of the header, and those that come last
-pub rtm_fits : (number : MsgNo) (tag : Option ℕ) (opt : Opt) (form : Form) → fits (Rtm number tag opt form) ≡ true → RtmFits number tag form
+pub rtm_fits : (number : MsgNo) (tag : Option ℕ) (confirm : Bool) (opt : Opt) (form : Form) → fits (Rtm number tag confirm opt form) ≡ true → RtmFits number tag form
 unfolding layout
-rtm_fits number tag opt form h =
-    let head : List Field = head_fields (type_of form + cond (is_some tag) 1 0) (rtm_flags tag opt) in
+rtm_fits number tag confirm opt form h =
+    let head : List Field = head_fields (type_of confirm form + cond (is_some tag) 1 0) (rtm_flags tag opt) in
     let front : List Field = head ++ Number 4 number.0 ∷ form_fields form in
-    let a = all_parts field_fits (front ++ tag_fields tag ++ opt_fields opt) (last_fields form) (layout_fits (Rtm number tag opt form) h) in
+    let a = all_parts field_fits (front ++ tag_fields tag ++ opt_fields opt) (last_fields form) (layout_fits (Rtm number tag confirm opt form) h) in
     let b = all_parts field_fits (front ++ tag_fields tag) (opt_fields opt) a.0 in
     let c = all_parts field_fits front (tag_fields tag) b.0 in
     let d = all_parts field_fits head (Number 4 number.0 ∷ form_fields form) c.0 in
@@ -124,9 +124,9 @@ data_bytes recv offset connid bytes h =
 -- the bytes of a message that an item has
 piece_bytes_fit : (ps : List Pair) (source : Life) (n : ℕ) (item : Item) (x : Piece) → ItemFits item → piece_by ps source n item ≡ Some x → AreBytes x.bytes
 unfolding piece_by
-piece_bytes_fit ps source n (Spelled (Rtm number tag opt form)) x fit h =
+piece_bytes_fit ps source n (Spelled (Rtm number tag confirm opt form)) x fit h =
     (elim (number.0 == n) as (λ b. cond b (piece_of form) None ≡ Some x → AreBytes x.bytes) [
-      | true ↦ λ k. last_bytes form x (rtm_fits number tag opt form fit).last k
+      | true ↦ λ k. last_bytes form x (rtm_fits number tag confirm opt form fit).last k
       | false ↦ λ k. cc
     ]) h
 piece_bytes_fit ps source n (Spelled (CtsData recv offset connid bytes)) x fit h =
@@ -134,7 +134,8 @@ piece_bytes_fit ps source n (Spelled (CtsData recv offset connid bytes)) x fit h
 piece_bytes_fit ps source n (Gives g) x fit h = subst (λ (y : Piece). AreBytes y.bytes) (then_some_parts _ _ x h).1 fit
 piece_bytes_fit ps source n (Spelled (Cts send recv size connid)) x fit h = cc
 piece_bytes_fit ps source n (Spelled (Eor send recv connid)) x fit h = cc
-piece_bytes_fit ps source n (Spelled (Handshake words connid)) x fit h = cc
+piece_bytes_fit ps source n (Spelled (Handshake words connid raw)) x fit h = cc
+piece_bytes_fit ps source n (Spelled (Receipt number connid)) x fit h = cc
 piece_bytes_fit ps source n (Asks a) x fit h = cc
 piece_bytes_fit ps source n Garbled x fit h = cc
 

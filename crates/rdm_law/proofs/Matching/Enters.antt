@@ -51,13 +51,13 @@ row_fits first (suc n) xs h =
 
 -- the number of the message that a deed opens
 deed_number : Deed → ℕ
-deed_number (Took from (Spelled (Rtm number tag opt form))) = number.0
+deed_number (Took from (Spelled (Rtm number tag confirm opt form))) = number.0
 deed_number _ = 0
 
 -- the number of a packet that opens a message
-rtm_number : (source : Life) (number : MsgNo) (tag : Option ℕ) (opt : Opt) (form : Form) → deed_number (Took source (Spelled (Rtm number tag opt form))) ≡ number.0
+rtm_number : (source : Life) (number : MsgNo) (tag : Option ℕ) (confirm : Bool) (opt : Opt) (form : Form) → deed_number (Took source (Spelled (Rtm number tag confirm opt form))) ≡ number.0
 unfolding deed_number
-rtm_number source number tag opt form = refl
+rtm_number source number tag confirm opt form = refl
 
 -- a number that was heard of is that of a deed
 heard_member : (log : List Deed) (source : Life) (n : ℕ) → is_heard log source n ≡ true → Member n (map deed_number log)
@@ -65,8 +65,8 @@ unfolding is_heard
 heard_member log source n h =
     let s = some_of (heard_head log source n) h in
     let t = heard_taken log source n s.0 s.1 in
-    subst (λ (m : ℕ). Member m (map deed_number log)) (rtm_number source t.number t.tag t.opt t.form ∙ t.number_is)
-    (map-member deed_number (Took source (Spelled (Rtm t.number t.tag t.opt t.form))) log t.took)
+    subst (λ (m : ℕ). Member m (map deed_number log)) (rtm_number source t.number t.tag t.confirm t.opt t.form ∙ t.number_is)
+    (map-member deed_number (Took source (Spelled (Rtm t.number t.tag t.confirm t.opt t.form))) log t.took)
 
 -- so many numbers from the first one on were heard, and the next one was not
 pub record Reach (first : ℕ) (log : List Deed) (source : Life) : Type 0 where

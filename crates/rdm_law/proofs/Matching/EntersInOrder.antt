@@ -58,9 +58,9 @@ numbers_forgets source (l ∷ ls) = numbers_forgets source ls
 -- a deed that takes nothing of a life makes none of its messages heard of
 not_heard_by : (source : Life) (d : Deed) → ((item : Item) → d ≡ Took source item → ⊥) → (n : ℕ) → head_by source n d ≡ None
 unfolding head_by
-not_heard_by source (Took from (Spelled (Rtm number tag opt form))) no' n =
-    (elim (same_life from source) as (λ b. same_life from source ≡ b → then_some (b && number.0 == n) (head_of tag opt form) ≡ None) [
-      | true ↦ λ is. absurd (no' (Spelled (Rtm number tag opt form)) (ap (λ (x : Life). Took x (Spelled (Rtm number tag opt form))) (same_life-true from source is)))
+not_heard_by source (Took from (Spelled (Rtm number tag confirm opt form))) no' n =
+    (elim (same_life from source) as (λ b. same_life from source ≡ b → then_some (b && number.0 == n) (head_of tag confirm opt form) ≡ None) [
+      | true ↦ λ is. absurd (no' (Spelled (Rtm number tag confirm opt form)) (ap (λ (x : Life). Took x (Spelled (Rtm number tag confirm opt form))) (same_life-true from source is)))
       | false ↦ λ is. refl
     ]) refl
 not_heard_by source _ no' n = refl

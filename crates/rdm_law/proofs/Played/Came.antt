@@ -13,13 +13,14 @@ use Rattle.rdm_model.specs.Local.{Local}
 use Rattle.rdm_model.specs.Joint.{IsJoint, IsDelivered, ComesFrom}
 use Rattle.rdm_model.specs.Settled.{waiting_datagrams}
 use Rattle.rdm_model.specs.Jobs.{is_fair, law_ops}
+use Rattle.rdm_law.specs.Worlds.{WasPushed, TookOnce}
 use Rattle.rdm_law.specs.Worlds.{IsWaiting, HasWaiting}
 use Rattle.rdm_law.proofs.Accounts.Wired.{Played}
 use Rattle.rdm_law.proofs.Central.Joint.{joint_parts}
 use Rattle.rdm_law.proofs.Lives.Logs.{at_log_of}
 use Rattle.rdm_law.proofs.Settled.Delivered.{numbered}
 use Rattle.rdm_law.proofs.Played.Apart.{DiffersFrom, AreApart}
-use Rattle.rdm_law.proofs.Played.Delivers.{AreNumbered, HadWaited, AllHadWaited, pushed_once}
+use Rattle.rdm_law.proofs.Played.Delivers.{AreNumbered, pushed_once}
 use Rattle.rdm_law.proofs.Played.JointDelivered.{unhandled_by_all}
 use Rattle.rdm_law.proofs.Played.Waiting.{apart_length, waits_in_history}
 use Rattle.rdm_law.proofs.Played.WaitingAll.{WaitsThere, WaitsOnce, waits_once, unhandled_in_log}
@@ -27,19 +28,19 @@ use Rattle.rdm_lists.proofs.Places.{member_at}
 
 -- what an entry handled had waited for its port
 had_waited : (logs : ℕ → List Entry) (e : Entry) (before : List Entry) (port : ℕ) (act : Act) → ComesFrom logs before e act → e.port.0 ≡ port
-    → HadWaited logs port (log_of port before) act
+    → WasPushed logs port (log_of port before) act
 had_waited logs e before port (Handle d answer) c is = (ap (λ (p : PortNo). p.0) c.0 ∙ is, c.1, unhandled_in_log d port before c.2)
 had_waited logs e before port (Next index op answer) c is = tt
 had_waited logs e before port (Push d) c is = tt
 had_waited logs e before port (Poll p) c is = tt
 
 -- so of all that a port handled in a history that is delivered
-all_had_waited : (logs : ℕ → List Entry) (history : List Entry) (port : ℕ) → IsDelivered logs history → AllHadWaited logs port (log_of port history)
+all_had_waited : (logs : ℕ → List Entry) (history : List Entry) (port : ℕ) → IsDelivered logs history → TookOnce logs port (log_of port history)
 unfolding log_of
 all_had_waited logs [] port d = tt
 all_had_waited logs (e ∷ before) port d =
     let earlier = all_had_waited logs before port d.0 in
-    at_log_of (λ (log : List Entry). AllHadWaited logs port log) port e before (λ is. (earlier, had_waited logs e before port e.act d.1 is)) (λ other. earlier)
+    at_log_of (λ (log : List Entry). TookOnce logs port log) port e before (λ is. (earlier, had_waited logs e before port e.act d.1 is)) (λ other. earlier)
 
 -- datagrams that wait, each at one place, are apart
 apart_at_places : (logs : ℕ → List Entry) (port : ℕ) (ds : List Datagram) → ((p : ℕ) → AreNumbered p (logs p))

@@ -9,8 +9,9 @@ use Rattle.rdm_model.specs.declared.entry.Act.TheVariants.{Next, Push, Handle, P
 use Rattle.rdm_model.specs.Steps.{count, is_push}
 use Rattle.rdm_model.specs.Wire.{PushedIn, IsOther, IsUnhandled}
 use Rattle.rdm_model.specs.Worlds.{put_at}
+use Rattle.rdm_law.specs.Worlds.{WasPushed, TookOnce}
 use Rattle.rdm_law.proofs.Played.Apart.{put_at_case, put_at_here, Differ, AreApart, apart_push, apart_without, member_around, member_without, member_seam}
-use Rattle.rdm_law.proofs.Played.Delivers.{IsNumbered, AreNumbered, HadWaited, AllHadWaited, Waits, Delivers, pushed_below, more_logs, pushed_still, pushed_before, more_numbered, more_handled, unhandled_still, unhandled_before}
+use Rattle.rdm_law.proofs.Played.Delivers.{IsNumbered, AreNumbered, Waits, Delivers, pushed_below, more_logs, pushed_still, pushed_before, more_numbered, more_handled, unhandled_still, unhandled_before}
 use Rattle.rdm_lists.proofs.Members.{member-append_left, member-append_right, member-append_cases}
 
 -- the act neither pushes nor handles
@@ -35,7 +36,7 @@ quiet_numbered port before (Handle p answer) q = tt
 quiet_numbered port before (Poll c) q = tt
 
 -- such an act handles nothing that had to wait
-quiet_waited : (logs : ℕ → List Entry) (port : ℕ) (before : List Entry) (act : Act) → IsQuiet act → HadWaited logs port before act
+quiet_waited : (logs : ℕ → List Entry) (port : ℕ) (before : List Entry) (act : Act) → IsQuiet act → WasPushed logs port before act
 quiet_waited logs port before (Next index op answer) q = tt
 quiet_waited logs port before (Push p) q = tt
 quiet_waited logs port before (Handle p answer) q = elim q [ ]
@@ -89,14 +90,14 @@ next_is_new logs d n is q h s e =
     absurd (omega arith)
 
 -- a new datagram is none that had waited
-new_other : (logs : ℕ → List Entry) (p : ℕ) (d : Datagram) (before : List Entry) (act : Act) → IsNew logs d → HadWaited logs p before act → IsOther d act
+new_other : (logs : ℕ → List Entry) (p : ℕ) (d : Datagram) (before : List Entry) (act : Act) → IsNew logs d → WasPushed logs p before act → IsOther d act
 new_other logs p d before (Handle q answer) new k = new q k.1
 new_other logs p d before (Next index op answer) new k = tt
 new_other logs p d before (Push q) new k = tt
 new_other logs p d before (Poll c) new k = tt
 
 -- a new datagram was never handled
-pub new_unhandled : (logs : ℕ → List Entry) (p : ℕ) (d : Datagram) (log : List Entry) → IsNew logs d → AllHadWaited logs p log → IsUnhandled d log
+pub new_unhandled : (logs : ℕ → List Entry) (p : ℕ) (d : Datagram) (log : List Entry) → IsNew logs d → TookOnce logs p log → IsUnhandled d log
 new_unhandled logs p d [] new h = tt
 new_unhandled logs p d (x ∷ before) new h = (new_unhandled logs p d before new h.0, new_other logs p d before x.act new h.1)
 
@@ -140,7 +141,7 @@ push_delivers logs waiting port e d is src number i =
     (subst (λ (log : List Entry). PushedIn d log) (sym (put_at_here port (e ∷ logs port) logs)) (inl is)) in
     record {
       numbered = more_numbered logs port e i.numbered (let P : Act → Type 0 = λ act. IsNumbered port (logs port) act in subst P (sym is) (src, number));
-      handled = more_handled logs port e i.handled (let P : Act → Type 0 = λ act. HadWaited logs port (logs port) act in subst P (sym is) tt);
+      handled = more_handled logs port e i.handled (let P : Act → Type 0 = λ act. WasPushed logs port (logs port) act in subst P (sym is) tt);
       waits = λ p q m. elim (one_more_cases waiting d q p m) [
         | inl a ↦
             let P : Datagram → Type 0 = λ x. Waits (more_logs logs port e) p x in
@@ -202,7 +203,7 @@ handle_delivers logs waiting port e d answer front back is was i =
     record {
       numbered = more_numbered logs port e i.numbered (let P : Act → Type 0 = λ act. IsNumbered port (logs port) act in subst P (sym is) tt);
       handled = more_handled logs port e i.handled
-          (let P : Act → Type 0 = λ act. HadWaited logs port (logs port) act in subst P (sym is) (w.for_it, w.pushed, w.fresh));
+          (let P : Act → Type 0 = λ act. WasPushed logs port (logs port) act in subst P (sym is) (w.for_it, w.pushed, w.fresh));
       waits = λ p q m.
           let k = one_less_was waiting port front d back q p was m in
           let v = i.waits p q k.0 in

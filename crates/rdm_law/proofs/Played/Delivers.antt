@@ -9,6 +9,7 @@ use Rattle.rdm_model.specs.declared.entry.Act.TheVariants.{Next, Push, Handle, P
 use Rattle.rdm_model.specs.Steps.{count, is_push}
 use Rattle.rdm_model.specs.Wire.{PushedIn, IsOther, IsUnhandled}
 use Rattle.rdm_model.specs.Worlds.{put_at}
+use Rattle.rdm_law.specs.Worlds.{WasPushed, TookOnce}
 use Rattle.rdm_law.proofs.Played.Apart.{put_at_case, AreApart}
 use Rattle.rdm_law.proofs.Accounts.Wired.{HandledIn}
 
@@ -22,22 +23,12 @@ abbrev pub AreNumbered : ℕ → List Entry → Type 0
 AreNumbered port [] = Unit {0}
 AreNumbered port (e ∷ before) = AreNumbered port before × IsNumbered port before e.act
 
--- a handled datagram was for the port, was pushed by its source, and had not been handled
-abbrev pub HadWaited : (ℕ → List Entry) → ℕ → List Entry → Act → Type 0
-HadWaited logs port before (Handle d answer) = (d.dst.0 ≡ port) × PushedIn d (logs d.src.0) × IsUnhandled d before
-HadWaited logs port before _ = Unit {0}
-
--- each handled datagram had
-abbrev pub AllHadWaited : (ℕ → List Entry) → ℕ → List Entry → Type 0
-AllHadWaited logs port [] = Unit {0}
-AllHadWaited logs port (e ∷ before) = AllHadWaited logs port before × HadWaited logs port before e.act
-
 -- what a port took was for it, and was pushed
-pub handled_waited : (logs : ℕ → List Entry) (port : ℕ) (q : Datagram) (log : List Entry) → AllHadWaited logs port log → HandledIn q log → (q.dst.0 ≡ port) × PushedIn q (logs q.src.0)
+pub handled_waited : (logs : ℕ → List Entry) (port : ℕ) (q : Datagram) (log : List Entry) → TookOnce logs port log → HandledIn q log → (q.dst.0 ≡ port) × PushedIn q (logs q.src.0)
 handled_waited logs port q [] h k = elim k [ ]
 handled_waited logs port q (e ∷ before) h (inl k) =
-    let P : Act → Type 0 = λ act. HadWaited logs port before act in
-    let had : HadWaited logs port before (Handle q (TookAnswer k.0)) = subst P k.1 h.1 in
+    let P : Act → Type 0 = λ act. WasPushed logs port before act in
+    let had : WasPushed logs port before (Handle q (TookAnswer k.0)) = subst P k.1 h.1 in
     (had.0, had.1)
 handled_waited logs port q (e ∷ before) h (inr k) = handled_waited logs port q before h.0 k
 
@@ -50,7 +41,7 @@ pub record Waits (logs : ℕ → List Entry) (port : ℕ) (d : Datagram) : Type 
 -- what waits for each port is what was pushed to it and not handled, each datagram once
 pub record Delivers (logs : ℕ → List Entry) (waiting : ℕ → List Datagram) : Type 0 where
   pub numbered : (port : ℕ) → AreNumbered port (logs port)
-  pub handled : (port : ℕ) → AllHadWaited logs port (logs port)
+  pub handled : (port : ℕ) → TookOnce logs port (logs port)
   pub waits : (port : ℕ) (d : Datagram) → Member d (waiting port) → Waits logs port d
   pub apart : (port : ℕ) → AreApart (waiting port)
   pub arrives : (d : Datagram) → PushedIn d (logs d.src.0) → IsUnhandled d (logs d.dst.0) → Member d (waiting d.dst.0)
@@ -111,15 +102,15 @@ pushed_before logs port e d p =
     (λ is h. elim h [ inl now ↦ inl (is, now) | inr k ↦ inr (subst (λ (x : ℕ). PushedIn d (logs x)) (sym is) k) ]) (λ other h. inr h)
 
 -- what had waited still had, by longer logs
-had_waited_still : (logs : ℕ → List Entry) (port : ℕ) (e : Entry) (p : ℕ) (before : List Entry) (act : Act) → HadWaited logs p before act
-    → HadWaited (more_logs logs port e) p before act
+had_waited_still : (logs : ℕ → List Entry) (port : ℕ) (e : Entry) (p : ℕ) (before : List Entry) (act : Act) → WasPushed logs p before act
+    → WasPushed (more_logs logs port e) p before act
 had_waited_still logs port e p before (Handle d answer) h = (h.0, pushed_still logs port e d d.src.0 h.1, h.2)
 had_waited_still logs port e p before (Next index op answer) h = tt
 had_waited_still logs port e p before (Push d) h = tt
 had_waited_still logs port e p before (Poll c) h = tt
 
 -- so of a whole log
-all_had_waited_still : (logs : ℕ → List Entry) (port : ℕ) (e : Entry) (p : ℕ) (log : List Entry) → AllHadWaited logs p log → AllHadWaited (more_logs logs port e) p log
+all_had_waited_still : (logs : ℕ → List Entry) (port : ℕ) (e : Entry) (p : ℕ) (log : List Entry) → TookOnce logs p log → TookOnce (more_logs logs port e) p log
 all_had_waited_still logs port e p [] h = tt
 all_had_waited_still logs port e p (x ∷ before) h =
     (all_had_waited_still logs port e p before h.0, had_waited_still logs port e p before x.act h.1)
@@ -132,11 +123,11 @@ more_numbered logs port e n new p =
     (λ is. subst (λ (x : ℕ). AreNumbered x (e ∷ logs port)) (sym is) (n port, new)) (λ other. n p)
 
 -- each log's handled datagrams had waited, with one more entry
-pub more_handled : (logs : ℕ → List Entry) (port : ℕ) (e : Entry) → ((p : ℕ) → AllHadWaited logs p (logs p)) → HadWaited logs port (logs port) e.act
-    → (p : ℕ) → AllHadWaited (more_logs logs port e) p (more_logs logs port e p)
+pub more_handled : (logs : ℕ → List Entry) (port : ℕ) (e : Entry) → ((p : ℕ) → TookOnce logs p (logs p)) → WasPushed logs port (logs port) e.act
+    → (p : ℕ) → TookOnce (more_logs logs port e) p (more_logs logs port e p)
 more_handled logs port e n new p =
-    put_at_case (λ (log : List Entry). AllHadWaited (more_logs logs port e) p log) port (e ∷ logs port) logs p
-    (λ is. subst (λ (x : ℕ). AllHadWaited (more_logs logs port e) x (e ∷ logs port)) (sym is)
+    put_at_case (λ (log : List Entry). TookOnce (more_logs logs port e) p log) port (e ∷ logs port) logs p
+    (λ is. subst (λ (x : ℕ). TookOnce (more_logs logs port e) x (e ∷ logs port)) (sym is)
     (all_had_waited_still logs port e port (logs port) (n port), had_waited_still logs port e port (logs port) e.act new))
     (λ other. all_had_waited_still logs port e p (logs p) (n p))
 

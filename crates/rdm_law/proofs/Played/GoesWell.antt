@@ -34,6 +34,7 @@ use Rattle.rdm_law.proofs.Fits.SentFits.{DeedsFit}
 use Rattle.rdm_law.proofs.Fits.RepliesFit.{OwnFits, HeadsFit, heads_fit}
 use Rattle.rdm_law.proofs.Fits.DuesFit.{due_fits}
 use Rattle.rdm_law.proofs.Played.Sound.{GoesWell}
+use Rattle.rdm_law.proofs.Fits.OpeningsFit.{LimitsFit}
 use Rattle.rdm_law.proofs.Fits.FairJobs.{JobFits, fair_job, all_did_fit, all_taken_fit, life_did, life_taken, life_count, did_instructions, next_within}
 
 -- none is not some
@@ -174,6 +175,11 @@ life_begins job port log c fair is =
       features = rank.features;
     }
 
+-- a life's limits fit in a fair job, since its pools are not of those that packets turn on
+own_limits_fit : (job : Job) (life : Life) → JobFits job → LimitsFit (own_of job life).limits
+unfolding own_of
+own_limits_fit job life fair = record { mtu = fair.limits.mtu; credits = fair.limits.credits; credits_top = fair.limits.credits_top }
+
 -- what goes out of an open life can go
 open_goes_well : (job : Job) (port : ℕ) (log : List Entry) (to : Life) (item : Item) (c : Connid) → JobFits job → Local job port log → AllHandledFit log
     → open_life (deeds_at job port log) ≡ Some c → going (own_scene job port (deeds_at job port log)) ≡ Some (Goes to item) → CanGo item
@@ -187,7 +193,7 @@ open_goes_well job port log to item c fair l h is goes =
     let ms = heard_by own.limits.first mine in
     let bytes : MessagesFit ms = λ source k. bytes_by_fit own.limits.first mine source k fits.taken in
     let heads : HeadsFit ms.head = heads_fit mine fits.taken in
-    due_fits (port_count job) own ms mine t.0 to item (life_begins job port log c fair is) fair.limits bytes heads fits.deeds_fit fits.taken t.1 t.2
+    due_fits (port_count job) own ms mine t.0 to item (life_begins job port log c fair is) (own_limits_fit job own.life fair) bytes heads fits.deeds_fit fits.taken t.1 t.2
 
 -- what goes out in a fair job fits the wire
 pub goes_well : (job : Job) → IsTrue (is_fair law_ops job) → GoesWell job

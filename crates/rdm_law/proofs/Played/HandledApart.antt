@@ -7,8 +7,8 @@ use Rattle.rdm_model.specs.declared.entry.Act.{Act}
 use Rattle.rdm_model.specs.declared.entry.Act.TheVariants.{Next, Push, Handle, Poll}
 use Rattle.rdm_model.specs.Steps.{count}
 use Rattle.rdm_model.specs.Wire.{PushedIn, IsOther, IsUnhandled}
+use Rattle.rdm_law.specs.Worlds.{WasPushed, TookOnce}
 use Rattle.rdm_law.proofs.Played.Apart.{Differ, AreApart}
-use Rattle.rdm_law.proofs.Played.Delivers.{HadWaited, AllHadWaited}
 use Rattle.rdm_law.proofs.Played.Counted.{is_handling}
 use Rattle.rdm_lists.proofs.Members.{member-append_cases}
 
@@ -46,7 +46,7 @@ pub record Came (logs : ℕ → List Entry) (port : ℕ) (d : Datagram) : Type 0
   pub pushed : PushedIn d (logs d.src.0)
 
 -- what an act handled came
-came_by : (logs : ℕ → List Entry) (port : ℕ) (before : List Entry) (act : Act) (d : Datagram) → HadWaited logs port before act → Member d (handled_by act) → Came logs port d
+came_by : (logs : ℕ → List Entry) (port : ℕ) (before : List Entry) (act : Act) (d : Datagram) → WasPushed logs port before act → Member d (handled_by act) → Came logs port d
 unfolding handled_by
 came_by logs port before (Handle q answer) d h (inl is) = subst (Came logs port) is (record { for_it = h.0; pushed = h.1 })
 came_by logs port before (Handle q answer) d h (inr m) = elim m [ ]
@@ -55,7 +55,7 @@ came_by logs port before (Push q) d h m = elim m [ ]
 came_by logs port before (Poll c) d h m = elim m [ ]
 
 -- what a log handled came
-pub handled_came : (logs : ℕ → List Entry) (port : ℕ) (log : List Entry) (d : Datagram) → AllHadWaited logs port log → Member d (handled_in log) → Came logs port d
+pub handled_came : (logs : ℕ → List Entry) (port : ℕ) (log : List Entry) (d : Datagram) → TookOnce logs port log → Member d (handled_in log) → Came logs port d
 unfolding handled_in
 handled_came logs port [] d h m = elim m [ ]
 handled_came logs port (e ∷ before) d h m =
@@ -100,7 +100,7 @@ one_apart (Push d) = tt
 one_apart (Poll c) = tt
 
 -- what the newest act handled differs from all that was handled before
-newest_differs : (logs : ℕ → List Entry) (port : ℕ) (before : List Entry) (act : Act) (x y : Datagram) → HadWaited logs port before act → Member x (handled_by act)
+newest_differs : (logs : ℕ → List Entry) (port : ℕ) (before : List Entry) (act : Act) (x y : Datagram) → WasPushed logs port before act → Member x (handled_by act)
     → Member y (handled_in before) → Differ x y
 unfolding handled_by
 newest_differs logs port before (Handle d answer) x y h (inl is) k = subst (λ (z : Datagram). Differ z y) is (unhandled_differs d before y h.2 k)
@@ -110,7 +110,7 @@ newest_differs logs port before (Push d) x y h m k = elim m [ ]
 newest_differs logs port before (Poll c) x y h m k = elim m [ ]
 
 -- what a log handled is apart
-pub handled_apart : (logs : ℕ → List Entry) (port : ℕ) (log : List Entry) → AllHadWaited logs port log → AreApart (handled_in log)
+pub handled_apart : (logs : ℕ → List Entry) (port : ℕ) (log : List Entry) → TookOnce logs port log → AreApart (handled_in log)
 unfolding handled_in
 handled_apart logs port [] h = tt
 handled_apart logs port (e ∷ before) h =

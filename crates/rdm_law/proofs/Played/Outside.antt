@@ -34,12 +34,12 @@ use Rattle.rdm_model.specs.Settled.{is_worn, is_worn_by}
 use Rattle.rdm_model.specs.Local.{heard_by, own_scene}
 use Rattle.rdm_model.specs.Wire.{PushedIn}
 use Rattle.rdm_model.specs.Worlds.{World, new_world, scene_in, with_entry, step_next, datagram_of, with_push, step_push, after_fetch, with_handle, after_handle_at, after_pick, step_handle, with_poll, after_choice}
+use Rattle.rdm_law.specs.Worlds.{WasPushed, TookOnce}
 use Rattle.rdm_law.proofs.Lives.Lives.{life_of, opened_scene, at_of_life}
 use Rattle.rdm_law.proofs.Fits.RegionsFit.{DidFits, AllDidFit}
 use Rattle.rdm_law.proofs.Fits.FairJobs.{fair_job, all_did_fit}
 use Rattle.rdm_law.proofs.Played.GoesWell.{life_goes, closed_goes}
 use Rattle.rdm_law.proofs.Played.Apart.{put_at_there}
-use Rattle.rdm_law.proofs.Played.Delivers.{HadWaited, AllHadWaited}
 use Rattle.rdm_law.proofs.Played.Sound.{Sound, chosen}
 use Rattle.rdm_law.proofs.Played.PlayedSteps.{Keeps}
 use Rattle.rdm_law.proofs.Played.Quiet.{going_to}
@@ -140,7 +140,7 @@ push_of ports (Note note) = tt
 push_of ports (Between from to load) = tt
 
 -- each act
-act_of : (job : Job) (w : World) (port : ℕ) (before : List Entry) (ops : List Instr) (act : Act) → OutsideEmpty job w → HadWaited w.logs port before act
+act_of : (job : Job) (w : World) (port : ℕ) (before : List Entry) (ops : List Instr) (act : Act) → OutsideEmpty job w → WasPushed w.logs port before act
     → DidFits (port_count job) (deed_of ops act) → LifeIs (OfRank (port_count job)) (deed_of ops act)
 unfolding deed_of
 act_of job w port before ops (Next index op answer) empty h fit = next_of (port_count job) (slice_get ops index) answer fit
@@ -149,7 +149,7 @@ act_of job w port before ops (Handle d answer) empty h fit = handled_of (port_co
 act_of job w port before ops (Poll c) empty h fit = tt
 
 -- each life that a port inserted or took from is of a rank
-log_of_ranks : (job : Job) (w : World) (port : ℕ) (ops : List Instr) (log : List Entry) → OutsideEmpty job w → AllHadWaited w.logs port log → AllDidFit (port_count job) (deeds ops log)
+log_of_ranks : (job : Job) (w : World) (port : ℕ) (ops : List Instr) (log : List Entry) → OutsideEmpty job w → TookOnce w.logs port log → AllDidFit (port_count job) (deeds ops log)
     → LivesAre (OfRank (port_count job)) (deeds ops log)
 unfolding deeds
 log_of_ranks job w port ops [] empty h fit = tt

@@ -13,7 +13,7 @@ use Rattle.rdm_model.specs.Owns.{Own, Messages, Heads}
 use Rattle.rdm_model.specs.Currents.{inserted_by, last_inserted, seen_by, first_seen, current}
 use Rattle.rdm_model.specs.Notes.{OwedNote, note_to, notes_by, notes, next_note}
 use Rattle.rdm_model.specs.Matches.{pairs}
-use Rattle.rdm_model.specs.Sends.{Sent, sends_to, new_sent, range_of, sends}
+use Rattle.rdm_model.specs.Sends.{Sent, sends_to, new_sent, bytes_of, sends}
 use Rattle.rdm_model.specs.Regions.{regions}
 use Rattle.rdm_model.specs.Replies.{Reply}
 use Rattle.rdm_model.specs.Dues.{Due, Replies, Sends, progress, due}
@@ -100,7 +100,7 @@ sends_are_to P own ms (d ∷ before) h s m =
     (λ x t old n was. was)
     (λ t n.
     subst (λ (x : Sent). P x.to) (sym n.is)
-    (new_to P own before (length (sends own ms before)) (length (sends_to (sends own ms before) n.to)) n.req n.to (range_of (regions own.limits.first ms before) n.req.region.0 n.req.at n.req.len)
+    (new_to P own before (length (sends own ms before)) (length (sends_to (sends own ms before) n.to)) n.req n.to (bytes_of (regions own.limits.first ms before) n.req.parts)
     (current_is P n.req.to.0 before n.to h.0 n.current)))
     s m
 

@@ -13,8 +13,9 @@ use Rattle.rdm_model.specs.Deeds.{log_of}
 use Rattle.rdm_model.specs.Wire.{PushedIn, IsOther, IsUnhandled}
 use Rattle.rdm_model.specs.Joint.{IsJoint}
 use Rattle.rdm_model.specs.Settled.{same_datagram, waiting_after, waiting_datagrams}
+use Rattle.rdm_law.specs.Worlds.{TookOnce}
 use Rattle.rdm_law.proofs.Played.Apart.{AreApart, member_without}
-use Rattle.rdm_law.proofs.Played.Delivers.{Delivers, AllHadWaited}
+use Rattle.rdm_law.proofs.Played.Delivers.{Delivers}
 use Rattle.rdm_law.proofs.Lives.Logs.{at_log_of}
 use Rattle.rdm_law.proofs.Played.JointDelivered.{unhandled_by_all}
 use Rattle.rdm_lists.proofs.Members.{member-append_left, member-append_right, filter-member}
@@ -104,7 +105,7 @@ waits_jointly logs waiting history port d i joint m =
     let fresh : IsUnhandled d (logs d.dst.0) = subst (λ (x : ℕ). IsUnhandled d (logs x)) (sym w.for_it) w.fresh in
     let mine : IsUnhandled d (log_of d.dst.0 history) = subst Q (sym (joint.logs_are d.dst.0)) fresh in
     let all = unhandled_by_all logs d history i.numbered w.pushed
-    (λ p. (let R : List Entry → Type 0 = λ log. AllHadWaited logs p log in subst R (sym (joint.logs_are p)) (i.handled p))) mine in
+    (λ p. (let R : List Entry → Type 0 = λ log. TookOnce logs p log in subst R (sym (joint.logs_are p)) (i.handled p))) mine in
     subst (λ (x : ℕ). Member d (waiting_datagrams x history)) w.for_it (waits_in_history history d pushed all)
 
 -- no more wait by the logs than in the history

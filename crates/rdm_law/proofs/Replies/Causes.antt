@@ -1,11 +1,13 @@
 -- What a reply of each kind says of the life that owes it.
-use Rattle.std.proofs.Common.{◌≡◌, ℕ, ◌<◌, true, List, [], ◌∷◌, take, drop, Some, inl, inr, ◌∙◌, ap, subst}
+use Rattle.std.proofs.Common.{◌≡◌, ℕ, ◌<◌, true, List, [], ◌∷◌, take, drop, Option, Some, inl, inr, ◌∙◌, ap, subst}
 use Rattle.rdm_lists.specs.Lists.{Member}
 use Rattle.rdm_num.specs.declared.numbers.Life.{Life}
 use Rattle.rdm_num.specs.declared.numbers.Connid.{Connid}
 use Rattle.rdm_num.specs.declared.numbers.OpId.{OpId}
+use Rattle.rdm_num.specs.declared.numbers.PortNo.{PortNo}
+use Rattle.rdm_num.specs.declared.numbers.MsgNo.{MsgNo}
 use Rattle.rdm_num.specs.declared.head.Shape.TheVariants.{LongCts}
-use Rattle.rdm_pkt.specs.declared.Packet.TheVariants.{Cts, Eor, Handshake}
+use Rattle.rdm_pkt.specs.declared.Packet.TheVariants.{Cts, Eor, Handshake, Receipt}
 use Rattle.rdm_wire.specs.declared.ReadAsk.{ReadAsk}
 use Rattle.rdm_wire.specs.declared.ReadData.{ReadData}
 use Rattle.rdm_match.specs.Matcher.{Pair}
@@ -149,17 +151,28 @@ owed_end own ms (d ∷ before) r send recv connid (inl (inr (inr (inr (inl n))))
 owed_end own ms (d ∷ before) r send recv connid (inl (inr (inr (inr (inr n))))) is = (let e = n.is in cc)
 
 -- a handshake that is owed is for a datagram that was taken
-pub owed_shake : (own : Own) (ms : Messages) (log : List Deed) (r : Reply) (words : List ℕ) (connid : Connid) → OwedIn own ms r log
-    → r.item ≡ Spelled (Handshake words connid) → OfShake own log r.to words connid
-owed_shake own ms [] r words connid h is = elim h [ ]
-owed_shake own ms (d ∷ before) r words connid (inr h) is =
-    let o = owed_shake own ms before r words connid h is in record { item = o.item; took = inr o.took; words_are = o.words_are; connid_is = o.connid_is }
-owed_shake own ms (d ∷ before) r words connid (inl (inl n)) is =
+pub owed_shake : (own : Own) (ms : Messages) (log : List Deed) (r : Reply) (words : List ℕ) (connid : Connid) (raw : Option PortNo) → OwedIn own ms r log
+    → r.item ≡ Spelled (Handshake words connid raw) → OfShake own log r.to words connid
+owed_shake own ms [] r words connid raw h is = elim h [ ]
+owed_shake own ms (d ∷ before) r words connid raw (inr h) is =
+    let o = owed_shake own ms before r words connid raw h is in record { item = o.item; took = inr o.took; words_are = o.words_are; connid_is = o.connid_is }
+owed_shake own ms (d ∷ before) r words connid raw (inl (inl n)) is =
     let f = n.is in record { item = n.item; took = inl n.took; words_are = cc; connid_is = cc }
-owed_shake own ms (d ∷ before) r words connid (inl (inr (inl n))) is = (let e = n.is in cc)
-owed_shake own ms (d ∷ before) r words connid (inl (inr (inr (inl n)))) is = (let e = n.is in cc)
-owed_shake own ms (d ∷ before) r words connid (inl (inr (inr (inr (inl n))))) is = (let e = n.is in cc)
-owed_shake own ms (d ∷ before) r words connid (inl (inr (inr (inr (inr n))))) is = (let e = n.is in cc)
+owed_shake own ms (d ∷ before) r words connid raw (inl (inr (inl n))) is = (let e = n.is in cc)
+owed_shake own ms (d ∷ before) r words connid raw (inl (inr (inr (inl n)))) is = (let e = n.is in cc)
+owed_shake own ms (d ∷ before) r words connid raw (inl (inr (inr (inr (inl n))))) is = (let e = n.is in cc)
+owed_shake own ms (d ∷ before) r words connid raw (inl (inr (inr (inr (inr n))))) is = (let e = n.is in cc)
+
+-- no receipt is owed
+pub owed_receipt : (own : Own) (ms : Messages) (log : List Deed) (r : Reply) (number : MsgNo) (connid : Connid) → OwedIn own ms r log
+    → r.item ≡ Spelled (Receipt number connid) → ⊥
+owed_receipt own ms [] r number connid h is = elim h [ ]
+owed_receipt own ms (d ∷ before) r number connid (inr h) is = owed_receipt own ms before r number connid h is
+owed_receipt own ms (d ∷ before) r number connid (inl (inl n)) is = (let e = n.is in cc)
+owed_receipt own ms (d ∷ before) r number connid (inl (inr (inl n))) is = (let e = n.is in cc)
+owed_receipt own ms (d ∷ before) r number connid (inl (inr (inr (inl n)))) is = (let e = n.is in cc)
+owed_receipt own ms (d ∷ before) r number connid (inl (inr (inr (inr (inl n))))) is = (let e = n.is in cc)
+owed_receipt own ms (d ∷ before) r number connid (inl (inr (inr (inr (inr n))))) is = (let e = n.is in cc)
 
 -- a send stays one of the sends
 sent_still : (own : Own) (ms : Messages) (d : Deed) (before : List Deed) (s : Sent) → Member s (sends own ms before) → Member s (sends own ms (d ∷ before))

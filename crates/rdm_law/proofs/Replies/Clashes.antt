@@ -1,5 +1,6 @@
 -- Replies that clash: what is owed has one of them at most.
-use Rattle.std.proofs.Common.{◌≡◌, ℕ, List, length, ◌⊎◌, inl, inr, sym, ◌∙◌, ap}
+use Rattle.std.proofs.Common.{Option, ◌≡◌, ℕ, List, length, ◌⊎◌, inl, inr, sym, ◌∙◌, ap}
+use Rattle.rdm_num.specs.declared.numbers.PortNo.{PortNo}
 use Rattle.rdm_num.specs.declared.numbers.Connid.{Connid}
 use Rattle.rdm_num.specs.declared.numbers.OpId.{OpId}
 use Rattle.rdm_pkt.specs.declared.Packet.TheVariants.{Cts, Eor, Handshake}
@@ -17,10 +18,12 @@ pub record ClashShake (r s : Reply) : Type 0 where
   pub to_is : r.to ≡ s.to
   pub words : List ℕ
   pub connid : Connid
-  pub is : r.item ≡ Spelled (Handshake words connid)
+  pub raw : Option PortNo
+  pub is : r.item ≡ Spelled (Handshake words connid raw)
   pub words' : List ℕ
   pub connid' : Connid
-  pub is' : s.item ≡ Spelled (Handshake words' connid')
+  pub raw' : Option PortNo
+  pub is' : s.item ≡ Spelled (Handshake words' connid' raw')
 
 -- two asks of one receive that share a byte
 pub record ClashAsk (r s : Reply) : Type 0 where
@@ -59,7 +62,7 @@ Clash r s = ClashShake r s ⊎ (ClashAsk r s ⊎ (ClashEnd r s ⊎ ClashGiven r 
 
 -- clashes hold both ways
 pub clash_back : (r s : Reply) → Clash r s → Clash s r
-clash_back r s (inl c) = inl (record { to_is = sym c.to_is; words = c.words'; connid = c.connid'; is = c.is'; words' = c.words; connid' = c.connid; is' = c.is })
+clash_back r s (inl c) = inl (record { to_is = sym c.to_is; words = c.words'; connid = c.connid'; raw = c.raw'; is = c.is'; words' = c.words; connid' = c.connid; raw' = c.raw; is' = c.is })
 clash_back r s (inr (inl c)) = inr (inl (record { ask = c.ask'; is = c.is'; ask' = c.ask; is' = c.is; recv_is = sym c.recv_is; share = asks_share_back c.ask c.ask' c.share }))
 clash_back r s (inr (inr (inl c))) =
     inr (inr (inl (record { send = c.send'; recv = c.recv'; connid = c.connid'; is = c.is'; send' = c.send; recv' = c.recv; connid' = c.connid; is' = c.is; recv_is = sym c.recv_is })))
@@ -77,7 +80,7 @@ pub data Kind : Type 0 where
 
 -- the kind of a reply
 unfoldable pub kind_of : Item → Kind
-kind_of (Spelled (Handshake words connid)) = Shakes
+kind_of (Spelled (Handshake words connid raw)) = Shakes
 kind_of (Spelled (Cts send recv size connid)) = Grants
 kind_of (Spelled (Eor send recv connid)) = Ends
 kind_of (Asks a) = AsksBytes

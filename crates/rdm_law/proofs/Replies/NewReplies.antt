@@ -46,8 +46,8 @@ pub record Telling (K : Reply → Reply → Type 0) : Type 0 where
 shakes_unique : (K : Reply → Reply → Type 0) (own : Own) (before : List Deed) (d : Deed) → Unique K (handshake_by own before d)
 unfolding handshake_by
 shakes_unique K own before (Took from item) =
-    unique_unless K (list_any (is_from from) before) (reply from (Spelled (Handshake (own.features ∷ []) own.life.connid)) ∷ [])
-    (unique_one K (reply from (Spelled (Handshake (own.features ∷ []) own.life.connid))))
+    unique_unless K (list_any (is_from from) before) (reply from (Spelled (Handshake (own.features ∷ []) own.life.connid None)) ∷ [])
+    (unique_one K (reply from (Spelled (Handshake (own.features ∷ []) own.life.connid None))))
 shakes_unique K own before _ = unique_none K
 
 -- a pair owes one grant at most by a deed

@@ -36,7 +36,7 @@ pub record NewShake (own : Own) (d : Deed) (before : List Deed) (r : Reply) : Ty
   pub item : Item
   pub took : d ≡ Took r.to item
   pub first : list_any (is_from r.to) before ≡ false
-  pub is : r.item ≡ Spelled (Handshake (own.features ∷ []) own.life.connid)
+  pub is : r.item ≡ Spelled (Handshake (own.features ∷ []) own.life.connid None)
   pub gives_is : r.gives ≡ None
 
 -- a new pair owes its asks
@@ -94,7 +94,7 @@ NewReply own heads sents d before r =
 pub shake_from : (own : Own) (before : List Deed) (d : Deed) (r : Reply) → Member r (handshake_by own before d) → NewShake own d before r
 unfolding handshake_by
 shake_from own before (Took from item) r h =
-    let one : Reply = reply from (Spelled (Handshake (own.features ∷ []) own.life.connid)) in
+    let one : Reply = reply from (Spelled (Handshake (own.features ∷ []) own.life.connid None)) in
     (elim (list_any (is_from from) before) as (λ b. list_any (is_from from) before ≡ b → Member r (cond b [] (one ∷ [])) → NewShake own (Took from item) before r) [
       | true ↦ λ t k. elim k [ ]
       | false ↦ λ t k. elim k [

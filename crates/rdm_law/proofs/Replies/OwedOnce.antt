@@ -79,7 +79,7 @@ Fresh own ms d before =
 -- a handshake is owed for the first datagram alone
 fresh_shake : (own : Own) (ms : Messages) (d : Deed) (before : List Deed) (r s : Reply) → OwedIn own ms r before → NewReply own ms.head (sends own ms before) d before s → ClashShake r s → ⊥
 fresh_shake own ms d before r s h (inl n) c =
-    let o = owed_shake own ms before r c.words c.connid h c.is in
+    let o = owed_shake own ms before r c.words c.connid c.raw h c.is in
     let t = took_again r.to o.item before o.took in
     let f : list_any (is_from r.to) before ≡ false = subst (λ (x : Life). list_any (is_from x) before ≡ false) (sym c.to_is) n.first in
     cc

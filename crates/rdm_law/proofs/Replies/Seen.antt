@@ -18,7 +18,7 @@ pub pair_seen : (first : ℕ) (heads : Heads) (log : List Deed) (p : Pair) → M
 pair_seen first heads log p m =
     let h = pair_heard first heads log p m in
     let t = heard_taken log p.message.life p.message.no.0 h.0 h.1 in
-    (Spelled (Rtm t.number t.tag t.opt t.form), t.took)
+    (Spelled (Rtm t.number t.tag t.confirm t.opt t.form), t.took)
 
 -- what a deed makes owed to a life is owed for a datagram of it
 new_seen : (own : Own) (heads : Heads) (sents : List Sent) (d : Deed) (before : List Deed) (r : Reply) → NewReply own heads sents d before r

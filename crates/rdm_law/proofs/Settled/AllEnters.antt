@@ -15,7 +15,7 @@ use Rattle.rdm_pkt.specs.declared.Packet.{Packet}
 use Rattle.rdm_pkt.specs.declared.Packet.TheVariants.{Rtm}
 use Rattle.rdm_pkt.specs.declared.Form.{Form}
 use Rattle.rdm_pkt.specs.Heads.{head_of}
-use Rattle.rdm_pkt.specs.Openings.{openings}
+use Rattle.rdm_pkt.specs.Openings.{openings, says_confirm}
 use Rattle.rdm_wire.specs.declared.Datagram.{Datagram}
 use Rattle.rdm_model.specs.declared.job.Job.{Job}
 use Rattle.rdm_model.specs.declared.entry.Entry.{Entry}
@@ -64,20 +64,20 @@ now_some None y h = h
 now_some (Some a) y h = refl
 
 -- a taken opening tells a head
-took_head : (before : List Deed) (d : Deed) (from : Life) (number : MsgNo) (tag : Option ℕ) (opt : Opt) (form : Form) → d ≡ Took from (Spelled (Rtm number tag opt form))
+took_head : (before : List Deed) (d : Deed) (from : Life) (number : MsgNo) (tag : Option ℕ) (confirm : Bool) (opt : Opt) (form : Form) → d ≡ Took from (Spelled (Rtm number tag confirm opt form))
     → is_some (or_else (heard_head before from number.0) (head_by from number.0 d)) ≡ true
 unfolding head_by
-took_head before d from number tag opt form e =
+took_head before d from number tag confirm opt form e =
     now_some (heard_head before from number.0) (head_by from number.0 d)
-    (ap (λ (x : Deed). is_some (head_by from number.0 x)) e ∙ ap (λ (b : Bool). is_some {T = Head} (then_some b (head_of tag opt form))) (and_from (same_life from from) (number.0 == number.0) (same_life-refl from) (eq-eqb number.0 number.0 refl)))
+    (ap (λ (x : Deed). is_some (head_by from number.0 x)) e ∙ ap (λ (b : Bool). is_some {T = Head} (then_some b (head_of tag confirm opt form))) (and_from (same_life from from) (number.0 == number.0) (same_life-refl from) (eq-eqb number.0 number.0 refl)))
 
 -- a message whose opening was taken was heard of
-pub took_heard : (log : List Deed) (from : Life) (number : MsgNo) (tag : Option ℕ) (opt : Opt) (form : Form) → Member (Took from (Spelled (Rtm number tag opt form))) log
+pub took_heard : (log : List Deed) (from : Life) (number : MsgNo) (tag : Option ℕ) (confirm : Bool) (opt : Opt) (form : Form) → Member (Took from (Spelled (Rtm number tag confirm opt form))) log
     → is_heard log from number.0 ≡ true
 unfolding is_heard heard_head
-took_heard [] from number tag opt form m = elim m [ ]
-took_heard (d ∷ before) from number tag opt form (inl a) = took_head before d from number tag opt form a
-took_heard (d ∷ before) from number tag opt form (inr a) = still_some (heard_head before from number.0) (head_by from number.0 d) (took_heard before from number tag opt form a)
+took_heard [] from number tag confirm opt form m = elim m [ ]
+took_heard (d ∷ before) from number tag confirm opt form (inl a) = took_head before d from number tag confirm opt form a
+took_heard (d ∷ before) from number tag confirm opt form (inr a) = still_some (heard_head before from number.0) (head_by from number.0 d) (took_heard before from number tag confirm opt form a)
 
 -- the only element stands first
 one_at : (s t : Sent) (k : ℕ) → slice_get (s ∷ []) k ≡ Some t → (k ≡ 0) × (s ≡ t)
@@ -177,7 +177,7 @@ rest_pushed own ms log t m f (inl over) = over_pushed own ms log t (pushed_of ow
 rest_pushed own ms log t m f (inr none) = inl (none_pushed' own log t (pushed_of own ms log t.number) (underway own ms log t m) none)
 
 -- an opening as an item
-rtm_item : (p : Packet) (t : Sent) (form : Form) → p ≡ Rtm t.message.no t.message.tag t.message.opt form → ◌≡◌ {A = Item} (Spelled p) (Spelled (Rtm t.message.no t.message.tag t.message.opt form))
+rtm_item : (p : Packet) (t : Sent) (form : Form) → p ≡ Rtm t.message.no t.message.tag (says_confirm t.kind t.message.confirm) t.message.opt form → ◌≡◌ {A = Item} (Spelled p) (Spelled (Rtm t.message.no t.message.tag (says_confirm t.kind t.message.confirm) t.message.opt form))
 rtm_item p t form e = ap Spelled e
 
 -- a packet of a send goes to its life
@@ -224,7 +224,7 @@ each_heard job history i j t m none mem to =
           let was_due = send_was_due job history j t a.0 mem a.1 in
           let o = opening_is own.limits t.message t.kind a.0 a.2 in
           elim (delivered job history i j (Spelled a.0) (Sends t a.0) was_due.0 m was_due.1 (sends_going t a.0 i to)) [
-            | inl b ↦ took_heard (life_deeds job history i) j t.message.no t.message.tag t.message.opt o.form
+            | inl b ↦ took_heard (life_deeds job history i) j t.message.no t.message.tag (says_confirm t.kind t.message.confirm) t.message.opt o.form
                 (subst (λ (x : Item). Member (Took j x) (life_deeds job history i)) (rtm_item a.0 t o.form o.is) b)
             | inr b ↦ (let w = member_list_any (λ (d : Datagram). goes j i d d.body) b.1.0 (waiting_datagrams i.port.0 history) b.1.1 b.1.2 in absurd (cc))
           ])

@@ -150,15 +150,15 @@ came_for own heads (d ∷ before) from item n x local a (inl e) b =
     }
 
 -- an opening brings its own piece
-rtm_piece_by : (ps : List Pair) (from : Life) (number : MsgNo) (tag : Option ℕ) (opt : Opt) (form : Form) → piece_by ps from number.0 (Spelled (Rtm number tag opt form)) ≡ piece_of form
+rtm_piece_by : (ps : List Pair) (from : Life) (number : MsgNo) (tag : Option ℕ) (confirm : Bool) (opt : Opt) (form : Form) → piece_by ps from number.0 (Spelled (Rtm number tag confirm opt form)) ≡ piece_of form
 unfolding piece_by
-rtm_piece_by ps from number tag opt form = rw (eq-eqb number.0 number.0 refl) refl
+rtm_piece_by ps from number tag confirm opt form = rw (eq-eqb number.0 number.0 refl) refl
 
 -- bytes that open a message and were taken are among its pieces
-pub came_opening : (first : ℕ) (heads : Heads) (log : List Deed) (from : Life) (number : MsgNo) (tag : Option ℕ) (opt : Opt) (form : Form) (x : Piece)
-    → Member (Took from (Spelled (Rtm number tag opt form))) log → piece_of form ≡ Some x → Member x (carried_pieces first heads log from number.0)
-came_opening first heads [] from number tag opt form x m h = elim m [ ]
-came_opening first heads (d ∷ before) from number tag opt form x (inr m) h = carried_stays first heads d before from number.0 x (came_opening first heads before from number tag opt form x m h)
-came_opening first heads (d ∷ before) from number tag opt form x (inl e) h =
+pub came_opening : (first : ℕ) (heads : Heads) (log : List Deed) (from : Life) (number : MsgNo) (tag : Option ℕ) (confirm : Bool) (opt : Opt) (form : Form) (x : Piece)
+    → Member (Took from (Spelled (Rtm number tag confirm opt form))) log → piece_of form ≡ Some x → Member x (carried_pieces first heads log from number.0)
+came_opening first heads [] from number tag confirm opt form x m h = elim m [ ]
+came_opening first heads (d ∷ before) from number tag confirm opt form x (inr m) h = carried_stays first heads d before from number.0 x (came_opening first heads before from number tag confirm opt form x m h)
+came_opening first heads (d ∷ before) from number tag confirm opt form x (inl e) h =
     carried_last first heads d before from number.0 x
-    (carried_now (pairs first heads before) from (Spelled (Rtm number tag opt form)) number.0 x d e (rtm_piece_by (pairs first heads before) from number tag opt form ∙ h))
+    (carried_now (pairs first heads before) from (Spelled (Rtm number tag confirm opt form)) number.0 x d e (rtm_piece_by (pairs first heads before) from number tag confirm opt form ∙ h))

@@ -110,13 +110,13 @@ handled_taken job (e ∷ before) i j d load played (inl a) s t b none =
 
 -- a packet that opens a message that was not heard of
 abbrev pub IsUnheard : List Deed → Life → Item → Type 0
-IsUnheard log from (Spelled (Rtm number tag opt form)) = is_heard log from number.0 ≡ false
+IsUnheard log from (Spelled (Rtm number tag confirm opt form)) = is_heard log from number.0 ≡ false
 IsUnheard log from _ = ⊥
 
 -- what needs a place opens a message that was not heard of
 unheard : (s : Scene) (from : Life) (item : Item) → needs_place s from item ≡ true → IsUnheard s.log from item
 unfolding needs_place
-unheard s from (Spelled (Rtm number tag opt form)) h = not-true (is_heard s.log from number.0) (and_parts (not (is_heard s.log from number.0)) (not (is_met s from number.0 tag)) h).0
+unheard s from (Spelled (Rtm number tag confirm opt form)) h = not-true (is_heard s.log from number.0) (and_parts (not (is_heard s.log from number.0)) (not (is_met s from number.0 tag)) h).0
 unheard s from _ h = cc
 
 -- the same of what a datagram has in it

@@ -8,6 +8,7 @@ use Rattle.rdm_num.specs.Pieces.{Piece, byte_at, covers}
 use Rattle.rdm_num.specs.declared.numbers.Life.{Life}
 use Rattle.rdm_num.specs.declared.numbers.OpId.{OpId}
 use Rattle.rdm_num.specs.declared.numbers.Connid.{Connid}
+use Rattle.rdm_pkt.specs.Openings.{says_confirm}
 use Rattle.rdm_pkt.specs.declared.Packet.{Packet}
 use Rattle.rdm_pkt.specs.declared.Packet.TheVariants.{Rtm, CtsData}
 use Rattle.rdm_pkt.specs.declared.Form.{Form}
@@ -49,7 +50,7 @@ option_member (Some y) xs x (inl e) = inl (ap Some e)
 option_member (Some y) xs x (inr h) = inr h
 
 -- the piece of an opening
-rtm_piece : (p : Packet) (s : Sent) (form : Form) (x : Piece) → p ≡ Rtm s.message.no s.message.tag s.message.opt form → packet_piece p ≡ Some x → piece_of form ≡ Some x
+rtm_piece : (p : Packet) (s : Sent) (form : Form) (x : Piece) → p ≡ Rtm s.message.no s.message.tag (says_confirm s.kind s.message.confirm) s.message.opt form → packet_piece p ≡ Some x → piece_of form ≡ Some x
 unfolding packet_piece
 rtm_piece p s form x e h = ap packet_piece (sym e) ∙ h
 
@@ -70,7 +71,7 @@ packet_came job history i j s p x k played m to was_due took h =
     elim (due_is (own_of job j) s p k (life_deeds job history j) was_due) [
       | inl a ↦ (
           let o = opening_is (own_of job j).limits s.message s.kind p a in
-          came_opening first heads log j s.message.no s.message.tag s.message.opt o.form x (subst (λ (q : Packet). Member (Took j (Spelled q)) log) o.is took) (rtm_piece p s o.form x o.is h))
+          came_opening first heads log j s.message.no s.message.tag (says_confirm s.kind s.message.confirm) s.message.opt o.form x (subst (λ (q : Packet). Member (Took j (Spelled q)) log) o.is took) (rtm_piece p s o.form x o.is h))
       | inr a ↦ (
           let e = data_piece p (op_id a.grant.recv) a.offset (own_of job j).life.connid a.bytes x a.is h in
           let item : Item = Spelled (CtsData (op_id a.grant.recv) a.offset (own_of job j).life.connid a.bytes) in
@@ -83,7 +84,7 @@ packet_came job history i j s p x k played m to was_due took h =
     ]
 
 -- an opening of a heard message is not of an unheard one
-unheard_none : (log : List Deed) (j : Life) (s : Sent) (p : Packet) (form : Form) → p ≡ Rtm s.message.no s.message.tag s.message.opt form → is_heard log j s.message.no.0 ≡ true → IsUnheard log j (Spelled p) → ⊥
+unheard_none : (log : List Deed) (j : Life) (s : Sent) (p : Packet) (form : Form) → p ≡ Rtm s.message.no s.message.tag (says_confirm s.kind s.message.confirm) s.message.opt form → is_heard log j s.message.no.0 ≡ true → IsUnheard log j (Spelled p) → ⊥
 unheard_none log j s p form e h u =
     let P : Packet → Type 0 = λ q. IsUnheard log j (Spelled q) in
     let v : is_heard log j s.message.no.0 ≡ false = subst P e u in

@@ -199,7 +199,7 @@ fair_credits job h =
 
 -- and has room for granted bytes
 fair_data_room : (job : Job) (i : Life) → is_fair law_ops job ≡ true → 1 ≤ data_room (own_of job i).limits
-unfolding own_of
+unfolding own_of data_room
 fair_data_room job i h = fair_room job h
 
 -- where all that was granted of a message has come, the whole message is granted

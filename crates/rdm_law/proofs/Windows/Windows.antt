@@ -57,8 +57,8 @@ long_first (Runt size s iov runt offset bytes) send credits h = cc
 first_by : (source : Life) (n : ℕ) (d : Deed) (h : Head) (send : OpId) (credits : ℕ) → head_by source n d ≡ Some h → h.shape ≡ S.LongCts send credits
     → (k : ℕ) × (first_part_by source n d ≡ Some k)
 unfolding head_by first_part_by head_of
-first_by source n (Took from (Spelled (Rtm number tag opt form))) h send credits is shape =
-    let t = then_some_parts (same_life from source && number.0 == n) (head_of tag opt form) h is in
+first_by source n (Took from (Spelled (Rtm number tag confirm opt form))) h send credits is shape =
+    let t = then_some_parts (same_life from source && number.0 == n) (head_of tag confirm opt form) h is in
     let l = long_first form send credits (ap (λ (x : Head). x.shape) t.1 ∙ shape) in
     (l.0, ap (λ b. cond b (first_part_in form) None) t.0 ∙ l.1)
 first_by source n _ h send credits is shape = cc

@@ -8,10 +8,11 @@ use std::alloc::Global;
 use std::process::Abort;
 use std::test::Fail;
 
-/// Message 3 with tag 1, of that kind, mtu, sender and length, and what it gives: each packet's
+/// Message 3 with tag 1, of that kind, wish for a receipt, mtu, sender and length, and what it gives: each packet's
 /// offset, how many bytes it carries and how many it has, and the headers of the last packet.
 struct Row {
     kind: Kind,
+    confirm: bool,
     mtu: u32,
     opt: Opt,
     length: usize,
@@ -23,6 +24,7 @@ struct Row {
 const ROWS: [Row; 9] = [
     Row {
         kind: Kind::Eager,
+        confirm: false,
         mtu: 8_192,
         opt: RAW,
         length: 8_140,
@@ -31,6 +33,7 @@ const ROWS: [Row; 9] = [
     },
     Row {
         kind: Kind::Medium,
+        confirm: false,
         mtu: 8_192,
         opt: RAW,
         length: 8_141,
@@ -42,6 +45,7 @@ const ROWS: [Row; 9] = [
     },
     Row {
         kind: Kind::Eager,
+        confirm: false,
         mtu: 8_192,
         opt: CONNID,
         length: 8_172,
@@ -52,6 +56,7 @@ const ROWS: [Row; 9] = [
     },
     Row {
         kind: Kind::Medium,
+        confirm: false,
         mtu: 8_192,
         opt: CONNID,
         length: 8_173,
@@ -63,6 +68,7 @@ const ROWS: [Row; 9] = [
     },
     Row {
         kind: Kind::Medium,
+        confirm: false,
         mtu: 256,
         opt: RAW,
         length: 400,
@@ -74,28 +80,31 @@ const ROWS: [Row; 9] = [
     },
     Row {
         kind: Kind::Medium,
+        confirm: true,
         mtu: 256,
         opt: RAW,
         length: 376,
         pieces: &[(0, 188, 256), (188, 188, 256)],
         last: &[
-            0x43, 4, 9, 0, 3, 0, 0, 0, 0x78, 1, 0, 0, 0, 0, 0, 0, 188, 0, 0, 0, 0, 0, 0, 0, 1, 0,
+            0xcb, 4, 9, 0, 3, 0, 0, 0, 0x78, 1, 0, 0, 0, 0, 0, 0, 188, 0, 0, 0, 0, 0, 0, 0, 1, 0,
             0, 0, 0, 0, 0, 0, 0x20,
         ],
     },
     Row {
         kind: Kind::LongCts,
+        confirm: true,
         mtu: 256,
         opt: RAW,
         length: 700,
         pieces: &[(0, 188, 256)],
         last: &[
-            0x45, 4, 9, 0, 3, 0, 0, 0, 0xbc, 2, 0, 0, 0, 0, 0, 0, 3, 0, 0, 0, 1, 0, 0, 0, 1, 0, 0,
+            0xcd, 4, 9, 0, 3, 0, 0, 0, 0xbc, 2, 0, 0, 0, 0, 0, 0, 3, 0, 0, 0, 1, 0, 0, 0, 1, 0, 0,
             0, 0, 0, 0, 0, 0x20,
         ],
     },
     Row {
         kind: Kind::Runt { runt_length: 999 },
+        confirm: true,
         mtu: 256,
         opt: CONNID,
         length: 1_000,
@@ -115,6 +124,7 @@ const ROWS: [Row; 9] = [
     },
     Row {
         kind: Kind::LongRead,
+        confirm: true,
         mtu: 256,
         opt: CONNID,
         length: 700,
@@ -182,7 +192,7 @@ fn steps(
 fn gives_pieces(rt: &impl Abort, alloc: Global, row: &Row) -> Result<(), NoMemory> {
     let bytes = content(alloc, row.length)?;
     let total = row.length as u64;
-    let message = message(3, 1, row.opt, row.kind, total);
+    let message = message(rt, 3, 1, row.confirm, row.opt, row.kind, total);
     let limits = limits(row.mtu);
     assert!(rt; limits.mtu >= 256 && message.iov.as_slice().len() <= 4);
     let mut rest = bytes.as_slice();

@@ -33,7 +33,7 @@ returns-in-LongRead-clause-header c =
 pub returns-in-LongRead-clause-last : goal.returns-in-LongRead-clause-last
 unfolding last_fields
 returns-in-LongRead-clause-last c =
-    subst (λ (f : Form). fields_fit (last_fields f) ≡ true) (sym c.in-LongRead.is) (rw c.as_slice-in-LongRead.ensures at c.iov_in_range.ensures)
+    subst (λ (f : Form). fields_fit (last_fields f) ≡ true) (sym c.in-LongRead.is) (rw c.as_slice-in-LongRead.ensures.items at c.iov_in_range.ensures)
 
 pub returns-in-Runt-clause-header : goal.returns-in-Runt-clause-header
 returns-in-Runt-clause-header c =
@@ -43,7 +43,7 @@ returns-in-Runt-clause-header c =
 pub returns-in-Runt-clause-last : goal.returns-in-Runt-clause-last
 unfolding last_fields
 returns-in-Runt-clause-last c =
-    subst (λ (f : Form). fields_fit (last_fields f) ≡ true) (sym c.in-Runt.is) (fit_last c.in-Runt.iov c.in-Runt.bytes (rw c.as_slice-in-Runt.ensures at c.iov_in_range-in-Runt.ensures) (rw c.as_slice-in-Runt-2.ensures at c.bytes_in_range-in-Runt.ensures))
+    subst (λ (f : Form). fields_fit (last_fields f) ≡ true) (sym c.in-Runt.is) (fit_last c.in-Runt.iov c.in-Runt.bytes (rw c.as_slice-in-Runt.ensures.items at c.iov_in_range-in-Runt.ensures) (rw c.as_slice-in-Runt-2.ensures at c.bytes_in_range-in-Runt.ensures))
 
 pub returns-in-Eager-clause-header : goal.returns-in-Eager-clause-header
 unfolding form_fields

@@ -73,7 +73,7 @@ returns-clause-value c =
     let there : Opened c.args.kind c.args.size c.args.bytes.now =
     record { room = room; opts = all.0; fit = ap opt_fits (sym same) ∙ sym c.opt_fits.ensures ∙ c.if-not-opt_fits.false; head = sym head ∙ c.if-not-has_head.false } in
     let size : c.in_ok-opt.opt_size ≡ opt_size (opt_of c.args.size c.args.bytes.now) = ap (λ (x : Opt × ℕ). x.1) all.1 in
-    rw (opening-is c.args.kind c.args.size c.args.bytes.now there, c.u32_at.ensures, tag, same, size, e) refl
+    rw (opening-is c.args.kind c.args.size c.args.bytes.now there, c.u32_at.ensures, tag, c.asks_receipt.ensures, same, size, e) refl
 
 pub returns-clause-most : goal.returns-clause-most
 unfolding last_place

@@ -7,26 +7,26 @@ pub const READS: [Row; 28] = [
     (
         "80040480 00000000 0500000000000000 01000000 01000000 07000000 0200000000000000 0500000000000000 0300000000000000",
         Some(
-            "Rtm { no: MsgNo(0), tag: None, opt: Opt { raw: None, cq_data: None, connid: Some(7) }, form: LongRead { msg_length: 5, send_id: OpId(1), iov: Iov { items: [IovEntry { offset: 2, length: 5, key: 3 }] } } }",
+            "Rtm { no: MsgNo(0), tag: None, confirm: false, opt: Opt { raw: None, cq_data: None, connid: Some(7) }, form: LongRead { msg_length: 5, send_id: OpId(1), iov: Iov { items: [IovEntry { offset: 2, length: 5, key: 3 }] } } }",
         ),
     ),
     (
         "80040480 00000000 ffffffffffffffff ffffffff 01000000 07000000 0000000000000000 ffffffffffffffff ffffffffffffffff",
         Some(
-            "Rtm { no: MsgNo(0), tag: None, opt: Opt { raw: None, cq_data: None, connid: Some(7) }, form: LongRead { msg_length: 18446744073709551615, send_id: OpId(4294967295), iov: Iov { items: [IovEntry { offset: 0, length: 18446744073709551615, key: 18446744073709551615 }] } } }",
+            "Rtm { no: MsgNo(0), tag: None, confirm: false, opt: Opt { raw: None, cq_data: None, connid: Some(7) }, form: LongRead { msg_length: 18446744073709551615, send_id: OpId(4294967295), iov: Iov { items: [IovEntry { offset: 0, length: 18446744073709551615, key: 18446744073709551615 }] } } }",
         ),
     ),
     (
         "80040480 00000000 0100000000000000 01000000 01000000 07000000 feffffffffffffff 0100000000000000 0000000000000000",
         Some(
-            "Rtm { no: MsgNo(0), tag: None, opt: Opt { raw: None, cq_data: None, connid: Some(7) }, form: LongRead { msg_length: 1, send_id: OpId(1), iov: Iov { items: [IovEntry { offset: 18446744073709551614, length: 1, key: 0 }] } } }",
+            "Rtm { no: MsgNo(0), tag: None, confirm: false, opt: Opt { raw: None, cq_data: None, connid: Some(7) }, form: LongRead { msg_length: 1, send_id: OpId(1), iov: Iov { items: [IovEntry { offset: 18446744073709551614, length: 1, key: 0 }] } } }",
         ),
     ),
     // a read of four ranges that have 2^64 - 1 bytes together
     (
         "81040b00 01000000 ffffffffffffffff 02000000 04000000 0900000000000000 20000000 01000000 000000000000000000000000 0100 0000 02000000 0000000000000000 0300000000000000 0000000000000000 0000000000000080 0100000000000000 0500000000000000 0000000000000040 0200000000000000 0600000000000000 feffffffffffff3f 0300000000000000 0700000000000000 0100000000000000 0400000000000000",
         Some(
-            "Rtm { no: MsgNo(1), tag: Some(9), opt: Opt { raw: Some((1, 2)), cq_data: Some(3), connid: None }, form: LongRead { msg_length: 18446744073709551615, send_id: OpId(2), iov: Iov { items: [IovEntry { offset: 0, length: 9223372036854775808, key: 1 }, IovEntry { offset: 5, length: 4611686018427387904, key: 2 }, IovEntry { offset: 6, length: 4611686018427387902, key: 3 }, IovEntry { offset: 7, length: 1, key: 4 }] } } }",
+            "Rtm { no: MsgNo(1), tag: Some(9), confirm: false, opt: Opt { raw: Some((1, 2)), cq_data: Some(3), connid: None }, form: LongRead { msg_length: 18446744073709551615, send_id: OpId(2), iov: Iov { items: [IovEntry { offset: 0, length: 9223372036854775808, key: 1 }, IovEntry { offset: 5, length: 4611686018427387904, key: 2 }, IovEntry { offset: 6, length: 4611686018427387902, key: 3 }, IovEntry { offset: 7, length: 1, key: 4 }] } } }",
         ),
     ),
     // no range, five ranges, an empty one, and one that passes the last place
@@ -84,19 +84,19 @@ pub const READS: [Row; 28] = [
     (
         "c0040480 00000000 0200000000000000 00000000 01000000 0100000000000000 0000000000000000 07000000 0000000000000000 0200000000000000 0000000000000000 61",
         Some(
-            "Rtm { no: MsgNo(0), tag: None, opt: Opt { raw: None, cq_data: None, connid: Some(7) }, form: Runt { msg_length: 2, send_id: OpId(0), iov: Iov { items: [IovEntry { offset: 0, length: 2, key: 0 }] }, runt_length: 1, offset: 0, bytes: Bytes { items: [97] } } }",
+            "Rtm { no: MsgNo(0), tag: None, confirm: false, opt: Opt { raw: None, cq_data: None, connid: Some(7) }, form: Runt { msg_length: 2, send_id: OpId(0), iov: Iov { items: [IovEntry { offset: 0, length: 2, key: 0 }] }, runt_length: 1, offset: 0, bytes: Bytes { items: [97] } } }",
         ),
     ),
     (
         "c0040480 00000000 ffffffffffffffff ffffffff 01000000 feffffffffffffff fdffffffffffffff 07000000 0000000000000000 ffffffffffffffff 0000000000000000 61",
         Some(
-            "Rtm { no: MsgNo(0), tag: None, opt: Opt { raw: None, cq_data: None, connid: Some(7) }, form: Runt { msg_length: 18446744073709551615, send_id: OpId(4294967295), iov: Iov { items: [IovEntry { offset: 0, length: 18446744073709551615, key: 0 }] }, runt_length: 18446744073709551614, offset: 18446744073709551613, bytes: Bytes { items: [97] } } }",
+            "Rtm { no: MsgNo(0), tag: None, confirm: false, opt: Opt { raw: None, cq_data: None, connid: Some(7) }, form: Runt { msg_length: 18446744073709551615, send_id: OpId(4294967295), iov: Iov { items: [IovEntry { offset: 0, length: 18446744073709551615, key: 0 }] }, runt_length: 18446744073709551614, offset: 18446744073709551613, bytes: Bytes { items: [97] } } }",
         ),
     ),
     (
         "c1040b00 01000000 0a00000000000000 02000000 04000000 0500000000000000 0200000000000000 0900000000000000 20000000 01000000 000000000000000000000000 0100 0000 02000000 0000000000000000 0300000000000000 0000000000000000 0100000000000000 0100000000000000 0500000000000000 0200000000000000 0200000000000000 0600000000000000 0300000000000000 0300000000000000 0700000000000000 0400000000000000 0400000000000000 616263",
         Some(
-            "Rtm { no: MsgNo(1), tag: Some(9), opt: Opt { raw: Some((1, 2)), cq_data: Some(3), connid: None }, form: Runt { msg_length: 10, send_id: OpId(2), iov: Iov { items: [IovEntry { offset: 0, length: 1, key: 1 }, IovEntry { offset: 5, length: 2, key: 2 }, IovEntry { offset: 6, length: 3, key: 3 }, IovEntry { offset: 7, length: 4, key: 4 }] }, runt_length: 5, offset: 2, bytes: Bytes { items: [97, 98, 99] } } }",
+            "Rtm { no: MsgNo(1), tag: Some(9), confirm: false, opt: Opt { raw: Some((1, 2)), cq_data: Some(3), connid: None }, form: Runt { msg_length: 10, send_id: OpId(2), iov: Iov { items: [IovEntry { offset: 0, length: 1, key: 1 }, IovEntry { offset: 5, length: 2, key: 2 }, IovEntry { offset: 6, length: 3, key: 3 }, IovEntry { offset: 7, length: 4, key: 4 }] }, runt_length: 5, offset: 2, bytes: Bytes { items: [97, 98, 99] } } }",
         ),
     ),
     // a segment that is empty, or passes the first part, and a first part that is empty, or as long as the message

@@ -13,5 +13,5 @@ loop-value-preserved c =
     let next = view-next values i c.value-item.result c.loop-value-test.true c.value-item.is in
     let read = placed-seen made (Op c.args.rank c.len.result) c.next_instr.result _ c.in_ok-draft.draft c.next_instr.ensures c.in_ok-draft.ensures in
     rw c.in_ok-push.ensures
-    (program_of-next c.args.rank c.args.ports c.loop-value.program (made c.in_ok-draft.draft) (view c.value-item.result) (map view (drop (i + 1) values)) _
+    (program_of-next c.args.version c.args.rank c.args.ports c.loop-value.program (made c.in_ok-draft.draft) (view c.value-item.result) (map view (drop (i + 1) values)) _
     (rw c.len.ensures at read) (rw next at c.loop-value.invariant))

@@ -1,6 +1,4 @@
-use Rattle.std.proofs.Common.{◌≡◌, ℕ, List, Vec, Global, map, remove, sym, ◌∙◌, subst}
-use Rattle.rdm_lists.specs.Lists.{without_first}
-use Rattle.rdm_ep.specs.declared.state.Posted.{Posted}
+use Rattle.std.proofs.Common.{◌≡◌, ℕ, Vec, Global, map, remove, sym, ◌∙◌, subst}
 use Rattle.rdm_ep.specs.View.{EndpointView}
 use Rattle.rdm_ep.specs.Counts.{RangesFit, CountsFit}
 use Rattle.rdm_ep.specs.Places.{IsPlaced}

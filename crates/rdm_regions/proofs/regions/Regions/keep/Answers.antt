@@ -26,14 +26,14 @@ returns-in_err-reserve-clause-err c =
 pub invariant_of-self-in_err-insert : goal.invariant_of-self-in_err-insert
 invariant_of-self-in_err-insert c =
     let i = c.self.inside in
-    subst (λ es. Keeps (slice_set i.regions.items c.args.range.region c.reserve.new.self) es i.leased.entries) (sym c.in_err-insert.ensures.err)
+    subst (λ es. Keeps (slice_set i.regions.items c.args.range.region.0 c.reserve.new.self) es i.leased.entries) (sym c.in_err-insert.ensures.err)
     (reserved i.regions.items i.held.entries i.leased.entries c.self.invariant c.args.self.now c.self.view_is c.args.range c.requires.allowed c.index_mut-region.result.now c.index_mut-region.ensures.value c.reserve.new.self c.in_ok-reserve.ensures.same)
 
 pub returns-in_err-insert-clause-err : goal.returns-in_err-insert-clause-err
 returns-in_err-insert-clause-err c =
     let i = c.self.inside in
     let e = reserved_view i.regions.items i.held.entries i.leased.entries c.self.invariant c.args.self.now c.self.view_is c.args.range c.requires.allowed c.index_mut-region.result.now c.index_mut-region.ensures.value c.reserve.new.self c.in_ok-reserve.ensures.same in
-    on_err c.from_residual-in_err-insert.result (ap (λ es. registry_of (slice_set i.regions.items c.args.range.region c.reserve.new.self) es i.leased.entries) c.in_err-insert.ensures.err ∙ e)
+    on_err c.from_residual-in_err-insert.result (ap (λ es. registry_of (slice_set i.regions.items c.args.range.region.0 c.reserve.new.self) es i.leased.entries) c.in_err-insert.ensures.err ∙ e)
 
 pub index_mut-region-requires-2 : goal.index_mut-region-requires-2
 index_mut-region-requires-2 c =
@@ -66,10 +66,10 @@ pub invariant_of-self-2 : goal.invariant_of-self-2
 invariant_of-self-2 c =
     let i = c.self.inside in
     holds i.regions.items i.held.entries i.leased.entries c.self.invariant c.args.self.now c.self.view_is c.args.range c.requires.allowed c.index_mut-region.result.now c.index_mut-region.ensures.value c.reserve.new.self c.in_ok-reserve.ensures.same c.index_mut-region-2.result.now c.index_mut-region-2.ensures.value
-    c.mark.new.self c.mark.ensures c.args.number c.requires.free c.insert.new.self.entries c.in_ok-insert.ensures.entries c.in_ok-insert.ensures.ordered
+    c.mark.new.self c.mark.ensures c.args.key c.requires.free c.insert.new.self.entries c.in_ok-insert.ensures.entries c.in_ok-insert.ensures.ordered
 
 pub returns-clause-ok : goal.returns-clause-ok
 returns-clause-ok c =
     let i = c.self.inside in
     holds_view i.regions.items i.held.entries i.leased.entries c.self.invariant c.args.self.now c.self.view_is c.args.range c.requires.allowed c.index_mut-region.result.now c.index_mut-region.ensures.value c.reserve.new.self c.in_ok-reserve.ensures.same c.index_mut-region-2.result.now c.index_mut-region-2.ensures.value
-    c.mark.new.self c.mark.ensures c.args.number c.requires.free c.insert.new.self.entries c.in_ok-insert.ensures.entries c.in_ok-insert.ensures.ordered c.in_ok-insert.ensures.updates.0
+    c.mark.new.self c.mark.ensures c.args.key c.requires.free c.insert.new.self.entries c.in_ok-insert.ensures.entries c.in_ok-insert.ensures.ordered c.in_ok-insert.ensures.updates.0

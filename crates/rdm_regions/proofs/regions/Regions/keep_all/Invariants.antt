@@ -3,4 +3,4 @@ use Rattle.rdm_regions.specs.Holds.{with_holds}
 use Rattle.rdm_regions.proofs.regions.Regions.keep_all.Given as goal
 
 abbrev pub invariant-loop-i : goal.invariant-loop-i
-invariant-loop-i l = l.self ≡ with_holds l.fn.self l.first (take l.i l.ranges)
+invariant-loop-i l = l.self ≡ with_holds l.fn.self l.send.0 (take l.i l.ranges)

@@ -29,4 +29,4 @@ pub returns-in-Runt-clause-span : goal.returns-in-Runt-clause-span
 returns-in-Runt-clause-span c = λ bytes l.
     rw (c.in-Runt.is, c.piece-in-Runt.ensures.span, c.min-in-Runt.ensures, ← l)
     (lemmas.runt_span c.args.limits.now (opened c.args.self.now bytes) c.in-Runt.runt_length c.args.number c.room-in-Runt.result c.room-in-Runt.ensures.some
-    (rw c.as_slice.ensures at c.room-in-Runt.ensures.value))
+    (rw c.as_slice.ensures.items at c.room-in-Runt.ensures.value))
