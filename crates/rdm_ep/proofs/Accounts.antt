@@ -15,7 +15,7 @@ use Rattle.rdm_pkt.specs.declared.Packet.TheVariants.{Rtm}
 use Rattle.rdm_pkt.specs.declared.Form.TheVariants.{Eager}
 use Rattle.rdm_pkt.specs.Heads.{shape_of, size_of, head_of, piece_of}
 use Rattle.rdm_model.specs.Deeds.{Deed, Took, Spelled}
-use Rattle.rdm_model.specs.Owns.{Own}
+use Rattle.rdm_model.specs.Beginnings.{Own}
 use Rattle.rdm_model.specs.Heard.{head_by, heard_head, is_heard}
 use Rattle.rdm_model.specs.Matches.{pairs}
 use Rattle.rdm_model.specs.Parts.{piece_by, carried_by, carried_pieces, has_landed}
@@ -125,7 +125,7 @@ took_told own before from number tag confirm opt bytes h =
     let d = Took from (Spelled (Rtm number tag confirm opt (Eager bytes))) in
     let hs = heads_by (d ∷ before) in
     let no : heard_head before from number.0 ≡ None =
-    (elim (heard_head before from number.0) as (λ o. is_some o ≡ false → o ≡ None) [ None ↦ λ x. refl | Some x ↦ λ y. cc ]) h.1.1 in
+    (elim (heard_head before from number.0) as (λ o. is_some o ≡ false → o ≡ None) [ None ↦ λ x. refl | Some x ↦ λ y. cc ]) h.1.2 in
     let s = same_life-refl from in
     let e : (number.0 == number.0) ≡ true = eq-eqb number.0 number.0 refl in
     let none = unheard_nothing own hs before from number.0 h.0 no in

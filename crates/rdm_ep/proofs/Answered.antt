@@ -1,7 +1,8 @@
 -- What an endpoint answers to a send or a receive is what the definitions say.
-use Rattle.std.proofs.Common.{◌≡◌, ℕ, ◌+◌, Bool, true, false, cond, List, [], ◌∷◌, length, map, Option, Some, None, refl, ap, ◌∙◌, sym, get_or}
+use Rattle.std.proofs.Common.{◌≡◌, ℕ, ◌+◌, Bool, true, false, not, cond, List, [], ◌∷◌, length, map, Option, Some, None, refl, ap, ◌∙◌, sym, get_or}
 use Rattle.std.specs.Prelude.{◌&&◌, ◌||◌, ◌==◌, nat_lt, nat_le, is_none}
 use Rattle.std.specs.List.{list_any}
+use Rattle.rdm_hdr.specs.Fields.{has_bit}
 use Rattle.rdm_lists.specs.Lists.{first_case}
 use Rattle.rdm_num.specs.Pieces.{overlaps}
 use Rattle.rdm_num.specs.declared.numbers.PortNo.{PortNo}
@@ -10,9 +11,10 @@ use Rattle.rdm_num.specs.declared.parts.Span.{Span}
 use Rattle.rdm_num.specs.declared.request.SendReq.{SendReq}
 use Rattle.rdm_num.specs.declared.request.RecvReq.{RecvReq}
 use Rattle.rdm_model.specs.declared.answer.Next.{Next}
-use Rattle.rdm_model.specs.declared.answer.Next.TheVariants.{Did, Refused, Again}
+use Rattle.rdm_model.specs.declared.answer.Next.TheVariants.{Did, Refused, NotYet, Again}
 use Rattle.rdm_model.specs.declared.answer.DidWhat.TheVariants.{Sent, Posted}
-use Rattle.rdm_model.specs.declared.answer.Why.TheVariants.{NoRegion, Range, NoEntry, Busy, Numbers}
+use Rattle.rdm_model.specs.declared.answer.Why.TheVariants.{NoRegion, Range, NoEntry, Busy, Numbers, NoConfirm}
+use Rattle.rdm_model.specs.declared.answer.Yet.TheVariants as Yet
 use Rattle.rdm_model.specs.declared.answer.PoolName.TheVariants.{Tx, Rx, Cq}
 use Rattle.rdm_model.specs.Deeds.{Deed}
 use Rattle.rdm_model.specs.Currents.{current}
@@ -21,6 +23,7 @@ use Rattle.rdm_model.specs.Sends as Sends
 use Rattle.rdm_model.specs.Dues.{live_sends}
 use Rattle.rdm_model.specs.Completions.{tx_count, rx_count}
 use Rattle.rdm_model.specs.Answers as A
+use Rattle.rdm_model.specs.Replies.{confirm_feature}
 use Rattle.rdm_model.specs.Local.{heard_by}
 use Rattle.rdm_ep.specs.declared.state.Posted.{Posted as PostedRecv}
 use Rattle.rdm_ep.specs.declared.state.Outbound.{Outbound}
@@ -34,10 +37,11 @@ use Rattle.rdm_lists.proofs.Filters.{list_any-map}
 use Rattle.rdm_lists.proofs.Same.{list_any_same}
 
 -- the answer of a send by its tests and numbers
-unfoldable send_cases : (a b c d e f g : Bool) → (send message : ℕ) → Next
-send_cases a b c d e f g send message =
+unfoldable send_cases : (a b c d e f g h i : Bool) → (send message : ℕ) → Next
+send_cases a b c d e f g h i send message =
     first_case
-    ((a, Refused NoRegion) ∷ (b, Refused Range) ∷ (c, Refused NoEntry) ∷ (d, Refused Busy) ∷ (e, Refused Numbers) ∷ (f, Again Tx) ∷ (g, Again Cq) ∷ [])
+    ((a, Refused NoRegion) ∷ (b, Refused Range) ∷ (c, Refused NoEntry) ∷ (d, Refused Busy) ∷ (e, Refused Numbers) ∷ (f, Refused NoConfirm) ∷ (g, NotYet Yet.Handshake)
+    ∷ (h, Again Tx) ∷ (i, Again Cq) ∷ [])
     (Did (Sent (record { 0 = send }) (record { 0 = message })))
 
 -- the answer of a receive by its tests and its number
@@ -60,7 +64,8 @@ first_case-map f (c ∷ cs) last =
 -- a send answers by the tests of the endpoint
 send_by_cases : (v : EndpointView) (req : SendReq) → next_of_send (Ep.send_answer v req)
     ≡ send_cases (Ep.names_no_region v req.parts) (Ep.passes_an_end v req.parts) (is_none (current_in v req.to.0))
-    (Ep.meets_a_receive v req.parts) (Ep.has_no_number v (current_in v req.to.0)) (nat_le v.own.limits.tx (length v.outgoing)) (Ep.cq_is_full v)
+    (Ep.meets_a_receive v req.parts) (Ep.has_no_number v (current_in v req.to.0)) (Ep.cannot_confirm v req (current_in v req.to.0))
+    (Ep.waits_for_handshake v req (current_in v req.to.0)) (nat_le v.own.limits.tx (length v.outgoing)) (Ep.cq_is_full v)
     v.sends (Ep.number_to_current v (current_in v req.to.0))
 unfolding Ep.send_answer next_of_send why_of_send send_cases
 send_by_cases v req = first_case-map next_of_send _ _
@@ -131,6 +136,27 @@ unfolding A.has_no_number Ep.has_no_number Ep.number_to
 number_test ports port_log log v None k = refl
 number_test ports port_log log v (Some to) k = ap (λ (n : ℕ). nat_le 4294967296 (v.own.limits.first + n)) (sym (k.sent_are to))
 
+-- what is known of a life's features
+known_test : (log : List Deed) (v : EndpointView) (o : Option Life) → Keeps log v → A.known_of log o ≡ Ep.known_in v o
+unfolding A.known_of Ep.known_in
+known_test log v None k = refl
+known_test log v (Some to) k = sym (k.known_are to)
+
+-- whether one of both lives cannot confirm
+confirm_test : (ports : ℕ) (port_log log : List Deed) (v : EndpointView) (req : SendReq) → Keeps log v
+    → A.cannot_confirm (life_scene ports v.own port_log log) req ≡ Ep.cannot_confirm v req (current_in v req.to.0)
+unfolding A.cannot_confirm Ep.cannot_confirm
+confirm_test ports port_log log v req k =
+    ap (λ (o : Option ℕ). req.confirm && (not (has_bit confirm_feature v.own.features) || A.lacks_confirm o))
+    (ap (A.known_of log) (sym (k.currents_are req.to.0)) ∙ known_test log v (current_in v req.to.0) k)
+
+-- whether a confirmed send waits for a handshake
+handshake_test : (ports : ℕ) (port_log log : List Deed) (v : EndpointView) (req : SendReq) → Keeps log v
+    → A.waits_for_handshake (life_scene ports v.own port_log log) req ≡ Ep.waits_for_handshake v req (current_in v req.to.0)
+unfolding A.waits_for_handshake Ep.waits_for_handshake
+handshake_test ports port_log log v req k =
+    ap (λ (o : Option ℕ). req.confirm && is_none o) (ap (A.known_of log) (sym (k.currents_are req.to.0)) ∙ known_test log v (current_in v req.to.0) k)
+
 -- the number of the next message to a life
 number_is : (ports : ℕ) (port_log log : List Deed) (v : EndpointView) (o : Option Life) → Keeps log v
     → A.next_number (life_scene ports v.own port_log log) o ≡ Ep.number_to_current v o
@@ -156,7 +182,8 @@ send_by_tests : (ports : ℕ) (port_log log : List Deed) (v : EndpointView) (req
     ≡ send_cases (list_any (λ (p : Span). A.has_no_region (life_scene ports v.own port_log log) p.region.0) req.parts)
     (list_any (λ (p : Span). A.is_out_of_range (life_scene ports v.own port_log log) p.region.0 p.at p.len) req.parts)
     (is_none (current log req.to.0)) (list_any (λ (p : Span). A.meets_receive (life_scene ports v.own port_log log) p.region.0 p.at p.len) req.parts)
-    (A.has_no_number (life_scene ports v.own port_log log) (current log req.to.0)) (nat_le v.own.limits.tx (tx_count v.own (heard_by v.own.limits.first log) log))
+    (A.has_no_number (life_scene ports v.own port_log log) (current log req.to.0)) (A.cannot_confirm (life_scene ports v.own port_log log) req)
+    (A.waits_for_handshake (life_scene ports v.own port_log log) req) (nat_le v.own.limits.tx (tx_count v.own (heard_by v.own.limits.first log) log))
     (A.cq_is_full (life_scene ports v.own port_log log)) (length (Sends.sends v.own (heard_by v.own.limits.first log) log))
     (A.next_number (life_scene ports v.own port_log log) (current log req.to.0))
 unfolding A.send_answer send_cases
@@ -171,11 +198,13 @@ send_agrees ports port_log log v req k =
     let b = ends_test ports port_log log v req.parts k in
     let d = busy_test ports port_log log v req.parts k in
     let e = number_test ports port_log log v (current_in v req.to.0) k in
+    let h = confirm_test ports port_log log v req k in
+    let i = handshake_test ports port_log log v req k in
     let f = tx_agrees log v k in
     let g = cq_test ports port_log log v k in
     let n = number_is ports port_log log v (current_in v req.to.0) k in
     let s : length (Sends.sends v.own (heard_by v.own.limits.first log) log) ≡ v.sends = sym k.sends_are in
-    send_by_tests ports port_log log v req ∙ (rw (a, b, cur, d, e, f, g, s, n) refl) ∙ sym (send_by_cases v req)
+    send_by_tests ports port_log log v req ∙ (rw (a, b, h, i, cur, d, e, f, g, s, n) refl) ∙ sym (send_by_cases v req)
 
 -- a receive answers by the tests of the scene
 recv_by_tests : (ports : ℕ) (port_log log : List Deed) (v : EndpointView) (req : RecvReq)

@@ -7,7 +7,7 @@ use Rattle.rdm_num.specs.declared.completion.Completion.{Completion}
 use Rattle.rdm_match.specs.declared.PostedRecv.{PostedRecv}
 use Rattle.rdm_match.specs.declared.Arrived.{Arrived}
 use Rattle.rdm_match.specs.Matcher.{Event, Arrive, Pair, Matching, accepts, after_arrive, after, run}
-use Rattle.rdm_model.specs.Owns.{Messages}
+use Rattle.rdm_model.specs.Beginnings.{Messages}
 use Rattle.rdm_model.specs.Matches.{Receive}
 use Rattle.rdm_model.specs.Receives.{RecvEnd, Filled, ended_recv, receive_numbered}
 use Rattle.rdm_model.specs.Regions.{after_end, after_ends}

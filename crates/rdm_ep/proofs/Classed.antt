@@ -17,7 +17,7 @@ use Rattle.rdm_model.specs.Currents.{current}
 use Rattle.rdm_model.specs.Heads.{same_head}
 use Rattle.rdm_model.specs.Heard.{heard_head, is_heard}
 use Rattle.rdm_model.specs.Sources.{is_other, is_malformed, has_raw}
-use Rattle.rdm_model.specs.Named.{is_bad_key, is_no_op}
+use Rattle.rdm_model.specs.Targets.{is_bad_key, is_no_op}
 use Rattle.rdm_model.specs.Classes.{is_received, is_other_head, is_mismatch, is_overlap, item_class}
 use Rattle.rdm_model.specs.Scenes.{Scene}
 use Rattle.rdm_ep.specs.declared.state.Inbound.{Inbound}
@@ -85,16 +85,16 @@ not_heard_in log v from number keeps low h =
     let e : ((nat_le v.own.limits.first number && nat_lt number (next_in v from)) || is_held_in v from number) ≡ false = keeps.heard_are from number ∙ h in
     rw a at e
 
--- a message in one packet that was not heard of has no class
-message_class : (log : List Deed) (v : EndpointView) (from : Life) (number : ℕ) (head : Head) (bytes : List ℕ) → Keeps log v → v.own.limits.first ≤ number
+-- a message in one packet that was not heard of and asks for no receipt has no class
+message_class : (log : List Deed) (v : EndpointView) (from : Life) (number : ℕ) (head : Head) (bytes : List ℕ) → Keeps log v → head.confirm ≡ false → v.own.limits.first ≤ number
     → is_heard log from number ≡ false → rtm_class v from number head (Eager bytes) ≡ None
 unfolding rtm_class first_case is_eager
-message_class log v from number head bytes keeps low h =
+message_class log v from number head bytes keeps u low h =
     let k = kept_of log v keeps in
     let a = other_none log v.arrived from number head (λ i m. waiting_heard v.own log v.arrived i k.messages.arrived_are m) h in
     let b = other_none log v.held from number head (λ i m. held_heard v.own log v.peers v.arrived v.held i k.held m) h in
     let c = not_heard_in log v from number keeps low h in
-    rw (a, b, c) refl
+    rw (a, b, c, u) refl
 
 -- a message that was not heard of has no other head
 unheard_no_other : (o : Option Head) (head : Head) (b : Bool) → o ≡ None → (is_other_head o head && b) ≡ false
@@ -104,13 +104,13 @@ unheard_no_other o head b e = rw e refl
 -- what the life expects of an eager item is what the endpoint does
 expected_agrees : (ports : ℕ) (port_log log : List Deed) (v : EndpointView) (from : Life) (item : Item) → IsEagerItem v.own log from item → Keeps log v
     → expected_class (life_scene ports v.own port_log log) from item ≡ load_class v from item
-unfolding expected_class first_case load_class is_bad_key is_no_op is_mismatch is_overlap
+unfolding expected_class first_case load_class head_of is_bad_key is_no_op is_mismatch is_overlap
 expected_agrees ports port_log log v from (Spelled (Rtm number tag confirm opt (Eager bytes))) h keeps =
-    let no : heard_head log from number.0 ≡ None = unheard log from from number.0 number.0 refl refl h.1 in
+    let no : heard_head log from number.0 ≡ None = unheard log from from number.0 number.0 refl refl h.2 in
     let a = unheard_no_other (heard_head log from number.0) (head_of tag confirm opt (Eager bytes)) (not (is_received (life_scene ports v.own port_log log) from number.0)) no in
-    let b : nat_lt number.0 v.own.limits.first ≡ false = le-ltb number.0 v.own.limits.first (let e = h.0 in omega arith) in
-    let c = h.1 in
-    (rw (a, b, c) refl) ∙ sym (message_class log v from number.0 (head_of tag confirm opt (Eager bytes)) bytes keeps h.0 h.1)
+    let b : nat_lt number.0 v.own.limits.first ≡ false = le-ltb number.0 v.own.limits.first (let e = h.1 in omega arith) in
+    let c = h.2 in
+    (rw (a, b, c) refl) ∙ sym (message_class log v from number.0 (head_of tag confirm opt (Eager bytes)) bytes keeps h.0 h.1 h.2)
 expected_agrees ports port_log log v from (Spelled (Handshake words connid raw)) h keeps = let e = keeps.known_are from in rw e refl
 expected_agrees ports port_log log v from item h keeps = elim h [ ]
 

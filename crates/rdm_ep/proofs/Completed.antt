@@ -1,20 +1,21 @@
 -- What eager deeds complete, and what they write to regions.
-use Rattle.std.proofs.Common.{◌≡◌, ℕ, Bool, false, not, List, [], ◌∷◌, ◌++◌, map, refl, ap, ◌∙◌, sym, subst}
+use Rattle.std.proofs.Common.{◌≡◌, ℕ, Bool, true, false, not, List, [], ◌∷◌, ◌++◌, map, refl, ap, ◌∙◌, sym, subst}
 use Rattle.std.specs.Prelude.{◌==◌, filter}
 use Rattle.std.specs.List.{list_any}
-use Rattle.std.proofs.lemmas.Bool.{eq-eqb, ne_eqb}
+use Rattle.std.proofs.lemmas.Bool.{eq-eqb, eqb-true, ne_eqb, not-true, true≢false}
 use Rattle.rdm_lists.specs.Lists.{Member}
 use Rattle.rdm_num.specs.declared.completion.Completion.{Completion}
 use Rattle.rdm_model.specs.Deeds.{Deed, Pushed}
-use Rattle.rdm_model.specs.Owns.{Own, Messages}
+use Rattle.rdm_model.specs.Beginnings.{Own, Messages}
 use Rattle.rdm_model.specs.Matches.{receives}
 use Rattle.rdm_model.specs.Receives.{RecvEnd, recv_ends, recv_ends_by}
 use Rattle.rdm_model.specs.Regions.{after_ends, region_by, regions}
 use Rattle.rdm_model.specs.Sends.{Sent, sends}
 use Rattle.rdm_model.specs.Replies.{Reply}
-use Rattle.rdm_model.specs.Dues.{Progress, after_push, after_deed, progress, live_of, live_sends}
+use Rattle.rdm_model.specs.Dues.{Progress, after_push, after_deed, progress, is_over, live_of, live_sends}
 use Rattle.rdm_model.specs.Completions.{recv_completions, ended_sends, send_completion, completions_by, completions}
 use Rattle.rdm_model.specs.Local.{heard_by}
+use Rattle.rdm_model.proofs.Numbers.{sends_one}
 use Rattle.rdm_model.proofs.SameRegions.{regions_same}
 use Rattle.rdm_model.proofs.SameDues.{progress_same, live_sends_same}
 use Rattle.rdm_model.proofs.SameCompletions.{completions_same}
@@ -26,7 +27,8 @@ use Rattle.rdm_ep.proofs.EagerSends.{send_number, sends_apart, has_any}
 use Rattle.rdm_ep.proofs.Progress.{sends_left, push_left, sends_are}
 use Rattle.rdm_ep.proofs.Pushes.{own_progress, own_live_sends, sends_ended, ended_left, live_of_is, live_sends_are}
 use Rattle.rdm_ep.proofs.Ends.{ends_of, ends_step}
-use Rattle.rdm_lists.proofs.Members.{member_list_any}
+use Rattle.rdm_lists.proofs.Members.{member-filter, filter-member, member_list_any, list_any_member}
+use Rattle.rdm_lists.proofs.Same.{filter_where}
 use Rattle.rdm_lists.proofs.Filters.{filter_nothing, list_any_none}
 
 -- one of the sends has that number
@@ -87,11 +89,38 @@ then_other own ms d before h e =
     (λ x. never_forgotten own (d ∷ before) x h) (sends_are own ms before h.0).each
     ∙ sym (live_sends_are own ms before h.0)
 
+-- a send is over after a deed where no live send has its number then
+over_then : (own : Own) (ms : Messages) (d : Deed) (before : List Deed) (s : Sent) → Member s (sends own ms before)
+    → is_over (d ∷ before) ((after_deed own ms before d (after_push own ms before d (progress own ms before))).packets s.number) s
+    ≡ not (list_any (λ (t : Sent). t.number == s.number) (live_then own ms d before))
+unfolding live_of
+over_then own ms d before s m =
+    let packets = (after_deed own ms before d (after_push own ms before d (progress own ms before))).packets in
+    let sents = sends own ms before in
+    let over' : Sent → Bool = λ t. is_over (d ∷ before) (packets t.number) t in
+    let live' : Sent → Bool = λ t. not (over' t) in
+    let same : Sent → Bool = λ t. t.number == s.number in
+    (elim (over' s) as (λ b. over' s ≡ b → b ≡ not (list_any same (filter live' sents))) [
+      | false ↦ λ e. (let any = member_list_any same s (filter live' sents) (filter-member live' s sents m (ap not e)) (eq-eqb s.number s.number refl) in rw any refl)
+      | true ↦ λ e. (elim (list_any same (filter live' sents)) as (λ x. list_any same (filter live' sents) ≡ x → true ≡ not x) [
+        | false ↦ λ a. refl
+        | true ↦ λ a. absurd (
+            let t = list_any_member same (filter live' sents) a in
+            let f = member-filter live' t.0 sents t.1 in
+            let one : t.0 ≡ s = sends_one own ms before t.0 s f.0 m (eqb-true t.0.number s.number t.2) in
+            true≢false (sym e ∙ subst (λ (z : Sent). over' z ≡ false) one (not-true (over' t.0) f.1)))
+      ]) refl
+    ]) refl
+
 -- the sends that end are those that were live and are not
 ended_is : (own : Own) (ms : Messages) (d : Deed) (before : List Deed)
     → ended_sends own ms d before (progress own ms before) ≡ gone_from (live_then own ms d before) (live_sends own ms before)
-unfolding ended_sends live_sends
-ended_is own ms d before = refl
+unfolding ended_sends live_sends live_of
+ended_is own ms d before =
+    let packets = (after_deed own ms before d (after_push own ms before d (progress own ms before))).packets in
+    let live : Sent → Bool = λ s. not (is_over before ((progress own ms before).packets s.number) s) in
+    filter_where (λ (s : Sent). is_over (d ∷ before) (packets s.number) s) (λ (s : Sent). not (list_any (λ (t : Sent). t.number == s.number) (live_then own ms d before)))
+    (filter live (sends own ms before)) (λ s m. over_then own ms d before s (member-filter live s (sends own ms before) m).0)
 
 -- a deed that pushes nothing ends no send
 ended_other : (own : Own) (ms : Messages) (d : Deed) (before : List Deed) → IsEager own (d ∷ before)

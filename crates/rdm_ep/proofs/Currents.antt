@@ -8,7 +8,7 @@ use Rattle.rdm_num.specs.Lives.{same_life, is_life}
 use Rattle.rdm_num.specs.declared.numbers.Life.{Life}
 use Rattle.rdm_model.specs.declared.job.Instr.TheVariants.{Insert}
 use Rattle.rdm_model.specs.Deeds.{Deed, Did, Took}
-use Rattle.rdm_model.specs.Owns.{Own}
+use Rattle.rdm_model.specs.Beginnings.{Own}
 use Rattle.rdm_model.specs.Currents.{inserted_by, last_inserted, seen_by, first_seen, current, is_current, was_current, is_superseded, other_life, forgotten_by, is_forgotten}
 use Rattle.rdm_ep.specs.Eager.{IsEagerDeed, IsEager}
 use Rattle.rdm_lists.proofs.Options.{or_else-none, or_else-assoc}
@@ -17,7 +17,7 @@ use Rattle.rdm_num.proofs.Lives.{same_life-true, same_life-refl}
 -- an eager deed forgets no life
 pub forgotten_none : (own : Own) (before : List Deed) (d : Deed) → IsEagerDeed own before d → forgotten_by before d ≡ []
 unfolding forgotten_by
-forgotten_none own before (Did (Insert life)) h = h
+forgotten_none own before (Did (Insert life)) h = h.0
 forgotten_none own before _ h = refl
 
 -- no life is forgotten
@@ -64,7 +64,7 @@ pub current_step : (own : Own) (d : Deed) (before : List Deed) (port : ℕ) → 
 unfolding current last_inserted first_seen inserted_by seen_by shown_by forgotten_by or_else
 current_step own (Did (Insert life)) before port h =
     ap (λ (x : Option Life). or_else (or_else (of_port port life) (last_inserted before port)) x) (or_else-none (first_seen before port))
-    ∙ insert_shows (last_inserted before port) (first_seen before port) port life (λ (n : ℕ). or_else (last_inserted before n) (first_seen before n)) refl h
+    ∙ insert_shows (last_inserted before port) (first_seen before port) port life (λ (n : ℕ). or_else (last_inserted before n) (first_seen before n)) refl h.0
 current_step own (Took from item) before port h = sym (or_else-assoc (last_inserted before port) (first_seen before port) (of_port port from))
 current_step own _ before port h =
     ap (λ (x : Option Life). or_else (last_inserted before port) x) (or_else-none (first_seen before port))

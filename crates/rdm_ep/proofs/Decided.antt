@@ -1,6 +1,6 @@
 -- What an endpoint decides is what the handling of a datagram says.
 use Rattle.std.proofs.Common.{◌≡◌, Bool, true, false, not, ◌&&◌, [], ◌∷◌, Option, Some, None, refl, ◌∙◌, ap}
-use Rattle.std.specs.Prelude.{is_none, ◌==◌, if◌then◌else◌}
+use Rattle.std.specs.Prelude.{is_none, ◌||◌, ◌==◌, if◌then◌else◌}
 use Rattle.rdm_lists.specs.Lists.{first_case}
 use Rattle.rdm_num.specs.Lives.{life}
 use Rattle.rdm_num.specs.declared.numbers.Life.{Life}
@@ -37,11 +37,12 @@ unclassed_load false false false true x y z w last h = absurd (cc)
 unclassed_load false false false false x y z w last h = h
 
 -- a message in other than one packet has a class
-pub other_form : (a b : Bool) → first_case ((a, Some Mismatch) ∷ (b, Some Overlap) ∷ (true, Some Malformed) ∷ []) None ≡ None → ⊥
+pub other_form : (a b c : Bool) → first_case ((a, Some Mismatch) ∷ (b, Some Overlap) ∷ (c || true, Some Malformed) ∷ []) None ≡ None → ⊥
 unfolding first_case
-other_form true b h = cc
-other_form false true h = cc
-other_form false false h = cc
+other_form true b c h = cc
+other_form false true c h = cc
+other_form false false true h = cc
+other_form false false false h = cc
 
 -- a datagram that has no class is classed by no load
 pub no_load_class : (v : EndpointView) (from : Life) (to : Connid) (item : Item) → item_class_in v from to item ≡ None → load_class v from item ≡ None
@@ -59,10 +60,10 @@ pub record IsTaken (v : EndpointView) (from : Life) (item : Item) : Type 0 where
 pub unclassed_taken : (v : EndpointView) (from : Life) (item : Item) → load_class v from item ≡ None → IsTaken v from item
 unfolding load_class rtm_class is_eager accepted_of class_answer_in verdict_answer verdict_effect waits_in needs_place_in taken_in after_take with_item with_features
 unclassed_taken v from (Spelled (Rtm number tag confirm opt (Eager bytes))) h = record { answer = refl; effect = λ w. refl }
-unclassed_taken v from (Spelled (Rtm number tag confirm opt (Medium size offset bytes))) h = absurd (other_form _ _ h)
-unclassed_taken v from (Spelled (Rtm number tag confirm opt (LongCts size send credits bytes))) h = absurd (other_form _ _ h)
-unclassed_taken v from (Spelled (Rtm number tag confirm opt (LongRead size send iov))) h = absurd (other_form _ _ h)
-unclassed_taken v from (Spelled (Rtm number tag confirm opt (Runt size send iov runt offset bytes))) h = absurd (other_form _ _ h)
+unclassed_taken v from (Spelled (Rtm number tag confirm opt (Medium size offset bytes))) h = absurd (other_form _ _ _ h)
+unclassed_taken v from (Spelled (Rtm number tag confirm opt (LongCts size send credits bytes))) h = absurd (other_form _ _ _ h)
+unclassed_taken v from (Spelled (Rtm number tag confirm opt (LongRead size send iov))) h = absurd (other_form _ _ _ h)
+unclassed_taken v from (Spelled (Rtm number tag confirm opt (Runt size send iov runt offset bytes))) h = absurd (other_form _ _ _ h)
 unclassed_taken v from (Spelled (Cts send recv size connid)) h = absurd (cc)
 unclassed_taken v from (Spelled (CtsData recv offset connid bytes)) h = absurd (cc)
 unclassed_taken v from (Spelled (Eor send recv connid)) h = absurd (cc)

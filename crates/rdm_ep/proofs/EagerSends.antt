@@ -16,12 +16,12 @@ use Rattle.rdm_pkt.specs.Choice.{choose, eager_room}
 use Rattle.rdm_pkt.specs.Heads.{piece_of}
 use Rattle.rdm_pkt.specs.Openings.{rtm, openings}
 use Rattle.rdm_model.specs.Deeds.{Deed}
-use Rattle.rdm_model.specs.Owns.{Own, Messages}
+use Rattle.rdm_model.specs.Beginnings.{Own, Messages}
 use Rattle.rdm_model.specs.Jobs.{spans_length}
 use Rattle.rdm_model.specs.Currents.{is_forgotten}
 use Rattle.rdm_model.specs.Regions.{regions}
 use Rattle.rdm_model.specs.Sends.{Sent, sends_to, known_word, wants_raw, new_sent, bytes_of, sends}
-use Rattle.rdm_model.specs.Dues.{Due, Sends, packet_piece, pieces_in, next_packet, ends_send, is_read, is_pushed, is_over, send_due, next_send}
+use Rattle.rdm_model.specs.Dues.{Due, Sends, packet_piece, pieces_in, next_packet, ends_send, confirms, is_read, is_pushed, is_complete, is_over, send_due, next_send}
 use Rattle.rdm_model.proofs.Numbers.{NewSent, sends_step, sends_keep, new_number, send_below}
 use Rattle.rdm_ep.specs.Eager.{FitsOnePacket, IsEagerDeed, IsEager}
 use Rattle.rdm_ep.proofs.Apart.{ApartBy, apart_push}
@@ -59,29 +59,35 @@ parts_fit rs parts room h =
     let t = bytes_short rs parts in
     le-leb (length (bytes_of rs parts)) room (omega arith)
 
+-- the send goes in one packet and asks for no receipt
+abbrev pub IsOfOne : Sent → Type 0
+IsOfOne s = (s.kind ≡ Eager) × (s.message.confirm ≡ false)
+
 -- a send of one packet is so whatever its headers
 new_eager : (own : Own) (before : List Deed) (n m : ℕ) (req : SendReq) (to : Life) (rs : List (List ℕ)) → FitsOnePacket own req
-    → (new_sent own before n m req to (bytes_of rs req.parts)).kind ≡ Eager
+    → IsOfOne (new_sent own before n m req to (bytes_of rs req.parts))
 unfolding new_sent
 new_eager own before n m req to rs h =
     let raw : Bool = wants_raw (known_word before to) in
-    let bytes = bytes_of rs req.parts in
-    choose_eager (length bytes) (is_some req.tag) (is_some req.cq_data) raw own.features (known_word before to) own.limits
-    (parts_fit rs req.parts (eager_room (is_some req.tag) (is_some req.cq_data) raw own.limits) (h raw))
+    let bytes = bytes_of rs req.parts in (
+      choose_eager (length bytes) (is_some req.tag) (is_some req.cq_data) raw own.features (known_word before to) own.limits
+          (parts_fit rs req.parts (eager_room (is_some req.tag) (is_some req.cq_data) raw own.limits) (h.1 raw)),
+      h.0,
+    )
 
 -- an eager deed makes a send of one packet
 pub new_sent_eager : (own : Own) (ms : Messages) (before : List Deed) (sents : List Sent) (d : Deed) (s : Sent) → IsEagerDeed own before d
-    → NewSent own ms before sents d s → s.kind ≡ Eager
+    → NewSent own ms before sents d s → IsOfOne s
 new_sent_eager own ms before sents d s h n =
     let fits : FitsOnePacket own n.req = subst (IsEagerDeed own before) n.by h in
-    ap (λ (x : Sent). x.kind) n.is ∙ new_eager own before (length sents) (length (sends_to sents n.to)) n.req n.to (regions own.limits.first ms before) fits
+    subst IsOfOne (sym n.is) (new_eager own before (length sents) (length (sends_to sents n.to)) n.req n.to (regions own.limits.first ms before) fits)
 
 -- each send is of one packet
-pub all_eager : (own : Own) (ms : Messages) (log : List Deed) (s : Sent) → IsEager own log → Member s (sends own ms log) → s.kind ≡ Eager
+pub all_eager : (own : Own) (ms : Messages) (log : List Deed) (s : Sent) → IsEager own log → Member s (sends own ms log) → IsOfOne s
 unfolding sends
 all_eager own ms [] s h m = elim m [ ]
 all_eager own ms (d ∷ before) s h m =
-    sends_keep own ms d before (λ xs x. x.kind ≡ Eager)
+    sends_keep own ms d before (λ xs x. IsOfOne x)
     (λ x k. all_eager own ms before x h.0 k) (λ x t k n was. was) (λ t n. new_sent_eager own ms before (sends own ms before) d t h.1 n) s m
 
 -- the one packet of a send
@@ -109,7 +115,7 @@ IsPushedOrNot packets s = (packets s.number ≡ []) ⊎ (packets s.number ≡ op
 
 -- these sends are of one packet each, and no packet of theirs but that one was pushed
 pub record AreOfOne (packets : ℕ → List Packet) (sents : List Sent) : Type 0 where
-  pub eager : (s : Sent) → Member s sents → s.kind ≡ Eager
+  pub eager : (s : Sent) → Member s sents → IsOfOne s
   pub pushed : (s : Sent) → Member s sents → IsPushedOrNot packets s
 
 -- those sends whose packet was not pushed
@@ -126,14 +132,18 @@ unfolding is_pushed has_any pieces_in packet_piece piece_of
 pushed_is s ps (inl e) = rw e refl
 pushed_is s ps (inr e) = rw e (whole_covers s.message.bytes)
 
+-- a send of one packet is complete once it was pushed
+complete_is : (log : List Deed) (ps : List Packet) (s : Sent) → IsOfOne s → is_complete log ps s ≡ is_pushed s ps
+unfolding is_complete is_read
+complete_is log ps s e =
+    ap (λ (k : Kind). cond (is_read k) (list_any (ends_send s.to s.number) log) (cond s.message.confirm (list_any (confirms s.to s.message.no.0) log) (is_pushed s ps))) e.0
+    ∙ ap (λ (c : Bool). cond c (list_any (confirms s.to s.message.no.0) log) (is_pushed s ps)) e.1
+
 -- a send of one packet is over once it was pushed
-pub over_is : (log : List Deed) (ps : List Packet) (s : Sent) → ForgetsNone log → s.kind ≡ Eager → (ps ≡ []) ⊎ (ps ≡ opening s ∷ [])
+pub over_is : (log : List Deed) (ps : List Packet) (s : Sent) → ForgetsNone log → IsOfOne s → (ps ≡ []) ⊎ (ps ≡ opening s ∷ [])
     → is_over log ps s ≡ has_any ps
-unfolding is_over is_read
-over_is log ps s none e h =
-    ap (λ (b : Bool). b || cond (is_read s.kind) (list_any (ends_send s.to s.number) log) (is_pushed s ps)) (none s.to)
-    ∙ ap (λ (k : Kind). cond (is_read k) (list_any (ends_send s.to s.number) log) (is_pushed s ps)) e
-    ∙ pushed_is s ps h
+unfolding is_over
+over_is log ps s none e h = ap (λ (b : Bool). b || is_complete log ps s) (none s.to) ∙ complete_is log ps s e ∙ pushed_is s ps h
 
 -- the packet of the first of these sends
 unfoldable pub first_due : List Sent → Option Due
@@ -157,7 +167,7 @@ next_send_is own log packets (s ∷ ss) none h =
     elim (h.pushed s (inl refl)) [
       | inl is ↦
           let no : has_any (packets s.number) ≡ false = rw is (none_any) in
-          rw (over, no, is, next_of own log s e) refl
+          rw (over, no, is, next_of own log s e.0) refl
       | inr is ↦
           let yes : has_any (packets s.number) ≡ true = rw is (one_any (opening s)) in
           rw (over, yes) rest

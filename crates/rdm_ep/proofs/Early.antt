@@ -12,7 +12,7 @@ use Rattle.rdm_match.specs.declared.Arrived.{Arrived}
 use Rattle.rdm_match.specs.Matcher.{Arrive, Pair, Matching, accepts, after_post, after_arrive, after, run}
 use Rattle.rdm_model.specs.declared.job.Instr.TheVariants.{Recv, Cancel}
 use Rattle.rdm_model.specs.Deeds.{Deed, Did, Took}
-use Rattle.rdm_model.specs.Owns.{Own, Heads}
+use Rattle.rdm_model.specs.Beginnings.{Own, Heads}
 use Rattle.rdm_model.specs.Heard.{has_entered, entering}
 use Rattle.rdm_model.specs.Matches.{receive, receives, matching}
 use Rattle.rdm_model.specs.Completions.{Name}

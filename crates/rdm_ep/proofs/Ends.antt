@@ -10,7 +10,7 @@ use Rattle.rdm_num.specs.declared.numbers.RecvNo.{RecvNo}
 use Rattle.rdm_match.specs.Matcher.{Pair, is_pair, is_recv}
 use Rattle.rdm_model.specs.declared.job.Instr.TheVariants.{Cancel}
 use Rattle.rdm_model.specs.Deeds.{Deed, Did}
-use Rattle.rdm_model.specs.Owns.{Own}
+use Rattle.rdm_model.specs.Beginnings.{Own}
 use Rattle.rdm_model.specs.Matches.{pairs, receives, with_received, received_by}
 use Rattle.rdm_model.specs.Parts.{has_landed}
 use Rattle.rdm_model.specs.Receives.{RecvEnd, Filled, Withdrawn, ended_recv, is_filled, filled_by, withdrawn_by, recv_ends_by, with_recv_ends, recv_ends}

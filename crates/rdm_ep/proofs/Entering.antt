@@ -7,17 +7,17 @@ use Rattle.std.proofs.lemmas.List.Elements.{filter-append}
 use Rattle.rdm_lists.specs.Lists.{below, each_below}
 use Rattle.rdm_num.specs.declared.numbers.Life.{Life}
 use Rattle.rdm_model.specs.Deeds.{Deed}
-use Rattle.rdm_model.specs.Heard.{is_heard, heard_below, has_entered, is_next_number, entering}
+use Rattle.rdm_model.specs.Heard.{is_heard, heard_below, has_entered, is_next_message, entering}
 use Rattle.rdm_lists.proofs.Below.{each_below_at, each_below_from}
 
 -- the least number of a life that was not heard of
-pub record IsNext (first : ℕ) (log : List Deed) (source : Life) (next : ℕ) : Type 0 where
+pub record IsNextNumber (first : ℕ) (log : List Deed) (source : Life) (next : ℕ) : Type 0 where
   pub from : first ≤ next
   pub below : (n : ℕ) → first ≤ n → n < next → is_heard log source n ≡ true
   pub at : is_heard log source next ≡ false
 
 -- all numbers below the next one were heard of
-below_heard : (first : ℕ) (log : List Deed) (source : Life) (next n : ℕ) → IsNext first log source next → first ≤ n → n ≤ next → heard_below first log source n ≡ true
+below_heard : (first : ℕ) (log : List Deed) (source : Life) (next n : ℕ) → IsNextNumber first log source next → first ≤ n → n ≤ next → heard_below first log source n ≡ true
 unfolding heard_below
 below_heard first log source next n h low high =
     let a : nat_le first n ≡ true = le-leb first n low in
@@ -26,7 +26,7 @@ below_heard first log source next n h low high =
     rw (a, b) refl
 
 -- not all numbers below a greater one were
-past_unheard : (first : ℕ) (log : List Deed) (source : Life) (next n : ℕ) → IsNext first log source next → next < n → heard_below first log source n ≡ false
+past_unheard : (first : ℕ) (log : List Deed) (source : Life) (next n : ℕ) → IsNextNumber first log source next → next < n → heard_below first log source n ≡ false
 unfolding heard_below
 past_unheard first log source next n h past =
     let f = h.from in
@@ -45,7 +45,7 @@ unfolding heard_below
 low_unheard first log source n h = let a : nat_le first n ≡ false = lt-leb first n h in rw a refl
 
 -- the numbers from the first one to the next one have entered
-pub entered_is : (first : ℕ) (log : List Deed) (source : Life) (next n : ℕ) → IsNext first log source next
+pub entered_is : (first : ℕ) (log : List Deed) (source : Life) (next n : ℕ) → IsNextNumber first log source next
     → has_entered first log source n ≡ (nat_le first n && nat_lt n next)
 unfolding has_entered
 entered_is first log source next n h =
@@ -76,8 +76,8 @@ entered_is first log source next n h =
     ]
 
 -- the next number is that one
-pub next_is : (first : ℕ) (log : List Deed) (source : Life) (next n : ℕ) → IsNext first log source next → is_next_number first log source n ≡ (n == next)
-unfolding is_next_number
+pub next_is : (first : ℕ) (log : List Deed) (source : Life) (next n : ℕ) → IsNextNumber first log source next → is_next_message first log source n ≡ (n == next)
+unfolding is_next_message
 next_is first log source next n h =
     elim (cases_eq n next) [
       | inl same ↦
@@ -150,7 +150,7 @@ shifted first k n h =
     ]
 
 -- the numbers that enter by a deed: from the next one to the one that is next then
-pub entering_is : (first : ℕ) (d : Deed) (before : List Deed) (source : Life) (was now : ℕ) → IsNext first before source was → IsNext first (d ∷ before) source now
+pub entering_is : (first : ℕ) (d : Deed) (before : List Deed) (source : Life) (was now : ℕ) → IsNextNumber first before source was → IsNextNumber first (d ∷ before) source now
     → was ≤ now → now ≤ first + length (d ∷ before) → entering first d before source ≡ map (λ k. was + k) (below (now - was))
 unfolding entering
 entering_is first d before source was now w n le within =

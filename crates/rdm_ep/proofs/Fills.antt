@@ -8,7 +8,7 @@ use Rattle.rdm_num.specs.declared.completion.Outcome.{Outcome}
 use Rattle.rdm_num.specs.declared.completion.Outcome.TheVariants.{Took as TookOutcome}
 use Rattle.rdm_match.specs.declared.Arrived.{Arrived}
 use Rattle.rdm_match.specs.Matcher.{Pair}
-use Rattle.rdm_model.specs.Owns.{Messages}
+use Rattle.rdm_model.specs.Beginnings.{Messages}
 use Rattle.rdm_model.specs.Matches.{Receive}
 use Rattle.rdm_model.specs.Receives.{Filled, ended_recv, receive_numbered}
 use Rattle.rdm_model.specs.Regions.{put, change_at, kept_bytes, written_by, after_end, after_ends}

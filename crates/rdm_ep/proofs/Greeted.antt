@@ -1,22 +1,23 @@
 -- What the taking of a datagram tells of its life, and what it makes owed.
-use Rattle.std.proofs.Common.{◌≡◌, ℕ, Bool, true, false, cond, List, [], ◌∷◌, ◌++◌, map, Option, None, refl, ap, ◌∙◌, sym}
+use Rattle.std.proofs.Common.{◌≡◌, ℕ, Bool, true, false, cond, not, List, [], ◌∷◌, ◌++◌, map, Option, None, refl, ap, ◌∙◌, sym}
 use Rattle.std.specs.Prelude.{◌||◌, is_none}
 use Rattle.std.specs.List.{list_any}
 use Rattle.std.proofs.lemmas.List.{append-nil, map-append}
 use Rattle.rdm_lists.specs.Lists.{or_else}
 use Rattle.rdm_num.specs.Lives.{same_life}
 use Rattle.rdm_num.specs.declared.numbers.Life.{Life}
-use Rattle.rdm_model.specs.Deeds.{Deed, Took, Item}
-use Rattle.rdm_model.specs.Owns.{Own}
+use Rattle.rdm_model.specs.declared.job.Instr.TheVariants.{Insert}
+use Rattle.rdm_model.specs.Deeds.{Deed, Did, Took, Item}
+use Rattle.rdm_model.specs.Beginnings.{Own}
 use Rattle.rdm_model.specs.Sends.{known_by, known_word}
-use Rattle.rdm_model.specs.Replies.{Reply, is_from, handshake_by}
+use Rattle.rdm_model.specs.Replies.{Reply, meets, greets, handshake_by}
 use Rattle.rdm_ep.specs.declared.state.Peer.{Peer}
 use Rattle.rdm_ep.specs.declared.state.Outbound.{Outbound}
 use Rattle.rdm_ep.specs.View.{EndpointView, current_in}
 use Rattle.rdm_ep.specs.Peers.{peer_in, with_peer, greeted_peer, known_peer}
 use Rattle.rdm_ep.specs.Handling.{with_source, with_greeting}
-use Rattle.rdm_ep.specs.Eager.{IsEager}
-use Rattle.rdm_ep.specs.Keeps.{greeting}
+use Rattle.rdm_ep.specs.Eager.{IsEagerDeed, IsEager}
+use Rattle.rdm_ep.specs.Keeps.{handshake_to, is_from}
 use Rattle.rdm_ep.proofs.Currents.{of_port, shown_by, current_step}
 use Rattle.rdm_ep.proofs.PeersOf.{peer_kept, peer_changed}
 use Rattle.rdm_ep.proofs.Pushes.{replies_left, replies_step}
@@ -24,7 +25,7 @@ use Rattle.rdm_ep.proofs.Groups.{current_of, LivesKept, SendsKept, OwedKept}
 use Rattle.rdm_ep.proofs.KeepsQuiet.{with_current, with_current_is}
 use Rattle.rdm_lists.proofs.Options.{or_else-none}
 use Rattle.rdm_lists.proofs.Bools.{cond_is_or}
-use Rattle.rdm_num.proofs.Lives.{same_life-true}
+use Rattle.rdm_num.proofs.Lives.{same_life-true, same_life-refl}
 
 -- what is known of lives once a datagram of that one was taken
 abbrev pub greeted_peers : Life → List Peer → List Peer
@@ -151,15 +152,39 @@ pub sends_met : (own : Own) (log : List Deed) (count : ℕ) (peers now : List Pe
 sends_met own log count peers now outgoing e k =
     record { sent_are = λ life. e life ∙ k.sent_are life; sends_are = k.sends_are; outgoing_are = k.outgoing_are }
 
+-- an eager deed meets a life where it takes a datagram from it
+met_by_eager : (own : Own) (before : List Deed) (life : Life) (d : Deed) → IsEagerDeed own before d → meets own life d ≡ is_from life d
+unfolding meets is_from
+met_by_eager own before life (Did (Insert inserted)) h = let e = h.1 in rw e refl
+met_by_eager own before life d h = refl
+
+-- so the lives that were met are those that datagrams came from
+met_is_from : (own : Own) (log : List Deed) (life : Life) → IsEager own log → list_any (meets own life) log ≡ list_any (is_from life) log
+met_is_from own [] life h = refl
+met_is_from own (d ∷ before) life h = let a = met_by_eager own before life d h.1 in let b = met_is_from own before life h.0 in rw (a, b) refl
+
+-- the first datagram from a life is answered by a handshake
+greets_is : (own : Own) (from : Life) (item : Item) (log : List Deed) → IsEager own log
+    → handshake_by own log (Took from item) ≡ cond (list_any (is_from from) log) [] (handshake_to own from ∷ [])
+unfolding handshake_by greets meets
+greets_is own from item log h =
+    let a = same_life-refl from in
+    let b = met_is_from own log from h in
+    rw (a, b) (elim (list_any (is_from from) log) as (λ t. cond (not t) (handshake_to own from ∷ []) [] ≡ cond t [] (handshake_to own from ∷ [])) [
+      | true ↦ refl
+      | false ↦ refl
+    ])
+
 -- the first datagram from a life makes a handshake owed
 pub owed_met : (own : Own) (from : Life) (item : Item) (log : List Deed) (peers : List Peer) (owed : List Life) → IsEager own (Took from item ∷ log)
     → (peer_in peers from).greeted ≡ list_any (is_from from) log → OwedKept own log owed → OwedKept own (Took from item ∷ log) (greeted_owed from peers owed)
-unfolding handshake_by replies_left
+unfolding replies_left
 owed_met own from item log peers owed h e k =
-    ap (λ (b : Bool). map (greeting own) (cond b owed (owed ++ from ∷ []))) e
-    ∙ (elim (list_any (is_from from) log) as (λ b. map (greeting own) (cond b owed (owed ++ from ∷ [])) ≡ map (greeting own) owed ++ cond b [] (greeting own from ∷ [])) [
-      | true ↦ sym (append-nil (map (greeting own) owed))
-      | false ↦ map-append (greeting own) owed (from ∷ [])
+    ap (λ (b : Bool). map (handshake_to own) (cond b owed (owed ++ from ∷ []))) e
+    ∙ (elim (list_any (is_from from) log) as (λ b. map (handshake_to own) (cond b owed (owed ++ from ∷ [])) ≡ map (handshake_to own) owed ++ cond b [] (handshake_to own from ∷ [])) [
+      | true ↦ sym (append-nil (map (handshake_to own) owed))
+      | false ↦ map-append (handshake_to own) owed (from ∷ [])
     ])
+    ∙ ap (λ (rs : List Reply). map (handshake_to own) owed ++ rs) (sym (greets_is own from item log h.0))
     ∙ ap (λ (rs : List Reply). rs ++ handshake_by own log (Took from item)) k
     ∙ sym (replies_step own (Took from item) log h)

@@ -7,17 +7,18 @@ use Rattle.rdm_lists.specs.Lists.{Member}
 use Rattle.rdm_num.specs.Lives.{same_life}
 use Rattle.rdm_num.specs.declared.numbers.Life.{Life}
 use Rattle.rdm_num.specs.declared.numbers.OpId.{OpId}
+use Rattle.rdm_num.specs.declared.numbers.MsgNo.{MsgNo}
 use Rattle.rdm_num.specs.declared.head.Head.{Head}
 use Rattle.rdm_num.specs.declared.head.Shape.{Shape}
 use Rattle.rdm_num.specs.declared.head.Shape.TheVariants as S
 use Rattle.rdm_match.specs.Matcher.{Pair, is_pair}
 use Rattle.rdm_model.specs.Deeds.{Deed, Took, Asks}
-use Rattle.rdm_model.specs.Owns.{Own}
+use Rattle.rdm_model.specs.Beginnings.{Own}
 use Rattle.rdm_model.specs.Matches.{pairs}
 use Rattle.rdm_model.specs.Receives.{is_filled}
 use Rattle.rdm_model.specs.Sends.{Sent}
 use Rattle.rdm_model.specs.Grants.{window, granted_bytes}
-use Rattle.rdm_model.specs.Replies.{Reply, reply, handshake_by, asks_for, grant_for, end_for, pair_items, pair_replies, given_by, replies_by, without_lives, without_forgotten}
+use Rattle.rdm_model.specs.Replies.{Reply, reply, handshake_by, asks_for, grant_for, receipt_for, end_for, pair_items, pair_replies, given_by, replies_by, without_lives, without_forgotten}
 use Rattle.rdm_model.specs.Local.{heads_by}
 use Rattle.rdm_model.proofs.Matches.{pair_heard}
 use Rattle.rdm_model.proofs.Grows.{heads_by_heard}
@@ -27,14 +28,14 @@ use Rattle.rdm_ep.proofs.Told.{heard_came}
 use Rattle.rdm_lists.proofs.Same.{flat_map_none}
 use Rattle.rdm_lists.proofs.Filters.{filter_all}
 
--- nothing is asked for, granted or ended for a message in one packet
-nothing_owed : (own : Own) (b c : Bool) (shape : Shape) (recv : OpId) (size : ℕ) → shape ≡ S.Eager
-    → cond b (map Asks (asks_for shape recv)) [] ++ grant_for own shape recv size ++ cond c (end_for own shape recv) [] ≡ []
-unfolding asks_for grant_for end_for
-nothing_owed own true true shape recv size e = rw e refl
-nothing_owed own true false shape recv size e = rw e refl
-nothing_owed own false true shape recv size e = rw e refl
-nothing_owed own false false shape recv size e = rw e refl
+-- nothing is asked for, granted, ended or confirmed for a message in one packet that asks for no receipt
+nothing_owed : (own : Own) (b c : Bool) (shape : Shape) (confirm : Bool) (number : MsgNo) (recv : OpId) (size : ℕ) → shape ≡ S.Eager → confirm ≡ false
+    → cond b (map Asks (asks_for shape recv)) [] ++ grant_for own shape recv size ++ cond c (end_for own shape confirm number recv) [] ≡ []
+unfolding asks_for grant_for end_for receipt_for
+nothing_owed own true true shape confirm number recv size e f = rw (e, f) refl
+nothing_owed own true false shape confirm number recv size e f = rw e refl
+nothing_owed own false true shape confirm number recv size e f = rw (e, f) refl
+nothing_owed own false false shape confirm number recv size e f = rw e refl
 
 -- a pair of eager deeds owes nothing
 pub pair_owes_nothing : (own : Own) (d : Deed) (before : List Deed) (p : Pair) → IsEager own (d ∷ before)
@@ -44,13 +45,14 @@ pair_owes_nothing own d before p h m =
     let first = own.limits.first in
     let heads = heads_by (d ∷ before) in
     let x = pair_heard first heads (d ∷ before) p m in
-    let e : (heads p.message.life p.message.no.0).shape ≡ S.Eager =
-    ap (λ (y : Head). y.shape) (heads_by_heard (d ∷ before) p.message.life p.message.no.0 x.0 x.1)
-    ∙ (heard_came own heads (d ∷ before) p.message.life p.message.no.0 x.0 h x.1).is_eager in
+    let is : heads p.message.life p.message.no.0 ≡ x.0 = heads_by_heard (d ∷ before) p.message.life p.message.no.0 x.0 x.1 in
+    let c = heard_came own heads (d ∷ before) p.message.life p.message.no.0 x.0 h x.1 in
     ap (map (reply p.message.life))
     (nothing_owed own (not (is_pair (pairs first heads before) p.recv.id.0 p.message.life p.message.no.0))
     (is_filled first heads (d ∷ before) p && not (is_filled first heads before p))
-    (heads p.message.life p.message.no.0).shape (record { 0 = p.recv.id.0 }) (window own.limits heads (d ∷ before) p (granted_bytes own.limits heads before p)) e)
+    (heads p.message.life p.message.no.0).shape (heads p.message.life p.message.no.0).confirm p.message.no (record { 0 = p.recv.id.0 })
+    (window own.limits heads (d ∷ before) p (granted_bytes own.limits heads before p))
+    (ap (λ (y : Head). y.shape) is ∙ c.is_eager) (ap (λ (y : Head). y.confirm) is ∙ c.unconfirmed))
 
 -- an eager deed asks for no bytes of a send
 given_none : (own : Own) (before : List Deed) (sents : List Sent) (d : Deed) → IsEagerDeed own before d → given_by sents d ≡ []

@@ -6,12 +6,11 @@ use Rattle.rdm_lists.specs.Lists.{Member}
 use Rattle.rdm_num.specs.declared.numbers.Life.{Life}
 use Rattle.rdm_num.specs.declared.completion.Completion.{Completion}
 use Rattle.rdm_model.specs.Deeds.{Deed}
-use Rattle.rdm_model.specs.Owns.{Own}
+use Rattle.rdm_model.specs.Beginnings.{Own}
 use Rattle.rdm_model.specs.Currents.{current}
 use Rattle.rdm_model.specs.Heard.{is_heard}
 use Rattle.rdm_model.specs.Matches.{receives}
 use Rattle.rdm_model.specs.Sends.{sends_to, known_word}
-use Rattle.rdm_model.specs.Replies.{is_from}
 use Rattle.rdm_model.specs.Completions.{poll_count, heard_names}
 use Rattle.rdm_model.specs.Local.{heads_by, bytes_by, heard_by}
 use Rattle.rdm_ep.specs.declared.state.Peer.{Peer}
@@ -24,7 +23,7 @@ use Rattle.rdm_ep.specs.Receiving.{arrived_message}
 use Rattle.rdm_ep.specs.Entering.{is_message, is_held_in, is_heard_in}
 use Rattle.rdm_ep.specs.Handling.{inbound_head}
 use Rattle.rdm_ep.specs.Eager.{IsEager}
-use Rattle.rdm_ep.specs.Keeps.{posted_of, outbound_of, greeting, Keeps}
+use Rattle.rdm_ep.specs.Keeps.{posted_of, outbound_of, handshake_to, is_from, Keeps}
 use Rattle.rdm_ep.proofs.Pairs.{own_matching}
 use Rattle.rdm_ep.proofs.Live.{own_live, waiting_are}
 use Rattle.rdm_ep.proofs.Pushes.{own_sends, own_progress, own_live_sends}
@@ -80,7 +79,7 @@ pub record HeldKept (own : Own) (log : List Deed) (peers : List Peer) (arrived h
 
 -- the handshakes that are owed
 abbrev pub OwedKept : Own → List Deed → List Life → Type 0
-OwedKept own log owed = map (greeting own) owed ≡ (own_progress own log).replies
+OwedKept own log owed = map (handshake_to own) owed ≡ (own_progress own log).replies
 
 -- the regions
 abbrev pub RegionsKept : Own → List Deed → List (List ℕ) → Type 0

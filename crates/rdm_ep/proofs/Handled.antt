@@ -41,18 +41,19 @@ none_of_three false true c h = cc
 none_of_three false false true h = cc
 none_of_three false false false h = (refl, refl)
 
--- a packet that the endpoint takes is a message in one packet that was not heard of
+-- a packet that the endpoint takes is a message in one packet that was not heard of and asks for no receipt
 eager_rtm : (log : List Deed) (v : EndpointView) (from : Life) (number : MsgNo) (tag : Option ℕ) (confirm : Bool) (opt : Opt) (form : Form) → Keeps log v
     → rtm_class v from number.0 (head_of tag confirm opt form) form ≡ None → IsEagerItem v.own log from (Spelled (Rtm number tag confirm opt form))
-unfolding rtm_class is_eager is_heard_in
+unfolding rtm_class is_eager is_heard_in head_of
 eager_rtm log v from number tag confirm opt (Eager bytes) k h =
-    let t = none_of_three _ (nat_lt number.0 (next_in v from) || is_held_in v from number.0) false h in
+    let t = none_of_three _ (nat_lt number.0 (next_in v from) || is_held_in v from number.0) (confirm || false) h in
     let p = or_parts (nat_lt number.0 (next_in v from)) (is_held_in v from number.0) t.0 in
     let l = ltb-false number.0 (next_in v from) p.0 in (
+      (or_parts confirm false t.1).0,
       omega arith,
       sym (k.heard_are from number.0) ∙ (rw (p.0, p.1) (ap (λ b. b || false) (and_right (nat_le v.own.limits.first number.0) false refl))),
     )
-eager_rtm log v from number tag confirm opt form k h = let t = none_of_three _ (nat_lt number.0 (next_in v from) || is_held_in v from number.0) true h in absurd (true≢false t.1)
+eager_rtm log v from number tag confirm opt form k h = let t = none_of_three _ (nat_lt number.0 (next_in v from) || is_held_in v from number.0) (confirm || true) h in absurd (true≢false (or_parts confirm true t.1).1)
 
 -- what the endpoint expects is eager
 eager_load : (log : List Deed) (v : EndpointView) (from : Life) (item : Item) → Keeps log v → is_malformed from item ≡ false → load_class v from item ≡ None

@@ -89,7 +89,7 @@ places_agree : (ports : ℕ) (port_log log : List Deed) (v : EndpointView) (from
     ≡ needs_place_in v from item
 unfolding needs_place needs_place_in early_is_full
 places_agree ports port_log log v from (Spelled (Rtm number tag confirm opt (Eager bytes))) h p k =
-    let a = p.1 in
+    let a = p.2 in
     let m = met_agrees ports port_log log v from number tag confirm opt bytes h k in
     let e = early_agrees log v h k in
     rw (a, m, e) refl

@@ -10,12 +10,12 @@ use Rattle.rdm_num.specs.declared.completion.Outcome.TheVariants.{Cancelled}
 use Rattle.rdm_match.specs.Matcher.{Matching, after, run}
 use Rattle.rdm_model.specs.declared.job.Instr.TheVariants.{Cancel}
 use Rattle.rdm_model.specs.Deeds.{Deed, Did}
-use Rattle.rdm_model.specs.Owns.{Messages}
+use Rattle.rdm_model.specs.Beginnings.{Messages}
 use Rattle.rdm_model.specs.Heard.{head_by}
 use Rattle.rdm_model.specs.Matches.{Receive, receives, received_by, with_received}
 use Rattle.rdm_model.specs.Receives.{Withdrawn, ended_recv, receive_numbered}
 use Rattle.rdm_model.specs.Regions.{put, change_at, written_by, after_end, after_ends, region_by}
-use Rattle.rdm_model.specs.Completions.{outcome, recv_completion, recv_completions, is_poll, named_by, heard_names}
+use Rattle.rdm_model.specs.Completions.{outcome, recv_completion, recv_completions, polls_by, named_by, heard_names}
 use Rattle.rdm_model.specs.Local.{heard_by}
 use Rattle.rdm_ep.specs.View.{EndpointView}
 use Rattle.rdm_ep.specs.Cancelling.{has_number, after_cancel}
@@ -67,7 +67,7 @@ numbered_so log r n m same = subst (λ (k : ℕ). receive_numbered (receives log
 -- after a receive that waits was cancelled
 pub keeps_cancel : (recv : RecvNo) (log : List Deed) (v : EndpointView) → IsEager v.own (Did (Cancel recv) ∷ log) → Keeps log v
     → Keeps (Did (Cancel recv) ∷ log) (after_cancel v recv)
-unfolding after_cancel has_number ended_recv region_by is_poll ended_left event_of run after live_after receives with_received received_by head_by heard_names named_by after_ends
+unfolding after_cancel has_number ended_recv region_by polls_by ended_left event_of run after live_after receives with_received received_by head_by heard_names named_by after_ends
 keeps_cancel recv log v g keeps =
     let own = v.own in
     let d = Did (Cancel recv) in

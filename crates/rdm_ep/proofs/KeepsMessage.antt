@@ -12,12 +12,12 @@ use Rattle.rdm_pkt.specs.declared.Form.TheVariants.{Eager}
 use Rattle.rdm_match.specs.declared.Arrived.{Arrived}
 use Rattle.rdm_match.specs.Matcher.{Arrive, Matching, run}
 use Rattle.rdm_model.specs.Deeds.{Deed, Took, Item, Spelled}
-use Rattle.rdm_model.specs.Owns.{Own}
+use Rattle.rdm_model.specs.Beginnings.{Own}
 use Rattle.rdm_model.specs.Matches.{Receive, receives, received_by, with_received}
 use Rattle.rdm_model.specs.Receives.{Filled, has_ended, recv_ends, receive_numbered, live_receives}
 use Rattle.rdm_model.specs.Regions.{after_ends, region_by}
 use Rattle.rdm_model.specs.Sends.{known_by, known_word}
-use Rattle.rdm_model.specs.Completions.{recv_completions, is_poll}
+use Rattle.rdm_model.specs.Completions.{recv_completions, polls_by}
 use Rattle.rdm_model.specs.Local.{heads_by, bytes_by, heard_by}
 use Rattle.rdm_ep.specs.declared.state.Peer.{Peer}
 use Rattle.rdm_ep.specs.declared.state.Inbound.{Inbound}
@@ -87,7 +87,7 @@ arrivals_of from number tag confirm opt bytes log v is h k told =
 pub message_kept : (from : Life) (number : MsgNo) (tag : Option ℕ) (confirm : Bool) (opt : Opt) (bytes : List ℕ) (log : List Deed) (v : EndpointView) (is : List Inbound) (now : List Peer) (left : List Inbound)
     → IsEager v.own (eager from number tag confirm opt bytes ∷ log) → Kept log v → Comes v.own log v from number tag confirm opt bytes is now left
     → Keeps (eager from number tag confirm opt bytes ∷ log) (with_meeting (after_arrivals (meeting_of v) is) (record (met_view from v) { peers = now; held = left }))
-unfolding region_by is_poll ended_left event_of live_after known_by
+unfolding region_by polls_by ended_left event_of live_after known_by
 message_kept from number tag confirm opt bytes log v is now left g k c =
     let own = v.own in
     let d = eager from number tag confirm opt bytes in

@@ -6,19 +6,19 @@ use Rattle.rdm_num.specs.declared.numbers.Life.{Life}
 use Rattle.rdm_num.specs.declared.completion.Completion.{Completion}
 use Rattle.rdm_num.specs.declared.completion.Completion.TheVariants.{Send}
 use Rattle.rdm_model.specs.Deeds.{Deed, Pushed, Spelled, deed_count}
-use Rattle.rdm_model.specs.Owns.{Own}
+use Rattle.rdm_model.specs.Beginnings.{Own}
 use Rattle.rdm_model.specs.Regions.{region_by}
 use Rattle.rdm_model.specs.Sends.{Sent, sent_by, sends_to}
 use Rattle.rdm_model.specs.Replies.{Reply, handshake_by}
 use Rattle.rdm_model.specs.Dues.{reply_due, due}
 use Rattle.rdm_model.specs.Going.{Goes, due_going}
-use Rattle.rdm_model.specs.Completions.{send_completion, recv_completions, is_poll, poll_count}
+use Rattle.rdm_model.specs.Completions.{send_completion, recv_completions, polls_by, poll_count}
 use Rattle.rdm_model.specs.Local.{heard_by}
 use Rattle.rdm_ep.specs.declared.state.Outbound.{Outbound}
 use Rattle.rdm_ep.specs.View.{EndpointView}
 use Rattle.rdm_ep.specs.Going.{Leaving, outgoing_out, out_by, out_of, after_outgoing, sent_by as pushed_by, after_sent}
 use Rattle.rdm_ep.specs.Eager.{IsEager}
-use Rattle.rdm_ep.specs.Keeps.{outbound_of, greeting, Keeps}
+use Rattle.rdm_ep.specs.Keeps.{outbound_of, handshake_to, Keeps}
 use Rattle.rdm_ep.proofs.Currents.{never_forgotten}
 use Rattle.rdm_ep.proofs.EagerSends.{first_due}
 use Rattle.rdm_ep.proofs.Progress.{sends_left}
@@ -63,7 +63,7 @@ unfolding after_sent
 after_sent_is v = sent_is v v.owed v.outgoing refl refl
 
 -- the sends that are left are those of the definitions
-left_are : (own : Own) (ls : List Life) (live : List Sent) → outgoing_left ls (map outbound_of live) ≡ map outbound_of (sends_left (map (greeting own) ls) live)
+left_are : (own : Own) (ls : List Life) (live : List Sent) → outgoing_left ls (map outbound_of live) ≡ map outbound_of (sends_left (map (handshake_to own) ls) live)
 unfolding outgoing_left sends_left
 left_are own [] [] = refl
 left_are own [] (s ∷ ss) = refl
@@ -71,34 +71,34 @@ left_are own (l ∷ ls) live = refl
 
 -- the completion is that of the definitions
 done_are : (own : Own) (log : List Deed) (ls : List Life) (live : List Sent) → IsEager own log
-    → outgoing_done ls (map outbound_of live) ≡ map (send_completion log) (sends_ended (map (greeting own) ls) live)
+    → outgoing_done ls (map outbound_of live) ≡ map (send_completion log) (sends_ended (map (handshake_to own) ls) live)
 unfolding outgoing_done sends_ended send_completion
 done_are own log [] [] h = refl
 done_are own log [] (s ∷ ss) h = let f = never_forgotten own log s.to h in rw f refl
 done_are own log (l ∷ ls) live h = refl
 
 -- handshakes without the first one
-drop_first : (own : Own) (ls : List Life) → map (greeting own) (drop 1 ls) ≡ drop 1 (map (greeting own) ls)
+drop_first : (own : Own) (ls : List Life) → map (handshake_to own) (drop 1 ls) ≡ drop 1 (map (handshake_to own) ls)
 drop_first own [] = refl
 drop_first own (l ∷ ls) = refl
 
 -- completions that are left, with some more
-pub completions_more : (own : Own) (d : Deed) (log : List Deed) (polled : ℕ) (completions more : List Completion) → is_poll d ≡ 0
+pub completions_more : (own : Own) (d : Deed) (log : List Deed) (polled : ℕ) (completions more : List Completion) → polls_by d ≡ 0
     → own_completions own (d ∷ log) ≡ own_completions own log ++ more → CompletionsKept own log polled completions
     → CompletionsKept own (d ∷ log) polled (completions ++ more)
 unfolding poll_count deed_count
 completions_more own d log polled completions more p e k =
-    let same : deed_count is_poll log + is_poll d ≡ deed_count is_poll log = omega arith in
+    let same : deed_count polls_by log + polls_by d ≡ deed_count polls_by log = omega arith in
     let w = k.polled_within in
     record {
       polled_are = k.polled_are ∙ sym same;
       polled_within = rw (same, e) (omega (arith, length-append (own_completions own log) more));
-      completions_are = rw (same, e) (ap (λ (xs : List Completion). xs ++ more) k.completions_are ∙ sym (drop-append-le (deed_count is_poll log) (own_completions own log) more w));
+      completions_are = rw (same, e) (ap (λ (xs : List Completion). xs ++ more) k.completions_are ∙ sym (drop-append-le (deed_count polls_by log) (own_completions own log) more w));
     }
 
 -- after what goes out next was pushed
 pub keeps_pushed : (log : List Deed) (v : EndpointView) → IsEager v.own log → Keeps log v → Keeps (Pushed ∷ log) (after_sent v)
-unfolding replies_left handshake_by live_left ended_left sent_by region_by is_poll recv_completions
+unfolding replies_left handshake_by live_left ended_left sent_by region_by polls_by recv_completions
 keeps_pushed log v h keeps =
     let k = kept_of log v keeps in
     let own = v.own in
@@ -133,7 +133,7 @@ keeps_pushed log v h keeps =
 
 -- the next handshake, or else the next send's packet
 out_is : (v : EndpointView) (ls : List Life) (live : List Sent)
-    → due_going (reply_due (slice_get (map (greeting v.own) ls) 0) (first_due live))
+    → due_going (reply_due (slice_get (map (handshake_to v.own) ls) 0) (first_due live))
     ≡ option_map (λ (l : Leaving). Goes l.to (Spelled l.packet)) (out_by (record v { outgoing = map outbound_of live }) ls)
 unfolding due_going reply_due first_due out_by outgoing_out
 out_is v [] [] = refl

@@ -8,22 +8,21 @@ use Rattle.rdm_num.specs.declared.numbers.Life.{Life}
 use Rattle.rdm_num.specs.declared.completion.Completion.{Completion}
 use Rattle.rdm_model.specs.declared.job.Instr.TheVariants.{Insert, Reg, Note, Await, Wait}
 use Rattle.rdm_model.specs.Deeds.{Deed, Did, PushedNote, TookNote, Polled, Nothing, deed_count}
-use Rattle.rdm_model.specs.Owns.{Own}
+use Rattle.rdm_model.specs.Beginnings.{Own}
 use Rattle.rdm_model.specs.Currents.{last_inserted, first_seen, current}
 use Rattle.rdm_model.specs.Heard.{heard_head, is_heard}
 use Rattle.rdm_model.specs.Matches.{receives, matching}
 use Rattle.rdm_model.specs.Receives.{live_receives}
 use Rattle.rdm_model.specs.Regions.{after_ends, region_by, regions}
 use Rattle.rdm_model.specs.Sends.{sends_to, sends, known_by, known_word}
-use Rattle.rdm_model.specs.Replies.{is_from}
 use Rattle.rdm_model.specs.Dues.{progress, live_of, live_sends}
-use Rattle.rdm_model.specs.Completions.{completions, is_poll, poll_count, heard_names}
+use Rattle.rdm_model.specs.Completions.{completions, polls_by, poll_count, heard_names}
 use Rattle.rdm_ep.specs.View.{EndpointView, new_endpoint, current_in}
 use Rattle.rdm_ep.specs.Peers.{peer_in}
 use Rattle.rdm_ep.specs.Sending.{after_reg, after_insert}
 use Rattle.rdm_ep.specs.Going.{polled_by, after_poll}
 use Rattle.rdm_ep.specs.Eager.{IsEagerDeed, IsEager}
-use Rattle.rdm_ep.specs.Keeps.{Keeps}
+use Rattle.rdm_ep.specs.Keeps.{is_from, Keeps}
 use Rattle.rdm_ep.proofs.Options.{find-push}
 use Rattle.rdm_ep.proofs.Currents.{of_port, shown_by, current_step}
 use Rattle.rdm_ep.proofs.Completed.{own_completions, regions_step}
@@ -83,11 +82,11 @@ record LeavesOut (own : Own) (log : List Deed) (d : Deed) : Type 0 where
   message : MeetsNothing d
   greeting : GreetsNobody d
   region : region_by d ≡ []
-  poll : is_poll d ≡ 0
+  poll : polls_by d ≡ 0
 
 -- a quiet deed leaves out all the rest
 quiet_leaves : (own : Own) (log : List Deed) (d : Deed) → IsQuiet d → LeavesOut own log d
-unfolding region_by is_poll
+unfolding region_by polls_by
 quiet_leaves own log (Did (Note to what)) q = record { plain = tt; life = tt; send = tt; message = tt; greeting = tt; region = refl; poll = refl }
 quiet_leaves own log (Did (Await from what)) q = record { plain = tt; life = tt; send = tt; message = tt; greeting = tt; region = refl; poll = refl }
 quiet_leaves own log (Did (Wait count)) q = record { plain = tt; life = tt; send = tt; message = tt; greeting = tt; region = refl; poll = refl }
@@ -116,7 +115,7 @@ keeps_quiet d log v q h keeps =
 
 -- after a region was registered
 pub keeps_reg : (content : List ℕ) (log : List Deed) (v : EndpointView) → IsEager v.own log → Keeps log v → Keeps (Did (Reg content) ∷ log) (after_reg v content)
-unfolding after_reg after_ends region_by is_poll
+unfolding after_reg after_ends region_by polls_by
 keeps_reg content log v h keeps =
     let k = kept_of log v keeps in
     let d = Did (Reg content) in
@@ -166,7 +165,7 @@ insert_is v life =
 -- after an insert of a life that takes the place of no other
 pub keeps_insert : (life : Life) (log : List Deed) (v : EndpointView) → IsEager v.own (Did (Insert life) ∷ log) → Keeps log v
     → Keeps (Did (Insert life) ∷ log) (after_insert v life)
-unfolding shown_by region_by is_poll known_word known_by is_from or_else
+unfolding shown_by region_by polls_by known_word known_by is_from or_else
 keeps_insert life log v g keeps =
     let k = kept_of log v keeps in
     let d = Did (Insert life) in
@@ -198,7 +197,7 @@ drop_next (suc k) (x ∷ xs) y ys e = let r = drop_next k xs y ys e in let s : s
 -- after the first completion was polled
 pub keeps_polled : (log : List Deed) (v : EndpointView) (c : Completion) (cs : List Completion) → IsEager v.own log → v.completions ≡ c ∷ cs → Keeps log v
     → Keeps (Polled ∷ log) (after_poll v)
-unfolding after_poll polled_by region_by is_poll poll_count deed_count
+unfolding after_poll polled_by region_by polls_by poll_count deed_count
 keeps_polled log v c cs h e keeps =
     let k = kept_of log v keeps in
     let d = Polled in

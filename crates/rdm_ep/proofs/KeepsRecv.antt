@@ -12,13 +12,13 @@ use Rattle.rdm_match.specs.declared.Arrived.{Arrived}
 use Rattle.rdm_match.specs.Matcher.{Matching, Pair, accepts, after_post, after, run}
 use Rattle.rdm_model.specs.declared.job.Instr.TheVariants.{Recv}
 use Rattle.rdm_model.specs.Deeds.{Deed, Did}
-use Rattle.rdm_model.specs.Owns.{Own}
+use Rattle.rdm_model.specs.Beginnings.{Own}
 use Rattle.rdm_model.specs.Currents.{named_life}
 use Rattle.rdm_model.specs.Heard.{head_by}
 use Rattle.rdm_model.specs.Matches.{Receive, receive, receives, received_by, with_received}
 use Rattle.rdm_model.specs.Receives.{Filled, receive_numbered}
 use Rattle.rdm_model.specs.Regions.{put, change_at, after_ends, region_by}
-use Rattle.rdm_model.specs.Completions.{recv_completions, is_poll, named_by, heard_names}
+use Rattle.rdm_model.specs.Completions.{recv_completions, polls_by, named_by, heard_names}
 use Rattle.rdm_model.specs.Local.{heard_by}
 use Rattle.rdm_ep.specs.declared.state.Posted.{Posted}
 use Rattle.rdm_ep.specs.declared.state.Inbound.{Inbound}
@@ -198,7 +198,7 @@ recv_count req log v o g k e =
 -- after a receive that finds that message, or none
 recv_kept : (req : RecvReq) (log : List Deed) (v : EndpointView) (o : Option Inbound) → IsEager v.own (Did (Recv req) ∷ log) → Kept log v
     → find (takes (posted_of (new_receive log req))) v.arrived ≡ o → Keeps (Did (Recv req) ∷ log) (post_view v (posted_of (new_receive log req)) o)
-unfolding region_by is_poll ended_left event_of met_by_all met_by run after live_after receives with_received received_by head_by
+unfolding region_by polls_by ended_left event_of met_by_all met_by run after live_after receives with_received received_by head_by
 recv_kept req log v o g k e =
     let own = v.own in
     let d = Did (Recv req) in

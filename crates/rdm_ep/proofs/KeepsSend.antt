@@ -10,11 +10,11 @@ use Rattle.rdm_pkt.specs.declared.Packet.TheVariants.{Rtm}
 use Rattle.rdm_pkt.specs.declared.Form.TheVariants.{Eager}
 use Rattle.rdm_model.specs.declared.job.Instr.TheVariants.{Send}
 use Rattle.rdm_model.specs.Deeds.{Deed, Did}
-use Rattle.rdm_model.specs.Owns.{Own}
+use Rattle.rdm_model.specs.Beginnings.{Own}
 use Rattle.rdm_model.specs.Currents.{current}
 use Rattle.rdm_model.specs.Regions.{region_by}
 use Rattle.rdm_model.specs.Sends.{Sent, sends_to, known_word, wants_raw, opt_for, new_sent, sent_to_current, bytes_of, sent_by}
-use Rattle.rdm_model.specs.Completions.{recv_completions, is_poll}
+use Rattle.rdm_model.specs.Completions.{recv_completions, polls_by}
 use Rattle.rdm_ep.specs.declared.state.Outbound.{Outbound}
 use Rattle.rdm_ep.specs.View.{EndpointView, current_in}
 use Rattle.rdm_ep.specs.Peers.{peer_in, with_peer, sent_peer}
@@ -93,7 +93,7 @@ send_completes_nothing own req log g = completions_step own (Did (Send req)) log
 -- a send to a life
 send_kept : (req : SendReq) (to : Life) (log : List Deed) (v : EndpointView) → IsEager v.own (Did (Send req) ∷ log) → new_sends v.own log (Did (Send req)) ≡ send_to v.own log req to ∷ []
     → Kept log v → Keeps (Did (Send req) ∷ log) (after_send_to v req (Some to))
-unfolding after_send_to region_by is_poll live_left new_sent
+unfolding after_send_to region_by polls_by live_left new_sent
 send_kept req to log v g made k =
     let own = v.own in
     let d = Did (Send req) in
@@ -135,7 +135,7 @@ send_kept req to log v g made k =
 -- a send that no life takes changes nothing
 unsent_kept : (req : SendReq) (log : List Deed) (v : EndpointView) → IsEager v.own (Did (Send req) ∷ log) → new_sends v.own log (Did (Send req)) ≡ []
     → Kept log v → Keeps (Did (Send req) ∷ log) (after_send_to v req None)
-unfolding after_send_to region_by is_poll live_left
+unfolding after_send_to region_by polls_by live_left
 unsent_kept req log v g made k =
     let own = v.own in
     let d = Did (Send req) in

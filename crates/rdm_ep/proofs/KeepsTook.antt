@@ -17,11 +17,11 @@ use Rattle.rdm_pkt.specs.declared.Form.TheVariants.{Eager}
 use Rattle.rdm_pkt.specs.Heads.{shape_of, size_of, head_of}
 use Rattle.rdm_match.specs.Matcher.{Arrive}
 use Rattle.rdm_model.specs.Deeds.{Deed, Took, Spelled}
-use Rattle.rdm_model.specs.Owns.{Own}
+use Rattle.rdm_model.specs.Beginnings.{Own}
 use Rattle.rdm_model.specs.Heard.{is_heard}
 use Rattle.rdm_model.specs.Regions.{region_by}
 use Rattle.rdm_model.specs.Sends.{known_by}
-use Rattle.rdm_model.specs.Completions.{is_poll, named_by, heard_names}
+use Rattle.rdm_model.specs.Completions.{polls_by, named_by, heard_names}
 use Rattle.rdm_model.specs.Local.{heads_by, bytes_by, heard_by}
 use Rattle.rdm_ep.specs.declared.state.Peer.{Peer}
 use Rattle.rdm_ep.specs.declared.state.Inbound.{Inbound}
@@ -137,7 +137,7 @@ count_then from number tag confirm opt bytes log v is left g k are told more =
     let p = ap (λ es. length (met_by_all m es)) events in
     let c = k.held.count in
     let n = a.count in
-    let new = g.1.1 in
+    let new = g.1.2 in
     let names : length (heard_names (d ∷ log)) ≡ length (heard_names log) + 1 = rw new (length-append (heard_names log) (record { life = from; number = number.0 } ∷ [])) in
     omega arith
 
@@ -172,7 +172,7 @@ heard_then from number tag confirm opt bytes log v life n g c =
           let mine : is_heard (eager from number tag confirm opt bytes ∷ log) life n ≡ (is_heard log from n || (number.0 == n)) = with' ∙ (rw (s, ← is) refl) in
           ap (λ x. (nat_le first n && nat_lt n x) || held_of left life n) to
           ∙ ap (λ (l : Life). (nat_le first n && nat_lt n after) || held_of left l n) (sym is)
-          ∙ heard_here v.own log v.peers v.arrived held from number n g.1.0 c
+          ∙ heard_here v.own log v.peers v.arrived held from number n g.1.1 c
           ∙ sym mine
     ]) refl
 
@@ -304,7 +304,7 @@ keeps_message from number tag confirm opt bytes log v g keeps =
 -- after a handshake was taken, of a life of which nothing was known
 pub keeps_handshake : (from : Life) (words : List ℕ) (connid : Connid) (raw : Option PortNo) (log : List Deed) (v : EndpointView) → IsEager v.own log → (peer_in v.peers from).known ≡ None
     → Keeps log v → Keeps (Took from (Spelled (Handshake words connid raw)) ∷ log) (after_take from (Spelled (Handshake words connid raw)) v)
-unfolding after_take with_item region_by is_poll known_by
+unfolding after_take with_item region_by polls_by known_by
 keeps_handshake from words connid raw log v h none keeps =
     let k = kept_of log v keeps in
     let own = v.own in

@@ -11,7 +11,7 @@ use Rattle.rdm_match.specs.declared.Arrived.{Arrived}
 use Rattle.rdm_match.specs.Matcher.{Arrive, Pair, Matching, accepts, is_recv, after_post, after_arrive, after, run}
 use Rattle.rdm_model.specs.declared.job.Instr.TheVariants.{Recv, Cancel as CancelOp}
 use Rattle.rdm_model.specs.Deeds.{Deed, Did}
-use Rattle.rdm_model.specs.Owns.{Own}
+use Rattle.rdm_model.specs.Beginnings.{Own}
 use Rattle.rdm_model.specs.Matches.{Receive, receive, receives, received_by, with_received, matching}
 use Rattle.rdm_model.specs.Receives.{RecvEnd, Filled, Withdrawn, ended_recv, has_ended, live_receives}
 use Rattle.rdm_model.specs.Local.{heads_by}

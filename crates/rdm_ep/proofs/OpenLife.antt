@@ -3,7 +3,7 @@ use Rattle.std.proofs.Common.{◌≡◌, ℕ, List, Some, refl}
 use Rattle.rdm_num.specs.declared.numbers.Connid.{Connid}
 use Rattle.rdm_model.specs.declared.job.Job.{Job}
 use Rattle.rdm_model.specs.Deeds.{Deed, open_life, of_life, of_open_life}
-use Rattle.rdm_model.specs.Owns.{own_of, life_at, port_count}
+use Rattle.rdm_model.specs.Beginnings.{own_of, life_at, port_count}
 use Rattle.rdm_model.specs.Scenes.{scene}
 use Rattle.rdm_model.specs.Local.{own_scene}
 use Rattle.rdm_ep.specs.Answers.{life_scene}

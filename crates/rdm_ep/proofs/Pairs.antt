@@ -10,7 +10,7 @@ use Rattle.rdm_match.specs.declared.Arrived.{Arrived}
 use Rattle.rdm_match.specs.Matcher.{Event, Post, Arrive, Cancel, Forget, Pair, Matching, accepts, is_recv, after_post, after_arrive, after, run, is_pair}
 use Rattle.rdm_model.specs.declared.job.Instr.TheVariants.{Insert, Recv, Cancel as CancelOp}
 use Rattle.rdm_model.specs.Deeds.{Deed, Did, Took}
-use Rattle.rdm_model.specs.Owns.{Own, Heads}
+use Rattle.rdm_model.specs.Beginnings.{Own, Heads}
 use Rattle.rdm_model.specs.Heard.{has_entered, entering}
 use Rattle.rdm_model.specs.Matches.{receive, receives, received_by, with_received, events_by, matching}
 use Rattle.rdm_model.specs.Local.{heads_by}
@@ -51,7 +51,7 @@ events_are : (own : Own) (d : Deed) (before : List Deed) → IsEagerDeed own bef
 unfolding events_by event_of arriving
 events_are own (Did (Recv req)) before h = refl
 events_are own (Did (CancelOp recv)) before h = refl
-events_are own (Did (Insert life)) before h = ap (map Forget) h
+events_are own (Did (Insert life)) before h = ap (map Forget) h.0
 events_are own (Took from item) before h =
     map_twice Arrive (message_by (heads_by (Took from item ∷ before)) from) (entering own.limits.first (Took from item) before from)
 events_are own _ before h = refl

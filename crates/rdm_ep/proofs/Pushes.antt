@@ -5,7 +5,7 @@ use Rattle.std.proofs.lemmas.List.{append-nil}
 use Rattle.std.proofs.lemmas.List.Elements.{filter-append}
 use Rattle.rdm_pkt.specs.declared.Packet.{Packet}
 use Rattle.rdm_model.specs.Deeds.{Deed, Pushed}
-use Rattle.rdm_model.specs.Owns.{Own, Messages}
+use Rattle.rdm_model.specs.Beginnings.{Own, Messages}
 use Rattle.rdm_model.specs.Sends.{Sent, sent_by, with_sent, sends}
 use Rattle.rdm_model.specs.Replies.{Reply, handshake_by, without_forgotten, replies_by}
 use Rattle.rdm_model.specs.Dues.{Progress, is_over, reply_due, next_due, after_push, after_deed, progress, due, live_of, live_sends}

@@ -15,7 +15,7 @@ use Rattle.rdm_pkt.specs.declared.Form.TheVariants.{Eager}
 use Rattle.rdm_pkt.specs.Heads.{head_of}
 use Rattle.rdm_match.specs.declared.Arrived.{Arrived}
 use Rattle.rdm_model.specs.Deeds.{Deed, Took, Spelled}
-use Rattle.rdm_model.specs.Owns.{Own, Heads}
+use Rattle.rdm_model.specs.Beginnings.{Own, Heads}
 use Rattle.rdm_model.specs.Heard.{head_by, heard_head, is_heard, entering}
 use Rattle.rdm_model.specs.Local.{heads_by}
 use Rattle.rdm_ep.specs.declared.state.Peer.{Peer}
@@ -24,7 +24,7 @@ use Rattle.rdm_ep.specs.Receiving.{arrived_message}
 use Rattle.rdm_ep.specs.Entering.{following, entering_by}
 use Rattle.rdm_ep.specs.Handling.{inbound}
 use Rattle.rdm_ep.proofs.Entered.{heard_stays}
-use Rattle.rdm_ep.proofs.Entering.{IsNext, entering_is}
+use Rattle.rdm_ep.proofs.Entering.{IsNextNumber, entering_is}
 use Rattle.rdm_ep.proofs.Held.{InRun, following_run, following_count, following_any, following_ends}
 use Rattle.rdm_ep.proofs.Pairs.{message_by, arriving}
 use Rattle.rdm_ep.proofs.Groups.{next_of, held_of, HeldKept}
@@ -46,7 +46,7 @@ heard_with log from number tag confirm opt bytes life n =
 
 -- the next number of a life, by what is kept
 pub next_kept : (own : Own) (log : List Deed) (peers : List Peer) (arrived held : List Inbound) (life : Life) → HeldKept own log peers arrived held
-    → IsNext own.limits.first log life (next_of own.limits.first peers life)
+    → IsNextNumber own.limits.first log life (next_of own.limits.first peers life)
 next_kept own log peers arrived held life k =
     let first = own.limits.first in
     record {
@@ -110,7 +110,7 @@ number_after held from number = number.0 + 1 + length (following (length held) h
 
 -- the next number then
 pub next_then : (own : Own) (log : List Deed) (peers : List Peer) (arrived held : List Inbound) (from : Life) (number : MsgNo) (tag : Option ℕ) (confirm : Bool) (opt : Opt) (bytes : List ℕ)
-    → ComesNext own log peers arrived held from number → IsNext own.limits.first (eager from number tag confirm opt bytes ∷ log) from (number_after held from number)
+    → ComesNext own log peers arrived held from number → IsNextNumber own.limits.first (eager from number tag confirm opt bytes ∷ log) from (number_after held from number)
 next_then own log peers arrived held from number tag confirm opt bytes c =
     let first = own.limits.first in
     let d = eager from number tag confirm opt bytes in
@@ -189,7 +189,7 @@ entering_ahead own log peers arrived held from number tag confirm opt bytes k ot
     let q : (number.0 == next) ≡ false = ne_eqb number.0 next other in
     let s = same_life-refl from in
     let a = was.at in
-    let now : IsNext first (d ∷ log) from next =
+    let now : IsNextNumber first (d ∷ log) from next =
     record {
       from = was.from;
       below = λ n low less. heard_stays d log from n (was.below n low less);

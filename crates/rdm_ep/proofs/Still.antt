@@ -13,14 +13,14 @@ use Rattle.rdm_match.specs.Matcher.{Matching, run}
 use Rattle.rdm_pkt.specs.declared.Packet.TheVariants.{Rtm}
 use Rattle.rdm_model.specs.declared.job.Instr.TheVariants.{Insert, Send, Recv, Cancel}
 use Rattle.rdm_model.specs.Deeds.{Deed, Did, Took, Pushed, Item, Spelled, deed_count}
-use Rattle.rdm_model.specs.Owns.{Own}
+use Rattle.rdm_model.specs.Beginnings.{Own}
 use Rattle.rdm_model.specs.Heard.{head_by, heard_head, is_heard, heard_below, has_entered, entering}
 use Rattle.rdm_model.specs.Matches.{Receive, receives, received_by, with_received}
 use Rattle.rdm_model.specs.Receives.{Filled}
 use Rattle.rdm_model.specs.Regions.{after_ends, region_by}
 use Rattle.rdm_model.specs.Sends.{Sent, sends_to, known_by, known_word, sent_by}
-use Rattle.rdm_model.specs.Replies.{Reply, is_from, handshake_by}
-use Rattle.rdm_model.specs.Completions.{is_poll, poll_count, named_by, heard_names, recv_completions}
+use Rattle.rdm_model.specs.Replies.{Reply, greets, handshake_by, meets}
+use Rattle.rdm_model.specs.Completions.{polls_by, poll_count, named_by, heard_names, recv_completions}
 use Rattle.rdm_model.specs.Local.{heads_by, bytes_by}
 use Rattle.rdm_model.proofs.Matches.{arrived_heard}
 use Rattle.rdm_ep.specs.declared.state.Peer.{Peer}
@@ -32,7 +32,7 @@ use Rattle.rdm_ep.specs.Receiving.{arrived_message}
 use Rattle.rdm_ep.specs.Entering.{is_message}
 use Rattle.rdm_ep.specs.Handling.{inbound_head}
 use Rattle.rdm_ep.specs.Eager.{IsEagerDeed, IsEager}
-use Rattle.rdm_ep.specs.Keeps.{posted_of, outbound_of}
+use Rattle.rdm_ep.specs.Keeps.{posted_of, outbound_of, is_from}
 use Rattle.rdm_ep.proofs.Currents.{shown_by, current_step}
 use Rattle.rdm_ep.proofs.Accounts.{head_stays, bytes_stay}
 use Rattle.rdm_ep.proofs.Pairs.{own_matching, arriving, event_of, matching_step, met_by_all, new_pairs, pairs_step}
@@ -239,17 +239,18 @@ pub held_still : (own : Own) (d : Deed) (before : List Deed) (peers : List Peer)
     → HeldKept own before peers arrived held → HeldKept own (d ∷ before) peers arrived held
 held_still own d before peers arrived held h n k = held_still_by own d before peers peers arrived held h n (λ life. refl) k
 
--- a deed that takes and pushes nothing leaves what is owed
-greets_nobody : (own : Own) (d : Deed) (before : List Deed) → GreetsNobody d → ((rs : List Reply) → replies_left d rs ≡ rs) × (handshake_by own before d ≡ [])
-unfolding replies_left handshake_by
-greets_nobody own (Took from item) before n = elim n [ ]
-greets_nobody own Pushed before n = elim n [ ]
-greets_nobody own _ before n = (λ rs. refl, refl)
+-- an eager deed that takes and pushes nothing leaves what is owed
+greets_nobody : (own : Own) (d : Deed) (before : List Deed) → IsEagerDeed own before d → GreetsNobody d → ((rs : List Reply) → replies_left d rs ≡ rs) × (handshake_by own before d ≡ [])
+unfolding replies_left handshake_by greets meets
+greets_nobody own (Took from item) before h n = elim n [ ]
+greets_nobody own Pushed before h n = elim n [ ]
+greets_nobody own (Did (Insert life)) before h n = let e = h.1 in (λ rs. refl, rw e refl)
+greets_nobody own _ before h n = (λ rs. refl, refl)
 
 -- what is owed stays where nothing is taken or pushed
 pub owed_still : (own : Own) (d : Deed) (before : List Deed) (owed : List Life) → IsEager own (d ∷ before) → GreetsNobody d → OwedKept own before owed → OwedKept own (d ∷ before) owed
 owed_still own d before owed h n k =
-    let u = greets_nobody own d before n in
+    let u = greets_nobody own d before h.1 n in
     k ∙ sym (replies_step own d before h ∙ ap (λ (rs : List Reply). replies_left d (own_progress own before).replies ++ rs) u.1
     ∙ append-nil (replies_left d (own_progress own before).replies) ∙ u.0 (own_progress own before).replies)
 
@@ -282,11 +283,11 @@ none_completed own d before h n s =
 
 -- the completions stay where nothing is met, pushed or polled
 pub completions_still : (own : Own) (d : Deed) (before : List Deed) (polled : ℕ) (completions : List Completion) → IsEager own (d ∷ before) → MeetsNothing d → SendsNothing d
-    → is_poll d ≡ 0 → CompletionsKept own before polled completions → CompletionsKept own (d ∷ before) polled completions
+    → polls_by d ≡ 0 → CompletionsKept own before polled completions → CompletionsKept own (d ∷ before) polled completions
 unfolding poll_count deed_count
 completions_still own d before polled completions h n s e k =
     let c = none_completed own d before h n s in
-    let same : deed_count is_poll before + is_poll d ≡ deed_count is_poll before = omega arith in
+    let same : deed_count polls_by before + polls_by d ≡ deed_count polls_by before = omega arith in
     record {
       polled_are = k.polled_are ∙ sym same;
       polled_within = rw (same, c) k.polled_within;

@@ -13,7 +13,7 @@ use Rattle.rdm_pkt.specs.declared.Form.TheVariants.{Eager}
 use Rattle.rdm_pkt.specs.Heads.{shape_of, size_of, head_of, piece_of}
 use Rattle.rdm_match.specs.Matcher.{Pair}
 use Rattle.rdm_model.specs.Deeds.{Deed, Took, Spelled}
-use Rattle.rdm_model.specs.Owns.{Own, Heads}
+use Rattle.rdm_model.specs.Beginnings.{Own, Heads}
 use Rattle.rdm_model.specs.Heard.{head_by, heard_head, is_heard}
 use Rattle.rdm_model.specs.Matches.{pairs}
 use Rattle.rdm_model.specs.Parts.{piece_by, carried_by, carried_pieces}
@@ -31,6 +31,7 @@ pub record Tells (own : Own) (before : List Deed) (ps : List Pair) (source : Lif
   pub is_new : heard_head before source n ≡ None
   pub told : head_by source n d ≡ Some head
   pub is_eager : head.shape ≡ S.Eager
+  pub unconfirmed : head.confirm ≡ false
   pub length_is : head.length ≡ length bytes
   pub carried : carried_by ps source n d ≡ Some (whole bytes)
 
@@ -58,9 +59,10 @@ tells_or_silent own before ps source n (Took from (Spelled (Rtm number tag confi
             | true ↦ λ e. inl (record {
               head = head_of tag confirm opt (Eager bytes);
               bytes = bytes;
-              is_new = unheard before from source number.0 n (same_life-true from source s) (eqb-true number.0 n e) h.1;
+              is_new = unheard before from source number.0 n (same_life-true from source s) (eqb-true number.0 n e) h.2;
               told = rw (s, e) refl;
               is_eager = refl;
+              unconfirmed = h.0;
               length_is = refl;
               carried = rw (s, e) refl;
             })
@@ -77,6 +79,7 @@ tells_or_silent own before ps source n _ h = inr (record { told = refl; carried 
 pub record Came (own : Own) (heads : Heads) (log : List Deed) (source : Life) (n : ℕ) (head : Head) : Type 0 where
   pub bytes : List ℕ
   pub is_eager : head.shape ≡ S.Eager
+  pub unconfirmed : head.confirm ≡ false
   pub length_is : head.length ≡ length bytes
   pub carried : carried_pieces own.limits.first heads log source n ≡ whole bytes ∷ []
 
@@ -110,6 +113,7 @@ heard_came own heads (d ∷ before) source n head h is =
           record {
             bytes = t.bytes;
             is_eager = sym (ap (λ (x : Head). x.shape) same) ∙ t.is_eager;
+            unconfirmed = sym (ap (λ (x : Head). x.confirm) same) ∙ t.unconfirmed;
             length_is = sym (ap (λ (x : Head). x.length) same) ∙ t.length_is;
             carried = let c = t.carried in rw (none, c) refl;
           }
@@ -123,6 +127,7 @@ heard_came own heads (d ∷ before) source n head h is =
           record {
             bytes = c.bytes;
             is_eager = c.is_eager;
+            unconfirmed = c.unconfirmed;
             length_is = c.length_is;
             carried = let x = c.carried in let y = t.carried in rw (x, y) refl;
           }

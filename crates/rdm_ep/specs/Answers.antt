@@ -13,10 +13,11 @@ use Rattle.rdm_model.specs.declared.answer.Why.TheVariants as W
 use Rattle.rdm_model.specs.declared.answer.Next.{Next}
 use Rattle.rdm_model.specs.declared.answer.Next.TheVariants as N
 use Rattle.rdm_model.specs.declared.answer.DidWhat.TheVariants.{Sent, Posted}
+use Rattle.rdm_model.specs.declared.answer.Yet.TheVariants as Yet
 use Rattle.rdm_model.specs.declared.answer.Handled.{Handled}
 use Rattle.rdm_model.specs.declared.answer.Handled.TheVariants as H
 use Rattle.rdm_model.specs.Deeds.{Deed, item_of}
-use Rattle.rdm_model.specs.Owns.{Own}
+use Rattle.rdm_model.specs.Beginnings.{Own}
 use Rattle.rdm_model.specs.Scenes.{Scene}
 use Rattle.rdm_model.specs.Classes.{class_of}
 use Rattle.rdm_model.specs.Takes.{handled_answer, is_again_early}
@@ -36,6 +37,7 @@ why_of_send S.Range = W.Range
 why_of_send S.NoEntry = W.NoEntry
 why_of_send S.Busy = W.Busy
 why_of_send S.Numbers = W.Numbers
+why_of_send S.NoConfirm = W.NoConfirm
 
 -- why a receive is refused, among all reasons
 unfoldable pub why_of_recv : RecvWhy → Why
@@ -48,6 +50,7 @@ why_of_recv R.Busy = W.Busy
 unfoldable pub next_of_send : SendAnswer → Next
 next_of_send (SendA.Did send msg) = N.Did (Sent send msg)
 next_of_send (SendA.Refused why) = N.Refused (why_of_send why)
+next_of_send SendA.NotYet = N.NotYet Yet.Handshake
 next_of_send (SendA.Again pool) = N.Again pool
 next_of_send SendA.Memory = N.Memory
 

@@ -45,14 +45,14 @@ unfoldable pub is_eager : Form → Bool
 is_eager (Eager bytes) = true
 is_eager _ = false
 
--- the class of a packet that opens a message. What is not built, a message in other than one packet, is dropped as if it
--- were no packet
+-- the class of a packet that opens a message. What is not built, a message in other than one packet or one that asks for a
+-- receipt, is dropped as if it were no packet
 unfoldable pub rtm_class : EndpointView → Life → (number : ℕ) → Head → Form → Option Class
 rtm_class v from number head form =
     first_case
     ((has_other_head v from number head, Some Mismatch)
     ∷ (nat_lt number (next_in v from) || is_held_in v from number, Some Overlap)
-    ∷ (not (is_eager form), Some Malformed)
+    ∷ (head.confirm || not (is_eager form), Some Malformed)
     ∷ [])
     None
 

@@ -1,12 +1,13 @@
 -- What an endpoint keeps of the deeds of its life.
-use Rattle.std.specs.Prelude.{None, ◌≡◌, ◌≤◌, ◌+◌, ℕ, false, List, [], ◌∷◌, map, length, drop}
+use Rattle.std.specs.Prelude.{None, ◌≡◌, ◌≤◌, ◌+◌, ℕ, Bool, false, List, [], ◌∷◌, map, length, drop}
 use Rattle.std.specs.List.{list_any}
 use Rattle.rdm_lists.specs.Lists.{Member}
+use Rattle.rdm_num.specs.Lives.{same_life}
 use Rattle.rdm_num.specs.declared.numbers.Life.{Life}
 use Rattle.rdm_pkt.specs.declared.Form.TheVariants.{Eager}
 use Rattle.rdm_pkt.specs.Openings.{rtm}
-use Rattle.rdm_model.specs.Deeds.{Deed}
-use Rattle.rdm_model.specs.Owns.{Own, Messages}
+use Rattle.rdm_model.specs.Deeds.{Deed, Took}
+use Rattle.rdm_model.specs.Beginnings.{Own, Messages}
 use Rattle.rdm_model.specs.Local.{heard_by}
 use Rattle.rdm_model.specs.Currents.{current}
 use Rattle.rdm_model.specs.Heard.{is_heard}
@@ -14,11 +15,9 @@ use Rattle.rdm_model.specs.Matches.{Receive, receives, matching}
 use Rattle.rdm_model.specs.Receives.{live_receives}
 use Rattle.rdm_model.specs.Regions.{regions}
 use Rattle.rdm_model.specs.Sends.{Sent, sends, sends_to, known_word}
-use Rattle.rdm_model.specs.Replies.{Reply, reply, is_from}
+use Rattle.rdm_model.specs.Replies.{Reply, reply, greeting}
 use Rattle.rdm_model.specs.Dues.{progress, live_sends}
 use Rattle.rdm_model.specs.Completions.{completions, poll_count, heard_names}
-use Rattle.rdm_model.specs.Deeds.{Spelled}
-use Rattle.rdm_pkt.specs.declared.Packet.TheVariants.{Handshake}
 use Rattle.rdm_ep.specs.declared.state.Posted.{Posted}
 use Rattle.rdm_ep.specs.declared.state.Inbound.{Inbound}
 use Rattle.rdm_ep.specs.declared.state.Outbound.{Outbound}
@@ -37,8 +36,13 @@ abbrev pub outbound_of : Sent → Outbound
 outbound_of s = record { number = record { 0 = s.number }; to = s.to; req = s.req; packet = rtm s.message (Eager s.message.bytes) }
 
 -- the handshake that is owed to a life
-abbrev pub greeting : Own → Life → Reply
-greeting own life = reply life (Spelled (Handshake (own.features ∷ []) own.life.connid None))
+abbrev pub handshake_to : Own → Life → Reply
+handshake_to own life = reply life (greeting own None)
+
+-- a datagram of that life was taken
+unfoldable pub is_from : Life → Deed → Bool
+is_from life (Took from item) = same_life from life
+is_from life _ = false
 
 -- the message that waits has the head and the bytes of that account
 abbrev pub IsToldBy : Messages → Inbound → Type 0
@@ -64,7 +68,7 @@ pub record Keeps (log : List Deed) (v : EndpointView) : Type 0 where
   pub next_are : (life : Life) → is_heard log life (next_in v life) ≡ false
   pub entered_within : (life : Life) → (peer_in v.peers life).entered + length v.held ≤ length log
   pub waiting_count : length v.arrived + length v.held + length (matching v.own.limits.first (heard_by v.own.limits.first log).head log).pairs ≡ length (heard_names log)
-  pub owed_are : map (greeting v.own) v.owed ≡ (progress v.own (heard_by v.own.limits.first log) log).replies
+  pub owed_are : map (handshake_to v.own) v.owed ≡ (progress v.own (heard_by v.own.limits.first log) log).replies
   pub outgoing_are : v.outgoing ≡ map outbound_of (live_sends v.own (heard_by v.own.limits.first log) log)
   pub polled_within : poll_count log ≤ length (completions v.own (heard_by v.own.limits.first log) log)
   pub completions_are : v.completions ≡ drop (poll_count log) (completions v.own (heard_by v.own.limits.first log) log)

@@ -1,6 +1,7 @@
 -- What the calls that register, insert and send make of an endpoint.
-use Rattle.std.specs.Prelude.{◌≡◌, ◌<◌, ⊤, ℕ, ◌+◌, Bool, true, false, not, ◌&&◌, ◌==◌, nat_lt, nat_le, List, [], ◌∷◌, ◌++◌, length, get_or, Option, Some, None, is_none, Result, Ok, Err, if◌then◌else◌}
+use Rattle.std.specs.Prelude.{◌≡◌, ◌<◌, ⊤, ℕ, ◌+◌, Bool, true, false, not, ◌&&◌, ◌||◌, ◌==◌, nat_lt, nat_le, List, [], ◌∷◌, ◌++◌, length, get_or, Option, Some, None, is_none, Result, Ok, Err, if◌then◌else◌}
 use Rattle.std.specs.List.{list_any}
+use Rattle.rdm_hdr.specs.Fields.{has_bit}
 use Rattle.rdm_lists.specs.Lists.{first_case}
 use Rattle.rdm_num.specs.Pieces.{overlaps}
 use Rattle.rdm_num.specs.Lives.{same_life}
@@ -12,11 +13,13 @@ use Rattle.rdm_pkt.specs.declared.Form.TheVariants.{Eager}
 use Rattle.rdm_model.specs.declared.answer.SendWhy.TheVariants as Why
 use Rattle.rdm_model.specs.declared.answer.PoolName.TheVariants as Pool
 use Rattle.rdm_model.specs.Sends.{wants_raw, opt_for, bytes_of}
+use Rattle.rdm_model.specs.Replies.{confirm_feature}
+use Rattle.rdm_model.specs.Answers.{lacks_confirm}
 use Rattle.rdm_ep.specs.declared.state.Posted.{Posted}
 use Rattle.rdm_ep.specs.declared.state.Outbound.{Outbound}
 use Rattle.rdm_ep.specs.declared.state.AcceptedSend.{AcceptedSend}
 use Rattle.rdm_ep.specs.declared.answer.SendAnswer.{SendAnswer}
-use Rattle.rdm_ep.specs.declared.answer.SendAnswer.TheVariants.{Did, Refused, Again}
+use Rattle.rdm_ep.specs.declared.answer.SendAnswer.TheVariants.{Did, Refused, NotYet, Again}
 use Rattle.rdm_ep.specs.declared.answer.Inserted.{Inserted as InsertedAnswer}
 use Rattle.rdm_ep.specs.declared.answer.Inserted.TheVariants.{Inserted, Same}
 use Rattle.rdm_ep.specs.declared.answer.InsertRefused.{InsertRefused}
@@ -85,6 +88,19 @@ unfoldable pub has_no_number : EndpointView → Option Life → Bool
 has_no_number v None = false
 has_no_number v (Some to) = nat_le 4294967296 (number_to v to)
 
+-- what is known of a life's features, if there is a life
+unfoldable pub known_in : EndpointView → Option Life → Option ℕ
+known_in v None = None
+known_in v (Some to) = (peer_in v.peers to).known
+
+-- the send asks for a receipt, and the own life or the one that it goes to cannot confirm
+unfoldable pub cannot_confirm : EndpointView → SendReq → Option Life → Bool
+cannot_confirm v req to = req.confirm && (not (has_bit confirm_feature v.own.features) || lacks_confirm (known_in v to))
+
+-- the send asks for a receipt, and nothing is known of the life that it goes to
+unfoldable pub waits_for_handshake : EndpointView → SendReq → Option Life → Bool
+waits_for_handshake v req to = req.confirm && is_none (known_in v to)
+
 -- every place for a completion is taken
 unfoldable pub cq_is_full : EndpointView → Bool
 cq_is_full v = nat_le v.own.limits.cq (cq_in v)
@@ -98,6 +114,8 @@ send_answer v req =
     ∷ (is_none (current_in v req.to.0), Refused Why.NoEntry)
     ∷ (meets_a_receive v req.parts, Refused Why.Busy)
     ∷ (has_no_number v (current_in v req.to.0), Refused Why.Numbers)
+    ∷ (cannot_confirm v req (current_in v req.to.0), Refused Why.NoConfirm)
+    ∷ (waits_for_handshake v req (current_in v req.to.0), NotYet)
     ∷ (nat_le v.own.limits.tx (length v.outgoing), Again Pool.Tx)
     ∷ (cq_is_full v, Again Pool.Cq)
     ∷ [])
@@ -149,7 +167,8 @@ abbrev pub IsNoSend : SendAnswer → Type 0
 IsNoSend (Did send msg) = ⊥
 IsNoSend _ = ⊤
 
--- a send that waits for a place
+-- a send that waits, for a place or for a handshake
 unfoldable pub is_again : SendAnswer → Bool
 is_again (Again pool) = true
+is_again NotYet = true
 is_again _ = false

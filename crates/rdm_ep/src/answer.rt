@@ -26,6 +26,8 @@ pub enum InsertRefused {
 pub enum SendAnswer {
     Did { send: SendNo, msg: MsgNo },
     Refused(SendWhy),
+    /// The send asks for a receipt, and nothing is known of the life that it goes to.
+    NotYet,
     Again(PoolName),
     Memory,
 }

@@ -1,8 +1,11 @@
 //! What is known of lives.
-ghost use Rattle.std.specs.Prelude.{◌≡◌, ◌<◌, ◌≤◌, ◌+◌, true, vec_len, vec_capacity};
+ghost use Rattle.std.specs.Prelude.{◌≡◌, ◌<◌, ◌≤◌, ◌+◌, true, not, ◌||◌, vec_len, vec_capacity};
 ghost use Rattle.std.specs.List.{position_from};
 ghost use Rattle.rdm_num.specs.Lives.{same_life};
+ghost use Rattle.rdm_hdr.specs.Fields.{has_bit};
 ghost use Rattle.rdm_pkt.specs.Grammar.{opt_fits};
+ghost use Rattle.rdm_model.specs.Answers.{lacks_confirm};
+ghost use Rattle.rdm_model.specs.Replies.{confirm_feature};
 ghost use Rattle.rdm_model.specs.Sends as Sends;
 ghost use Rattle.rdm_ep.specs.Peers.{peer_in, put_peer, IsPeerPlace};
 
@@ -65,6 +68,25 @@ pub fn wants_raw(known: Option<u64>) -> bool
         None => true,
         Some(word) => word / 4 % 2 == 1,
     }
+}
+
+/// The own life or the one that a send goes to cannot confirm, as far as is known.
+#[tactic(auto, unfolding(rdm_model::specs::Answers::lacks_confirm, rdm_hdr::specs::Fields::has_bit))]
+pub fn cannot_confirm(own: u64, known: Option<u64>) -> bool
+    ensures { result ≡ (not (has_bit confirm_feature own) || lacks_confirm known) }
+{
+    match known {
+        None => !can_confirm(own),
+        Some(word) => !can_confirm(own) || !can_confirm(word),
+    }
+}
+
+/// A life of these features can confirm that it received a message.
+#[tactic(auto, unfolding(rdm_hdr::specs::Fields::has_bit))]
+pub fn can_confirm(features: u64) -> bool
+    ensures { result ≡ has_bit confirm_feature features }
+{
+    features / 2 % 2 == 1
 }
 
 /// The optional headers of a send's packets.

@@ -7,7 +7,7 @@ use crate::answer::{InsertRefused, Inserted, SendAnswer};
 use crate::current::current_of;
 use crate::endpoint::Endpoint;
 use crate::packets::eager;
-use crate::peers::{peer_of, write_peer};
+use crate::peers::{cannot_confirm, peer_of, write_peer};
 use crate::ranges::{gather, overlaps, passes_end, region_of};
 use crate::state::{AcceptedSend, Outbound, Peer};
 use rdm_model::{PoolName, SendWhy};
@@ -79,20 +79,20 @@ impl Endpoint {
         }
     }
 
-    /// Whether a send would wait for a place in a pool.
+    /// Whether a send would wait, for a place in a pool or for a handshake.
     #[tactic(auto, unfolding(crate::specs::Sending::is_again))]
     pub fn waits_send(&self, s: &SendReq) -> bool
         ensures { result ≡ is_again (Sending.send_answer self.now s.now) }
     {
         match self.check_send(s) {
             Ok(_) => false,
-            Err(SendAnswer::Again(_)) => true,
+            Err(SendAnswer::NotYet | SendAnswer::Again(_)) => true,
             Err(_) => false,
         }
     }
 
     /// The life and the number of a send's message, or why the send is not accepted.
-    #[tactic(auto, unfolding(crate::specs::Sending::send_answer, crate::specs::Sending::has_no_number, crate::specs::Sending::number_to, crate::specs::Sending::number_to_current, crate::specs::Sending::cq_is_full, crate::specs::View::cq_in, crate::specs::View::current_in, rdm_lists::specs::Lists::first_case))]
+    #[tactic(auto, unfolding(crate::specs::Sending::send_answer, crate::specs::Sending::has_no_number, crate::specs::Sending::number_to, crate::specs::Sending::number_to_current, crate::specs::Sending::cannot_confirm, crate::specs::Sending::waits_for_handshake, crate::specs::Sending::known_in, crate::specs::Sending::cq_is_full, crate::specs::View::cq_in, crate::specs::View::current_in, rdm_lists::specs::Lists::first_case))]
     fn check_send(&self, s: &SendReq) -> Result<AcceptedSend, SendAnswer>
         ensures { MatchResult result (λ a. CanSend self.now s.now a) (λ r. (r ≡ Sending.send_answer self.now s.now) × IsNoSend r) }
     {
@@ -112,6 +112,15 @@ impl Endpoint {
         let number = u64::from(self.limits.first).saturating_add(peer_of(&self.peers, to).sent);
         if 4_294_967_296 <= number {
             return Err(SendAnswer::Refused(SendWhy::Numbers));
+        }
+        if s.confirm {
+            let known = peer_of(&self.peers, to).known;
+            if cannot_confirm(self.features, known) {
+                return Err(SendAnswer::Refused(SendWhy::NoConfirm));
+            }
+            if known.is_none() {
+                return Err(SendAnswer::NotYet);
+            }
         }
         if self.limits.tx as usize <= self.outgoing.len() {
             return Err(SendAnswer::Again(PoolName::Tx));
@@ -214,7 +223,7 @@ impl Endpoint {
     }
 
     /// Every place for a completion is taken.
-    #[tactic(auto, unfolding(crate::specs::Sending::cq_is_full, crate::specs::View::cq_in))]
+    #[tactic(auto, unfolding(crate::specs::Sending::cannot_confirm, crate::specs::Sending::waits_for_handshake, crate::specs::Sending::known_in, crate::specs::Sending::cq_is_full, crate::specs::View::cq_in))]
     pub(crate) fn cq_is_full(&self) -> bool
         ensures { result ≡ Sending.cq_is_full self.now }
     {

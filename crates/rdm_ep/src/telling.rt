@@ -1,10 +1,13 @@
 //! What an endpoint tells its port.
 ghost use Rattle.std.specs.Prelude.{◌≡◌, length};
+ghost use Rattle.rdm_hdr.specs.Fields.{has_bit};
+ghost use Rattle.rdm_model.specs.Replies.{confirm_feature};
 ghost use Rattle.rdm_ep.specs.View.{current_in, cq_in};
 ghost use Rattle.rdm_ep.specs.Sending as Sending;
 
 use crate::current::current_of;
 use crate::endpoint::Endpoint;
+use crate::peers::can_confirm;
 use rdm_num::{Connid, Life, is_same_life};
 
 impl Endpoint {
@@ -49,6 +52,13 @@ impl Endpoint {
         ensures { result ≡ self.now.polled }
     {
         self.polled
+    }
+
+    /// Whether a life that is inserted would be greeted: the own life can confirm.
+    pub fn greets_inserted(&self) -> bool
+        ensures { result ≡ has_bit confirm_feature self.now.own.features }
+    {
+        can_confirm(self.features)
     }
 
     /// Whether an insert of the life would take the place of another one.

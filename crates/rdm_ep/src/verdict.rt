@@ -96,7 +96,7 @@ impl Endpoint {
     }
 
     /// Decides on a packet that opens a message.
-    #[tactic(auto, unfolding(crate::specs::Verdicts::verdict_of, crate::specs::Verdicts::accepted_of, crate::specs::Handling::rtm_class, crate::specs::Handling::is_eager, rdm_lists::specs::Lists::first_case))]
+    #[tactic(auto, unfolding(crate::specs::Verdicts::verdict_of, crate::specs::Verdicts::accepted_of, crate::specs::Handling::rtm_class, crate::specs::Handling::is_eager, rdm_pkt::specs::Heads::head_of, rdm_lists::specs::Lists::first_case))]
     fn opening_verdict(
         &self,
         from: Life,
@@ -115,6 +115,9 @@ impl Endpoint {
         }
         if self.has_entered(from, no) || self.is_held(from, no) {
             return Ok(Verdict::Refuse(Class::Overlap));
+        }
+        if confirm {
+            return Ok(Verdict::Refuse(Class::Malformed));
         }
         match form {
             Form::Eager { bytes } => Ok(Verdict::Message(Inbound {

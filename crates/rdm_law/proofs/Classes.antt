@@ -14,4 +14,6 @@ pub mod ClassKeys
 pub mod Cover
 pub mod ClassEnds
 pub mod ClassData
+pub mod ReceiptsKnown
+pub mod ClassReceipts
 pub mod ClassFree

@@ -4,6 +4,8 @@ pub mod Live
 pub mod FilledEnds
 pub mod SentSizes
 pub mod LiveSends
+pub mod Overs
+pub mod Receipts
 pub mod SendsDone
 pub mod CompletionsCounted
 pub mod EndsCounted

@@ -14,7 +14,7 @@ use Rattle.rdm_model.specs.declared.answer.PoolName.TheVariants.{Tx, Rx, Cq}
 use Rattle.rdm_model.specs.declared.entry.Entry.{Entry}
 use Rattle.rdm_model.specs.declared.entry.Act.TheVariants.{Handle}
 use Rattle.rdm_model.specs.Deeds.{Deed, deed_of, log_of}
-use Rattle.rdm_model.specs.Owns.{Own, Messages, own_of, rank_of}
+use Rattle.rdm_model.specs.Beginnings.{Own, Messages, own_of, rank_of}
 use Rattle.rdm_model.specs.Currents.{current, is_forgotten}
 use Rattle.rdm_model.specs.Heard.{heard_head}
 use Rattle.rdm_model.specs.Matches.{receives, matching, pairs}

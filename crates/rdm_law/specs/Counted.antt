@@ -18,11 +18,11 @@ use Rattle.rdm_model.specs.declared.entry.Act.TheVariants.{Next, Handle}
 use Rattle.rdm_model.specs.declared.report.End.{End}
 use Rattle.rdm_model.specs.declared.report.Report.{Report}
 use Rattle.rdm_model.specs.Deeds.{log_of, open_life}
-use Rattle.rdm_model.specs.Owns.{own_of, port_count}
+use Rattle.rdm_model.specs.Beginnings.{own_of, port_count}
 use Rattle.rdm_model.specs.Currents.{current}
 use Rattle.rdm_model.specs.Steps.{count}
 use Rattle.rdm_model.specs.Lawful.{port_deeds, life_deeds, sent_to, sent_scene}
-use Rattle.rdm_model.specs.Reports.{is_to_other, is_from_other}
+use Rattle.rdm_model.specs.Reports.{drops_to_other, drops_from_other}
 use Rattle.rdm_law.specs.Clauses.{ChangesNothing, OwesAs, IsFull}
 
 -- at that port the datagram is to another life than the one that is open; or it is to that life, which holds another life than the sender as current at the sender's port
@@ -49,8 +49,8 @@ DropsAreOther job history =
 -- the report has an end for each port, which counts the port's drops of either kind
 pub record CountsDrops (job : Job) (report : Report) : Type 0 where
   pub each_port : length report.ends ≡ port_count job
-  pub to_other : (port : ℕ) (end' : End) → slice_get report.ends port ≡ Some end' → end'.to_other ≡ count is_to_other (log_of port report.history)
-  pub from_other : (port : ℕ) (end' : End) → slice_get report.ends port ≡ Some end' → end'.from_other ≡ count is_from_other (log_of port report.history)
+  pub to_other : (port : ℕ) (end' : End) → slice_get report.ends port ≡ Some end' → end'.to_other ≡ count drops_to_other (log_of port report.history)
+  pub from_other : (port : ℕ) (end' : End) → slice_get report.ends port ≡ Some end' → end'.from_other ≡ count drops_from_other (log_of port report.history)
 
 -- an instruction is to be tried again only where the pool that its answer names is full: what the report leaves of a port, and any entry
 pub record AgainWhereFull (job : Job) (report : Report) : Type 0 where

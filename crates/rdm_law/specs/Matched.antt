@@ -8,7 +8,7 @@ use Rattle.rdm_match.specs.Matcher.{Event, Arrive, Pair, run, nothing_yet}
 use Rattle.rdm_model.specs.declared.job.Job.{Job}
 use Rattle.rdm_model.specs.declared.entry.Entry.{Entry}
 use Rattle.rdm_model.specs.Deeds.{Deed}
-use Rattle.rdm_model.specs.Owns.{Heads}
+use Rattle.rdm_model.specs.Beginnings.{Heads}
 use Rattle.rdm_model.specs.Matches.{merge, matching}
 use Rattle.rdm_model.specs.Sends.{Sent, sends_to}
 use Rattle.rdm_model.specs.Lawful.{life_deeds, sends_in, sent_to}

@@ -12,7 +12,7 @@ use Rattle.rdm_pkt.specs.declared.Kind.{Kind}
 use Rattle.rdm_pkt.specs.declared.Kind.TheVariants.{Eager, Medium, LongCts, LongRead, Runt}
 use Rattle.rdm_pkt.specs.Openings.{openings}
 use Rattle.rdm_model.specs.Deeds.{Deed}
-use Rattle.rdm_model.specs.Owns.{Own, Messages}
+use Rattle.rdm_model.specs.Beginnings.{Own, Messages}
 use Rattle.rdm_model.specs.Sends.{Sent, sends}
 use Rattle.rdm_model.specs.Grants.{Grant, grants, grant_bytes, data_room}
 use Rattle.rdm_model.specs.Replies.{Reply}
@@ -90,18 +90,18 @@ pub record GrantedNext (own : Own) (gs : List Grant) (s : Sent) (pushed : List P
   pub bytes : List ℕ
   pub is : p ≡ CtsData (op_id grant.recv) (piece_bytes (pieces_in pushed)) own.life.connid bytes
   pub bytes_are : bytes ≡ take (min (piece_bytes (pieces_in (openings own.limits s.message s.kind)) + grant_bytes gs - piece_bytes (pieces_in pushed)) (data_room own.limits)) (drop (piece_bytes (pieces_in pushed)) s.message.bytes)
-  pub below : piece_bytes (pieces_in pushed) < piece_bytes (pieces_in (openings own.limits s.message s.kind)) + grant_bytes gs
+  pub below : piece_bytes (pieces_in pushed) < min (piece_bytes (pieces_in (openings own.limits s.message s.kind)) + grant_bytes gs) (length s.message.bytes)
 
 -- granted bytes that are next: the first grant names them
 data_is : (own : Own) (s : Sent) (allowed done : ℕ) (gs : List Grant) (p : Packet) → data_packet own s allowed done gs ≡ Some p
-    → (g : Grant) × (rest : List Grant) × (gs ≡ g ∷ rest) × (p ≡ CtsData (op_id g.recv) done own.life.connid (take (min (allowed - done) (data_room own.limits)) (drop done s.message.bytes))) × (done < allowed)
+    → (g : Grant) × (rest : List Grant) × (gs ≡ g ∷ rest) × (p ≡ CtsData (op_id g.recv) done own.life.connid (take (min (allowed - done) (data_room own.limits)) (drop done s.message.bytes))) × (done < min allowed (length s.message.bytes))
 unfolding data_packet
 data_is own s allowed done [] p h = cc
 data_is own s allowed done (g ∷ gs) p h =
-    (elim (nat_lt done allowed) as (λ b. nat_lt done allowed ≡ b
+    (elim (nat_lt done (min allowed (length s.message.bytes))) as (λ b. nat_lt done (min allowed (length s.message.bytes)) ≡ b
     → cond b (Some (CtsData (op_id g.recv) done own.life.connid (take (min (allowed - done) (data_room own.limits)) (drop done s.message.bytes)))) None ≡ Some p
-    → (x : Grant) × (rest : List Grant) × (g ∷ gs ≡ x ∷ rest) × (p ≡ CtsData (op_id x.recv) done own.life.connid (take (min (allowed - done) (data_room own.limits)) (drop done s.message.bytes))) × (done < allowed)) [
-      | true ↦ λ is k. (g, gs, refl, cc, ltb-true done allowed is)
+    → (x : Grant) × (rest : List Grant) × (g ∷ gs ≡ x ∷ rest) × (p ≡ CtsData (op_id x.recv) done own.life.connid (take (min (allowed - done) (data_room own.limits)) (drop done s.message.bytes))) × (done < min allowed (length s.message.bytes))) [
+      | true ↦ λ is k. (g, gs, refl, cc, ltb-true done (min allowed (length s.message.bytes)) is)
       | false ↦ λ is k. cc
     ]) refl h
 

@@ -12,7 +12,7 @@ use Rattle.rdm_match.specs.declared.Arrived.{Arrived}
 use Rattle.rdm_match.specs.Matcher.{Event, Post, Arrive, Cancel, Forget, Pair, Matching, accepts, after_post, after_arrive, after, run, is_recv, is_pair}
 use Rattle.rdm_model.specs.declared.job.Instr.TheVariants.{Insert, Recv, Cancel as CancelOp}
 use Rattle.rdm_model.specs.Deeds.{Deed, Did, Took}
-use Rattle.rdm_model.specs.Owns.{Heads}
+use Rattle.rdm_model.specs.Beginnings.{Heads}
 use Rattle.rdm_model.specs.Heard.{heard_head, is_heard, heard_below, has_entered, entering}
 use Rattle.rdm_model.specs.Matches.{arrival, events_by, matching, pairs}
 use Rattle.rdm_lists.proofs.Members.{member-append_left, member-append_cases, member-filter, member-map, find_member, member_find, without_member}

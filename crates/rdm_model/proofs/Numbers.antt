@@ -10,7 +10,7 @@ use Rattle.rdm_num.specs.declared.numbers.Life.{Life}
 use Rattle.rdm_num.specs.declared.request.SendReq.{SendReq}
 use Rattle.rdm_pkt.specs.Choice.{choose}
 use Rattle.rdm_model.specs.declared.job.Instr.TheVariants.{Send}
-use Rattle.rdm_model.specs.Owns.{Own, Messages}
+use Rattle.rdm_model.specs.Beginnings.{Own, Messages}
 use Rattle.rdm_model.specs.Deeds.{Deed, Did}
 use Rattle.rdm_model.specs.Currents.{current}
 use Rattle.rdm_model.specs.Regions.{regions}

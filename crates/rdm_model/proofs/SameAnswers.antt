@@ -14,10 +14,10 @@ use Rattle.rdm_wire.specs.declared.Body.TheVariants.{Note, Between}
 use Rattle.rdm_model.specs.declared.job.Instr.{Instr}
 use Rattle.rdm_model.specs.declared.job.Instr.TheVariants.{OpenLife, Insert, Reg, Send, Recv, Cancel, Note as NoteOp, Await, Wait, CloseLife}
 use Rattle.rdm_model.specs.Deeds.{Item, Spelled, item_of}
-use Rattle.rdm_model.specs.Owns.{Messages}
+use Rattle.rdm_model.specs.Beginnings.{Messages}
 use Rattle.rdm_model.specs.Currents.{current}
 use Rattle.rdm_model.specs.Scenes.{Scene}
-use Rattle.rdm_model.specs.Answers.{regions_of, has_no_region, is_out_of_range, meets_receive, meets_send, has_no_number, next_number, cq_is_full, send_answer, names_nobody, recv_answer, is_unmatched, answer_of}
+use Rattle.rdm_model.specs.Answers.{regions_of, has_no_region, is_out_of_range, meets_receive, meets_send, has_no_number, next_number, cq_is_full, cannot_confirm, waits_for_handshake, send_answer, names_nobody, recv_answer, is_unmatched, answer_of}
 use Rattle.rdm_model.specs.Going.{life_going, going}
 use Rattle.rdm_model.specs.Takes.{is_met, needs_place, body_needs_place}
 use Rattle.rdm_model.proofs.SameMatches.{matching_same}
@@ -78,7 +78,7 @@ cq_same s ns a = let r = cq_count_same s.own s.ms ns s.log a in rw r refl
 
 -- a send has the same answer
 send_answer_same : (s : Scene) (ns : Messages) (req : SendReq) → AgreesIn s ns → send_answer s req ≡ send_answer (by_account s ns) req
-unfolding send_answer
+unfolding send_answer cannot_confirm waits_for_handshake
 send_answer_same s ns req a =
     let region = list_any_same (λ (p : Span). has_no_region s p.region.0) (λ (p : Span). has_no_region (by_account s ns) p.region.0) req.parts (λ p. no_region_same s ns p.region.0 a) in
     let range = list_any_same (λ (p : Span). is_out_of_range s p.region.0 p.at p.len) (λ (p : Span). is_out_of_range (by_account s ns) p.region.0 p.at p.len) req.parts (λ p. range_same s ns p.region.0 p.at p.len a) in

@@ -3,7 +3,7 @@ use Rattle.std.proofs.Common.{◌≡◌, refl}
 use Rattle.rdm_wire.specs.declared.Datagram.{Datagram}
 use Rattle.rdm_wire.specs.declared.Body.{Body}
 use Rattle.rdm_wire.specs.declared.Body.TheVariants.{Note, Between}
-use Rattle.rdm_model.specs.Owns.{Messages}
+use Rattle.rdm_model.specs.Beginnings.{Messages}
 use Rattle.rdm_model.specs.Scenes.{Scene}
 use Rattle.rdm_model.specs.Classes.{body_lives_class, lives_class}
 use Rattle.rdm_model.proofs.SameAnswers.{by_account}

@@ -4,7 +4,7 @@ use Rattle.std.specs.Prelude.{option_to_list}
 use Rattle.rdm_lists.specs.Lists.{Member}
 use Rattle.rdm_num.specs.declared.completion.Completion.TheVariants.{Recv}
 use Rattle.rdm_model.specs.Deeds.{Deed}
-use Rattle.rdm_model.specs.Owns.{Own, Messages, Heads}
+use Rattle.rdm_model.specs.Beginnings.{Own, Messages, Heads}
 use Rattle.rdm_model.specs.Matches.{Receive, receives}
 use Rattle.rdm_model.specs.Receives.{RecvEnd, Filled, Withdrawn, Gone, ended_recv, recv_ends_by, recv_ends, receive_numbered}
 use Rattle.rdm_model.specs.Regions.{kept_bytes}

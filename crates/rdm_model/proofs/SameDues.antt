@@ -1,7 +1,7 @@
 -- By two accounts that agree, the same goes out next, and the same sends are live.
 use Rattle.std.proofs.Common.{◌≡◌, List, [], ◌∷◌, refl}
 use Rattle.rdm_model.specs.Deeds.{Deed, Pushed}
-use Rattle.rdm_model.specs.Owns.{Own, Messages}
+use Rattle.rdm_model.specs.Beginnings.{Own, Messages}
 use Rattle.rdm_model.specs.Sends.{sends}
 use Rattle.rdm_model.specs.Dues.{Progress, after_push, after_deed, progress, due, live_sends}
 use Rattle.rdm_model.proofs.SameRegions.{Agree, agree_before, sends_same}

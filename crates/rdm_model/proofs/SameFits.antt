@@ -10,9 +10,9 @@ use Rattle.rdm_model.specs.declared.entry.Act.TheVariants.{Next, Push, Handle, P
 use Rattle.rdm_model.specs.declared.answer.Handled.{Handled}
 use Rattle.rdm_wire.specs.declared.Body.{Body}
 use Rattle.rdm_wire.specs.declared.Body.TheVariants.{Note, Between}
-use Rattle.rdm_model.specs.Owns.{Messages}
+use Rattle.rdm_model.specs.Beginnings.{Messages}
 use Rattle.rdm_model.specs.Scenes.{Scene}
-use Rattle.rdm_model.specs.Going.{Going, GoesNote, Goes, IsGoing, IsNext}
+use Rattle.rdm_model.specs.Going.{Going, GoesNote, Goes, IsGoing, GoesNext}
 use Rattle.rdm_model.specs.Takes.{taken_answer, class_answer, handled_answer, is_again_early}
 use Rattle.rdm_model.specs.Steps.{Classing, Does, Fits}
 use Rattle.rdm_model.proofs.SameCompletions.{completions_same, early_count_same}
@@ -51,8 +51,8 @@ is_going_same s ns (GoesNote note) d h = h
 is_going_same s ns (Goes to item) d h = h
 
 -- a datagram that is next by one account is next by the other
-pub is_next_same : (s : Scene) (ns : Messages) (d : Datagram) → AgreesIn s ns → IsNext s d → IsNext (by_account s ns) d
-is_next_same s ns d a h = (h.0, sym (going_same s ns a) ∙ h.1, is_going_same s ns h.0 d h.2)
+pub goes_next_same : (s : Scene) (ns : Messages) (d : Datagram) → AgreesIn s ns → GoesNext s d → GoesNext (by_account s ns) d
+goes_next_same s ns d a h = (h.0, sym (going_same s ns a) ∙ h.1, is_going_same s ns h.0 d h.2)
 
 -- what fits by one account fits by the other, where the classes by both are the same
 pub does_same : (job : Job) (f g : Classing) (s : Scene) (ns : Messages) (before : List Entry) (e : Entry) (act : Act) → AgreesIn s ns
@@ -60,7 +60,7 @@ pub does_same : (job : Job) (f g : Classing) (s : Scene) (ns : Messages) (before
     → Does job f s before e act → Does job g (by_account s ns) before e act
 does_same job f g s ns before e (Next index op answer) a same h =
     (h.0, (h.1.0, h.1.1, h.1.2, h.1.3 ∙ answer_same s ns h.1.0 a), h.2)
-does_same job f g s ns before e (Push d) a same h = (h.0, h.1, h.2, is_next_same s ns d a h.3)
+does_same job f g s ns before e (Push d) a same h = (h.0, h.1, h.2, goes_next_same s ns d a h.3)
 does_same job f g s ns before e (Handle d answer) a same h =
     let k = same d answer refl in
     (h.0 ∙ handled_same f g s ns d k, subst (λ b. IsFalse b) (again_early_same f g s ns d a k) h.1)

@@ -6,7 +6,7 @@ use Rattle.rdm_num.specs.declared.head.Head.{Head}
 use Rattle.rdm_match.specs.Matcher.{is_pair, Matching}
 use Rattle.rdm_model.specs.declared.job.Instr.TheVariants.{Recv, Cancel as CancelOp, Insert}
 use Rattle.rdm_model.specs.Deeds.{Deed, Did, Took}
-use Rattle.rdm_model.specs.Owns.{Heads}
+use Rattle.rdm_model.specs.Beginnings.{Heads}
 use Rattle.rdm_model.specs.Heard.{heard_head, entering}
 use Rattle.rdm_model.specs.Matches.{matching, pairs, events_by, arrival}
 use Rattle.rdm_model.specs.Parts.{carried_pieces}

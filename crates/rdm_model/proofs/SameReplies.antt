@@ -7,7 +7,7 @@ use Rattle.rdm_num.specs.Pieces.{covers}
 use Rattle.rdm_num.specs.declared.limits.EpLimits.{EpLimits}
 use Rattle.rdm_match.specs.Matcher.{Pair, is_pair}
 use Rattle.rdm_model.specs.Deeds.{Deed}
-use Rattle.rdm_model.specs.Owns.{Own, Heads}
+use Rattle.rdm_model.specs.Beginnings.{Own, Heads}
 use Rattle.rdm_model.specs.Matches.{pairs}
 use Rattle.rdm_model.specs.Parts.{carried_pieces}
 use Rattle.rdm_model.specs.Sends.{Sent}

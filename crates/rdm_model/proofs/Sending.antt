@@ -21,7 +21,7 @@ use Rattle.rdm_pkt.specs.declared.Kind.TheVariants.{Eager, Medium, LongCts, Long
 use Rattle.rdm_pkt.specs.Heads.{head_of}
 use Rattle.rdm_pkt.specs.Openings.{openings, message_head, says_confirm}
 use Rattle.rdm_model.specs.Deeds.{Deed, Took, Spelled}
-use Rattle.rdm_model.specs.Owns.{Own, Messages}
+use Rattle.rdm_model.specs.Beginnings.{Own, Messages}
 use Rattle.rdm_model.specs.Sends.{Sent, sends}
 use Rattle.rdm_model.specs.Grants.{Grant, grants_by, grants, grant_bytes, data_room}
 use Rattle.rdm_model.specs.Dues.{Sends, pieces_in}

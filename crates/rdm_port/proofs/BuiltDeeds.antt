@@ -1,8 +1,8 @@
 -- What built deeds say of the lives of a port.
 use Rattle.std.proofs.Common.{◌≡◌, ◌≤◌, ◌+◌, Bool, true, false, cond, List, [], ◌∷◌, Option, Some, None, refl, ap, subst, arith}
-use Rattle.std.specs.Prelude.{is_some}
+use Rattle.std.specs.Prelude.{not, ◌&&◌, nat_le, is_some}
 use Rattle.std.specs.List.{list_any}
-use Rattle.std.proofs.lemmas.Bool.{eqb-true, eq-eqb, leb-true, le-leb, or_parts}
+use Rattle.std.proofs.lemmas.Bool.{eqb-true, eq-eqb, leb-true, le-leb, or_parts, and_parts, not-true}
 use Rattle.rdm_num.specs.declared.numbers.Connid.{Connid}
 use Rattle.rdm_num.specs.declared.numbers.Life.{Life}
 use Rattle.rdm_num.specs.declared.request.SendReq.{SendReq}
@@ -11,12 +11,12 @@ use Rattle.rdm_pkt.proofs.EagerRoom.{eager_header_size}
 use Rattle.rdm_model.specs.declared.job.Instr.TheVariants.{OpenLife, CloseLife}
 use Rattle.rdm_model.specs.Deeds.{Deed, Did, open_after, open_life, is_connid, of_life}
 use Rattle.rdm_model.specs.Notes.{opens}
-use Rattle.rdm_model.specs.Owns.{Own}
+use Rattle.rdm_model.specs.Beginnings.{Own}
 use Rattle.rdm_model.specs.Jobs.{spans_length}
 use Rattle.rdm_ep.specs.Eager.{FitsOnePacket, IsEager}
 use Rattle.rdm_port.specs.Views.{PortView}
 use Rattle.rdm_port.specs.Kept.{own_at}
-use Rattle.rdm_port.specs.Machine.{header_size, has_room}
+use Rattle.rdm_port.specs.Machine.{header_size, is_built_send}
 use Rattle.rdm_port.specs.Built.{AreBuilt, IsBuiltDeed}
 use Rattle.rdm_num.proofs.Lives.{connid_is}
 
@@ -72,11 +72,15 @@ headers_fit : (tagged cq_data raw : Bool) → 8 + cond tagged 8 0 + cond cq_data
 headers_fit tagged cq_data true = omega arith
 headers_fit tagged cq_data false = omega arith
 
--- a message that has room fits one packet
-pub room_fits : (v : PortView) (connid : Connid) (req : SendReq) → has_room v req ≡ true → FitsOnePacket (own_at v connid) req
+-- a send that is built fits one packet
+pub room_fits : (v : PortView) (connid : Connid) (req : SendReq) → is_built_send v req ≡ true → FitsOnePacket (own_at v connid) req
 unfolding own_at eager_room
-room_fits v connid req h = λ raw.
-    let size = eager_header_size (is_some req.tag) (is_some req.cq_data) raw in
-    let most = headers_fit (is_some req.tag) (is_some req.cq_data) raw in
-    let room : spans_length req.parts + header_size req ≤ v.limits.mtu = leb-true (spans_length req.parts + header_size req) v.limits.mtu h in
-    le-leb (spans_length req.parts) _ (rw size (omega arith))
+room_fits v connid req h =
+    let p = and_parts (not req.confirm) (nat_le (spans_length req.parts + header_size req) v.limits.mtu) h in (
+      not-true req.confirm p.0,
+      λ raw.
+          let size = eager_header_size (is_some req.tag) (is_some req.cq_data) raw in
+          let most = headers_fit (is_some req.tag) (is_some req.cq_data) raw in
+          let room : spans_length req.parts + header_size req ≤ v.limits.mtu = leb-true (spans_length req.parts + header_size req) v.limits.mtu p.1 in
+          le-leb (spans_length req.parts) _ (rw size (omega arith)),
+    )

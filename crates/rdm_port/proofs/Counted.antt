@@ -7,10 +7,10 @@ use Rattle.rdm_model.specs.declared.job.Rank.{Rank}
 use Rattle.rdm_model.specs.declared.entry.Entry.{Entry}
 use Rattle.rdm_model.specs.declared.entry.Act.{Act}
 use Rattle.rdm_model.specs.Deeds.{deeds, open_life, of_life}
-use Rattle.rdm_model.specs.Owns.{own_of, life_at}
+use Rattle.rdm_model.specs.Beginnings.{own_of, life_at}
 use Rattle.rdm_model.specs.Scenes.{deeds_at}
 use Rattle.rdm_model.specs.Local.{own_scene}
-use Rattle.rdm_model.specs.Steps.{clock, stamp_after, count, is_next}
+use Rattle.rdm_model.specs.Steps.{clock, stamp_after, count, nexts_by}
 use Rattle.rdm_model.specs.Settled.{instruction_left, is_worn}
 use Rattle.rdm_ep.specs.View.{EndpointView}
 use Rattle.rdm_ep.specs.Keeps.{Keeps}
@@ -42,7 +42,7 @@ deeds_are job v p = ap (λ (r : Rank). deeds r.ops v.log) (sym p.rank_is)
 -- the instruction that is next
 pub left_is : (job : Job) (v : PortView) (k : Kept) → IsPortOf job v → IsKept v k → instruction_left job v.number v.log ≡ slice_get v.rank.ops k.done
 unfolding instruction_left
-left_is job v k p h = ap (λ (r : Rank). slice_get r.ops (count is_next v.log)) (sym p.rank_is) ∙ ap (slice_get v.rank.ops) (sym h.done)
+left_is job v k p h = ap (λ (r : Rank). slice_get r.ops (count nexts_by v.log)) (sym p.rank_is) ∙ ap (slice_get v.rank.ops) (sym h.done)
 
 -- what the endpoint of a life begins with
 pub own_is : (job : Job) (v : PortView) (connid : Connid) → IsPortOf job v → own_of job (life_at v.number (Some connid)) ≡ own_at v connid

@@ -14,7 +14,7 @@ use Rattle.rdm_model.specs.declared.answer.Why.TheVariants.{NotPosted}
 use Rattle.rdm_model.specs.declared.answer.Yet.TheVariants as Yet
 use Rattle.rdm_model.specs.declared.report.End.{End}
 use Rattle.rdm_model.specs.Reports.{end_of}
-use Rattle.rdm_model.specs.Steps.{count, is_next}
+use Rattle.rdm_model.specs.Steps.{count, nexts_by}
 use Rattle.rdm_model.specs.Answers.{is_entry}
 use Rattle.rdm_model.specs.Settled.{answer_or_worn, left_answer, left_at}
 use Rattle.rdm_ep.specs.declared.answer.SendAnswer.{SendAnswer}
@@ -28,7 +28,7 @@ use Rattle.rdm_ep.specs.Cancelling as Ec
 use Rattle.rdm_ep.specs.Answers.{next_of_send, next_of_recv}
 use Rattle.rdm_port.specs.Views.{PortView, IsPortOf, scene_at}
 use Rattle.rdm_port.specs.Kept.{Kept, IsKept, is_opened, is_told, is_new_life}
-use Rattle.rdm_port.specs.Machine.{with_endpoint, has_room, insert_answer_in, machine_answer, unless_worn, left_answer_in, machine_next}
+use Rattle.rdm_port.specs.Machine.{with_endpoint, is_built_send, greets_inserted, insert_answer_in, machine_answer, unless_worn, left_answer_in, machine_next}
 use Rattle.rdm_port.specs.Nexts.{EndsAs}
 use Rattle.rdm_port.proofs.NextAgrees.{answer_agrees}
 use Rattle.rdm_port.proofs.NextDoes.{answer_by, worn_by, memory_stays}
@@ -53,6 +53,7 @@ unfolding next_of_send
 send_on (SendA.Did send msg) = λ h. cc
 send_on (SendA.Refused why) = λ h. cc
 send_on (SendA.Again pool) = λ h. cc
+send_on SendA.NotYet = λ h. cc
 send_on SendA.Memory = λ h. cc
 
 -- a receive goes on
@@ -69,11 +70,11 @@ unfolding machine_answer insert_answer_in
 machine_on v k (OpenLife connid) = either_on (is_some k.endpoint || not (is_new_life k.opened v connid)) Memory (Did Plain) (λ h. cc) (λ h. cc)
 machine_on v k (Insert l) =
     endpoint_on k.endpoint (insert_answer_in k l)
-    (λ e. either_on (not (is_opened k.opened l)) (NotYet Yet.Opened) _ (λ h. cc) (either_on (Ep.supersedes l (current_in e l.port.0)) Memory (Did Plain) (λ h. cc) (λ h. cc)))
+    (λ e. either_on (not (is_opened k.opened l)) (NotYet Yet.Opened) _ (λ h. cc) (either_on (Ep.supersedes l (current_in e l.port.0) || greets_inserted e) Memory (Did Plain) (λ h. cc) (λ h. cc)))
 machine_on v k (Reg content) = endpoint_on k.endpoint (λ e. Did (Region (record { 0 = length e.regions }))) (λ e h. cc)
 machine_on v k (Send req) =
-    endpoint_on k.endpoint (λ e. cond (has_room v req) (next_of_send (Ep.send_answer e req)) Memory)
-    (λ e. either_on (has_room v req) (next_of_send (Ep.send_answer e req)) Memory (send_on (Ep.send_answer e req)) (λ h. cc))
+    endpoint_on k.endpoint (λ e. cond (is_built_send v req) (next_of_send (Ep.send_answer e req)) Memory)
+    (λ e. either_on (is_built_send v req) (next_of_send (Ep.send_answer e req)) Memory (send_on (Ep.send_answer e req)) (λ h. cc))
 machine_on v k (Recv req) = endpoint_on k.endpoint (λ e. next_of_recv (Er.recv_answer e req)) (λ e. recv_on (Er.recv_answer e req))
 machine_on v k (Cancel recv) =
     endpoint_on k.endpoint (λ e. cond (Ec.waits_for_message e recv.0) (Did Plain) (Refused NotPosted))
@@ -170,7 +171,7 @@ place_past xs n =
 
 -- no instruction is left where as many were done as there are
 pub over_is : (v w : PortView) (k s : Kept) (read : List Instr) → w ≡ v → s ≡ k → read ≡ w.rank.ops → IsKept w k
-    → nat_le (length read) s.done ≡ is_none (slice_get v.rank.ops (count is_next v.log))
+    → nat_le (length read) s.done ≡ is_none (slice_get v.rank.ops (count nexts_by v.log))
 over_is v w k s read view e r h =
     ap (λ (x : Kept). nat_le (length read) x.done) e ∙ ap (λ (xs : List Instr). nat_le (length xs) k.done) r ∙ place_past w.rank.ops k.done
-    ∙ ap (λ (n : ℕ). is_none (slice_get w.rank.ops n)) h.done ∙ ap (λ (x : PortView). is_none (slice_get x.rank.ops (count is_next x.log))) view
+    ∙ ap (λ (n : ℕ). is_none (slice_get w.rank.ops n)) h.done ∙ ap (λ (x : PortView). is_none (slice_get x.rank.ops (count nexts_by x.log))) view

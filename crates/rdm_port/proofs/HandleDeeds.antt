@@ -18,8 +18,8 @@ use Rattle.rdm_model.specs.declared.answer.Handled.{Handled}
 use Rattle.rdm_model.specs.declared.answer.Handled.TheVariants as H
 use Rattle.rdm_model.specs.declared.answer.Class.TheVariants.{ToOther, FromOther}
 use Rattle.rdm_model.specs.Deeds.{Deed, TookNote, Nothing, deed_by_handle, open_after, open_life, of_life}
-use Rattle.rdm_model.specs.Notes.{notes_by, is_note_push, tells_open, opens, knows_open, says, was_told}
-use Rattle.rdm_model.specs.Owns.{Own}
+use Rattle.rdm_model.specs.Notes.{notes_by, note_pushes_by, tells_open, opens, knows_open, says, was_told}
+use Rattle.rdm_model.specs.Beginnings.{Own}
 use Rattle.rdm_ep.specs.View.{EndpointView}
 use Rattle.rdm_ep.specs.Handling.{body_answer, after_body}
 use Rattle.rdm_ep.specs.Answers.{handled_of}
@@ -90,7 +90,7 @@ said_took log src word words from what h =
 
 -- after a note that was taken
 note_deeds : (v : PortView) (k : Kept) (src : PortNo) (note : NoteBody) → IsKept v k → KeepsDeeds v (TookNote src note ∷ deeds_of v) (after_note src note k)
-unfolding after_note notes_by is_note_push open_life open_after knows_open tells_open opens was_told says
+unfolding after_note notes_by note_pushes_by open_life open_after knows_open tells_open opens was_told says
 note_deeds v k src (Opened connid) h =
     let d : Deed = TookNote src (Opened connid) in
     let more = notes_more v k d h refl in
@@ -120,7 +120,7 @@ note_deeds v k src (Said word) h =
 
 -- what comes to a life opens none and pushes no note
 still_handled : (src : PortNo) (from to : Connid) (load : Load) (answer : Handled) → IsStill (deed_by_handle src (Between from to load) answer)
-unfolding deed_by_handle is_note_push tells_open opens says open_after
+unfolding deed_by_handle note_pushes_by tells_open opens says open_after
 still_handled src from to load (H.Took entered) = record { push = refl; tells = λ m. refl; opens_none = λ m. refl; says_none = λ a b. refl; still = λ was. refl }
 still_handled src from to load _ = record { push = refl; tells = λ m. refl; opens_none = λ m. refl; says_none = λ a b. refl; still = λ was. refl }
 

@@ -14,8 +14,8 @@ use Rattle.rdm_model.specs.declared.answer.Class.TheVariants.{ToOther, FromOther
 use Rattle.rdm_model.specs.declared.entry.Act.{Act}
 use Rattle.rdm_model.specs.declared.entry.Act.TheVariants.{Handle}
 use Rattle.rdm_model.specs.Deeds.{deed_by_handle, deed_of, deeds}
-use Rattle.rdm_model.specs.Steps.{count, is_next, is_push}
-use Rattle.rdm_model.specs.Reports.{is_to_other, is_from_other}
+use Rattle.rdm_model.specs.Steps.{count, nexts_by, pushes_by}
+use Rattle.rdm_model.specs.Reports.{drops_to_other, drops_from_other}
 use Rattle.rdm_ep.specs.View.{EndpointView}
 use Rattle.rdm_port.specs.Views.{PortView}
 use Rattle.rdm_port.specs.Kept.{Kept, IsKept, clock_in, deeds_of, own_at, entry_of, with_stash}
@@ -28,14 +28,14 @@ record HandleCounts (k n : Kept) (act : Act) : Type 0 where
   done : n.done ≡ k.done
   clock : n.clock ≡ k.clock
   pushed : n.pushed ≡ k.pushed
-  to_other : n.to_other ≡ k.to_other + is_to_other act
-  from_other : n.from_other ≡ k.from_other + is_from_other act
-  few_to_other : is_to_other act ≤ 1
-  few_from_other : is_from_other act ≤ 1
+  to_other : n.to_other ≡ k.to_other + drops_to_other act
+  from_other : n.from_other ≡ k.from_other + drops_from_other act
+  few_to_other : drops_to_other act ≤ 1
+  few_from_other : drops_from_other act ≤ 1
 
 -- a note leaves the counts
 note_counts : (k : Kept) (d : Datagram) (src : PortNo) (note : NoteBody) → HandleCounts k (after_note src note k) (Handle d (H.Took None))
-unfolding after_note is_to_other is_from_other
+unfolding after_note drops_to_other drops_from_other
 note_counts k d src (Opened connid) =
     record { done = refl; clock = refl; pushed = refl; to_other = omega arith; from_other = omega arith; few_to_other = omega arith; few_from_other = omega arith }
 note_counts k d src (Said word) =
@@ -43,7 +43,7 @@ note_counts k d src (Said word) =
 
 -- a drop is counted
 drop_counts : (k : Kept) (d : Datagram) (o : Option EndpointView) (answer : Handled) → HandleCounts k (drop_counted answer (record k { endpoint = o })) (Handle d answer)
-unfolding drop_counted is_to_other is_from_other
+unfolding drop_counted drops_to_other drops_from_other
 drop_counts k d o (H.Dropped ToOther) =
     record { done = refl; clock = refl; pushed = refl; to_other = refl; from_other = omega arith; few_to_other = omega arith; few_from_other = omega arith }
 drop_counts k d o (H.Dropped FromOther) =
@@ -61,7 +61,7 @@ handled_counts k d (Between from to load) = drop_counts k d (after_life k.endpoi
 kept_by : (v : PortView) (k n : Kept) (d : Datagram) (answer : Handled) (stash : List Datagram) → IsKept v k
     → HandleCounts k n (Handle d answer) → KeepsDeeds v (deed_by_handle d.src d.body answer ∷ deeds_of v) n
     → IsKept (with_stash v (entry_of v (max k.clock d.stamp.0 + 1) (Handle d answer) ∷ v.log) stash) (handle_counted n d)
-unfolding deeds_of deeds deed_of own_at clock_in count is_next is_push
+unfolding deeds_of deeds deed_of own_at clock_in count nexts_by pushes_by
 kept_by v k n d answer stash h c s =
     let now = le-max_left k.clock d.stamp.0 in
     let clock = c.clock in
@@ -70,8 +70,8 @@ kept_by v k n d answer stash h c s =
       done = let a = c.done in let b = h.done in omega arith;
       clock = later;
       pushed = let a = c.pushed in let b = h.pushed in omega arith;
-      to_other = c.to_other ∙ ap (λ (x : ℕ). x + is_to_other (Handle d answer)) h.to_other;
-      from_other = c.from_other ∙ ap (λ (x : ℕ). x + is_from_other (Handle d answer)) h.from_other;
+      to_other = c.to_other ∙ ap (λ (x : ℕ). x + drops_to_other (Handle d answer)) h.to_other;
+      from_other = c.from_other ∙ ap (λ (x : ℕ). x + drops_from_other (Handle d answer)) h.from_other;
       notes_within = s.notes_within;
       notes_are = s.notes_are;
       opened_are = s.opened_are;

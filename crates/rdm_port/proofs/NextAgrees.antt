@@ -15,7 +15,7 @@ use Rattle.rdm_model.specs.declared.answer.DidWhat.TheVariants.{Plain, Region}
 use Rattle.rdm_model.specs.declared.answer.Why.TheVariants.{NotPosted}
 use Rattle.rdm_model.specs.declared.answer.Yet.TheVariants as Yet
 use Rattle.rdm_model.specs.Deeds.{Deed, of_life}
-use Rattle.rdm_model.specs.Owns.{Own}
+use Rattle.rdm_model.specs.Beginnings.{Own}
 use Rattle.rdm_model.specs.Notes.{knows_open, was_told}
 use Rattle.rdm_model.specs.Answers.{answer_of}
 use Rattle.rdm_model.specs.Scenes.{Scene, scene}
@@ -30,7 +30,7 @@ use Rattle.rdm_ep.proofs.Instructed.{reg_agrees, wait_agrees, insert_agrees, can
 use Rattle.rdm_ep.proofs.Answered.{send_agrees, recv_agrees}
 use Rattle.rdm_port.specs.Views.{PortView, IsPortOf, scene_at}
 use Rattle.rdm_port.specs.Kept.{Kept, IsKept, deeds_of, own_at, is_opened, is_told, is_new_life}
-use Rattle.rdm_port.specs.Machine.{with_endpoint, has_room, insert_answer_in, machine_answer}
+use Rattle.rdm_port.specs.Machine.{with_endpoint, is_built_send, greets_inserted, insert_answer_in, machine_answer}
 use Rattle.rdm_port.proofs.Counted.{deeds_are, scene_is, OpenFacts, open_facts}
 use Rattle.rdm_port.proofs.BuiltDeeds.{eager_of}
 
@@ -89,7 +89,7 @@ insert_same v k l connid e h f =
     let says = insert_agrees v.ports (deeds_of v) log e l (open_eager v k connid e h f) in
     let known : knows_open e.own.life.port.0 (deeds_of v) l ≡ is_opened k.opened l = ap (λ (n : ℕ). knows_open n (deeds_of v) l) (open_port v k connid e f) ∙ sym (h.opened_are l) in
     subst (λ (a : Next). Agrees (insert_answer_in k l e) a) (sym (says ∙ ap (λ (b : Bool). cond b (Did Plain) (NotYet Yet.Opened)) known))
-    (insert_cases (is_opened k.opened l) (Ep.supersedes l (current_in e l.port.0)))
+    (insert_cases (is_opened k.opened l) (Ep.supersedes l (current_in e l.port.0) || greets_inserted e))
 
 -- a send agrees
 send_same : (v : PortView) (req : SendReq) (b : Bool) (connid : Connid) (k : Kept) (e : EndpointView) → OpenFacts v k connid e
@@ -126,7 +126,7 @@ answer_agrees job v k (Reg content) p h =
     by_endpoint job v k (Reg content) (λ e. Did (Region (record { 0 = length e.regions }))) p h
     (λ connid e f. inr (reg_agrees v.ports (deeds_of v) (of_life connid (deeds_of v)) e content f.keeps))
 answer_agrees job v k (Send req) p h =
-    by_endpoint job v k (Send req) (λ e. cond (has_room v req) (next_of_send (Ep.send_answer e req)) Memory) p h (λ connid e f. send_same v req (has_room v req) connid k e f)
+    by_endpoint job v k (Send req) (λ e. cond (is_built_send v req) (next_of_send (Ep.send_answer e req)) Memory) p h (λ connid e f. send_same v req (is_built_send v req) connid k e f)
 answer_agrees job v k (Recv req) p h =
     by_endpoint job v k (Recv req) (λ e. next_of_recv (Er.recv_answer e req)) p h
     (λ connid e f. inr (recv_agrees v.ports (deeds_of v) (of_life connid (deeds_of v)) e req f.keeps))

@@ -1,7 +1,9 @@
 -- What a port keeps after each instruction that did, in the life that is open.
 use Rattle.std.proofs.Common.{◌≡◌, ℕ, ◌+◌, Bool, true, false, cond, List, [], ◌∷◌, ◌++◌, map, Option, Some, None, refl, ap, ◌∙◌, sym, subst}
-use Rattle.std.specs.Prelude.{not, is_none, option_map}
+use Rattle.std.specs.Prelude.{not, ◌||◌, is_none, option_map}
+use Rattle.std.proofs.lemmas.Bool.{or_parts}
 use Rattle.std.proofs.lemmas.List.{append-nil}
+use Rattle.rdm_hdr.specs.Fields.{has_bit}
 use Rattle.rdm_num.specs.Lives.{same_life}
 use Rattle.rdm_num.specs.declared.numbers.Connid.{Connid}
 use Rattle.rdm_num.specs.declared.numbers.PortNo.{PortNo}
@@ -17,9 +19,10 @@ use Rattle.rdm_model.specs.declared.answer.DidWhat.{DidWhat}
 use Rattle.rdm_model.specs.declared.answer.DidWhat.TheVariants.{Plain}
 use Rattle.rdm_model.specs.declared.answer.Yet.TheVariants as Yet
 use Rattle.rdm_model.specs.Deeds.{Deed, Did, Nothing, open_after, of_life}
-use Rattle.rdm_model.specs.Owns.{Own}
+use Rattle.rdm_model.specs.Beginnings.{Own}
+use Rattle.rdm_model.specs.Replies.{confirm_feature}
 use Rattle.rdm_model.specs.Currents.{other_life, forgotten_by}
-use Rattle.rdm_model.specs.Notes.{notes_by, is_note_push, tells_open, opens, says}
+use Rattle.rdm_model.specs.Notes.{notes_by, note_pushes_by, tells_open, opens, says}
 use Rattle.rdm_ep.specs.declared.state.Posted.{Posted}
 use Rattle.rdm_ep.specs.declared.state.Inbound.{Inbound}
 use Rattle.rdm_ep.specs.View.{EndpointView, current_in}
@@ -36,7 +39,7 @@ use Rattle.rdm_ep.proofs.KeepsCancel.{keeps_cancel}
 use Rattle.rdm_ep.proofs.Instructed.{posted_agrees}
 use Rattle.rdm_port.specs.Views.{PortView}
 use Rattle.rdm_port.specs.Kept.{Kept, IsKept, deeds_of, own_at, queued_of, is_opened}
-use Rattle.rdm_port.specs.Machine.{with_endpoint, has_room, insert_answer_in, machine_answer, after_did}
+use Rattle.rdm_port.specs.Machine.{with_endpoint, is_built_send, greets_inserted, insert_answer_in, machine_answer, after_did}
 use Rattle.rdm_port.specs.Built.{IsBuiltDeed}
 use Rattle.rdm_port.proofs.Counted.{OpenFacts}
 use Rattle.rdm_port.proofs.BuiltDeeds.{room_fits}
@@ -45,47 +48,47 @@ use Rattle.rdm_port.proofs.NextDeeds.{KeepsDeeds, IsStill, still_kept, changed_b
 
 -- an insert leaves the lives of the port as they were, and pushes and brings no note
 still_insert : (l : Life) → IsStill (Did (Insert l))
-unfolding is_note_push tells_open opens says open_after
+unfolding note_pushes_by tells_open opens says open_after
 still_insert l = record { push = refl; tells = λ m. refl; opens_none = λ m. refl; says_none = λ a b. refl; still = λ was. refl }
 
 -- so does a register
 still_reg : (content : List ℕ) → IsStill (Did (Reg content))
-unfolding is_note_push tells_open opens says open_after
+unfolding note_pushes_by tells_open opens says open_after
 still_reg content = record { push = refl; tells = λ m. refl; opens_none = λ m. refl; says_none = λ a b. refl; still = λ was. refl }
 
 -- so does a send
 still_send : (req : SendReq) → IsStill (Did (Send req))
-unfolding is_note_push tells_open opens says open_after
+unfolding note_pushes_by tells_open opens says open_after
 still_send req = record { push = refl; tells = λ m. refl; opens_none = λ m. refl; says_none = λ a b. refl; still = λ was. refl }
 
 -- so does a receive
 still_recv : (req : RecvReq) → IsStill (Did (Recv req))
-unfolding is_note_push tells_open opens says open_after
+unfolding note_pushes_by tells_open opens says open_after
 still_recv req = record { push = refl; tells = λ m. refl; opens_none = λ m. refl; says_none = λ a b. refl; still = λ was. refl }
 
 -- so does a cancel
 still_cancel : (recv : RecvNo) → IsStill (Did (Cancel recv))
-unfolding is_note_push tells_open opens says open_after
+unfolding note_pushes_by tells_open opens says open_after
 still_cancel recv = record { push = refl; tells = λ m. refl; opens_none = λ m. refl; says_none = λ a b. refl; still = λ was. refl }
 
 -- so does a note
 still_note : (to : PortNo) (what : ℕ) → IsStill (Did (Note to what))
-unfolding is_note_push tells_open opens says open_after
+unfolding note_pushes_by tells_open opens says open_after
 still_note to what = record { push = refl; tells = λ m. refl; opens_none = λ m. refl; says_none = λ a b. refl; still = λ was. refl }
 
 -- so does an await
 still_await : (from : PortNo) (what : ℕ) → IsStill (Did (Await from what))
-unfolding is_note_push tells_open opens says open_after
+unfolding note_pushes_by tells_open opens says open_after
 still_await from what = record { push = refl; tells = λ m. refl; opens_none = λ m. refl; says_none = λ a b. refl; still = λ was. refl }
 
 -- so does a wait
 still_wait : (count : ℕ) → IsStill (Did (Wait count))
-unfolding is_note_push tells_open opens says open_after
+unfolding note_pushes_by tells_open opens says open_after
 still_wait count = record { push = refl; tells = λ m. refl; opens_none = λ m. refl; says_none = λ a b. refl; still = λ was. refl }
 
 -- so does an instruction that was refused
 pub still_nothing : IsStill Nothing
-unfolding is_note_push tells_open opens says open_after
+unfolding note_pushes_by tells_open opens says open_after
 still_nothing = record { push = refl; tells = λ m. refl; opens_none = λ m. refl; says_none = λ a b. refl; still = λ was. refl }
 
 -- a register leaves what the endpoint began with
@@ -167,13 +170,16 @@ none_other l (Some old) h =
       | false ↦ λ e. cc
     ]) h
 
--- an insert that did forgets no life
-insert_forgets : (v : PortView) (k : Kept) (l : Life) (what : DidWhat) (connid : Connid) (e : EndpointView) → OpenFacts v k connid e → insert_answer_in k l e ≡ DidAnswer what
-    → forgotten_by (of_life connid (deeds_of v)) (Did (Insert l)) ≡ []
+-- an insert that did forgets no life, and greets none
+insert_eager : (v : PortView) (k : Kept) (l : Life) (what : DidWhat) (connid : Connid) (e : EndpointView) → OpenFacts v k connid e → insert_answer_in k l e ≡ DidAnswer what
+    → IsEagerDeed (own_at v connid) (of_life connid (deeds_of v)) (Did (Insert l))
 unfolding insert_answer_in forgotten_by
-insert_forgets v k l what connid e f a =
-    let none = takes_no_place (is_opened k.opened l) (Ep.supersedes l (current_in e l.port.0)) what a in
-    subst (λ (o : Option Life). other_life l o ≡ []) (f.keeps.currents_are l.port.0) (none_other l (current_in e l.port.0) none)
+insert_eager v k l what connid e f a =
+    let none = takes_no_place (is_opened k.opened l) (Ep.supersedes l (current_in e l.port.0) || greets_inserted e) what a in
+    let p = or_parts (Ep.supersedes l (current_in e l.port.0)) (greets_inserted e) none in (
+      subst (λ (o : Option Life). other_life l o ≡ []) (f.keeps.currents_are l.port.0) (none_other l (current_in e l.port.0) p.0),
+      subst (λ (o : Own). has_bit confirm_feature o.features ≡ false) f.own_is p.1,
+    )
 
 -- after an insert
 pub insert_kept : (v : PortView) (k : Kept) (l : Life) (what : DidWhat) → IsKept v k → machine_answer v k (Insert l) ≡ DidAnswer what
@@ -184,7 +190,7 @@ insert_kept v k l what h a =
     let f = λ (e : EndpointView). after_insert e l in
     let x = has_endpoint k.endpoint (insert_answer_in k l) what a in
     still_kept v k (record k { endpoint = option_map f k.endpoint }) d h (still_insert l) (no_notes v k d refl) refl refl
-    (changed_by v k d f x.0 h x.1 (own_insert x.0 l) (λ connid is. insert_forgets v k l what connid x.0 is x.2)
+    (changed_by v k d f x.0 h x.1 (own_insert x.0 l) (λ connid is. insert_eager v k l what connid x.0 is x.2)
     (λ connid is all. keeps_insert l (of_life connid (deeds_of v)) x.0 all is.keeps))
 
 -- a send that did has room
@@ -200,7 +206,7 @@ send_kept v k req what h a =
     let d = Did (Send req) in
     let f = λ (e : EndpointView). after_send e req in
     let x = has_endpoint k.endpoint _ what a in
-    let fits = did_fit (has_room v req) (next_of_send (Ep.send_answer x.0 req)) what x.2 in
+    let fits = did_fit (is_built_send v req) (next_of_send (Ep.send_answer x.0 req)) what x.2 in
     still_kept v k (record k { endpoint = option_map f k.endpoint }) d h (still_send req) (no_notes v k d refl) refl refl
     (changed_by v k d f x.0 h x.1 (own_send x.0 req) (λ connid is. room_fits v connid req fits)
     (λ connid is all. keeps_send req (of_life connid (deeds_of v)) x.0 all is.keeps))

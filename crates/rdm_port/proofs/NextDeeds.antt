@@ -7,10 +7,10 @@ use Rattle.rdm_num.specs.declared.numbers.Life.{Life}
 use Rattle.rdm_model.specs.declared.job.Instr.{Instr}
 use Rattle.rdm_model.specs.declared.answer.Next.{Next}
 use Rattle.rdm_model.specs.Deeds.{Deed, deed_by_next, deed_of, deeds, open_after, open_life, is_connid, of_life, deed_count}
-use Rattle.rdm_model.specs.Notes.{notes_by, notes, is_note_push, tells_open, opens, knows_open, says, was_told}
-use Rattle.rdm_model.specs.Owns.{Own}
-use Rattle.rdm_model.specs.Steps.{count, is_next, is_push}
-use Rattle.rdm_model.specs.Reports.{is_to_other, is_from_other}
+use Rattle.rdm_model.specs.Notes.{notes_by, notes, note_pushes_by, tells_open, opens, knows_open, says, was_told}
+use Rattle.rdm_model.specs.Beginnings.{Own}
+use Rattle.rdm_model.specs.Steps.{count, nexts_by, pushes_by}
+use Rattle.rdm_model.specs.Reports.{drops_to_other, drops_from_other}
 use Rattle.rdm_ep.specs.View.{EndpointView}
 use Rattle.rdm_ep.specs.Keeps.{Keeps}
 use Rattle.rdm_ep.specs.Eager.{IsEagerDeed, IsEager}
@@ -27,8 +27,8 @@ use Rattle.rdm_port.proofs.NextAgrees.{open_eager}
 
 -- what a port keeps of these deeds
 pub record KeepsDeeds (v : PortView) (log : List Deed) (k : Kept) : Type 0 where
-  pub notes_within : deed_count is_note_push log ≤ length (notes v.ports v.number log)
-  pub notes_are : k.notes ≡ map queued_of (drop (deed_count is_note_push log) (notes v.ports v.number log))
+  pub notes_within : deed_count note_pushes_by log ≤ length (notes v.ports v.number log)
+  pub notes_are : k.notes ≡ map queued_of (drop (deed_count note_pushes_by log) (notes v.ports v.number log))
   pub opened_are : (l : Life) → is_opened k.opened l ≡ knows_open v.number log l
   pub told_are : (from what : ℕ) → is_told k.told from what ≡ was_told log from what
   pub built : AreBuilt (own_at v) log
@@ -46,7 +46,7 @@ pub record CountsSame (k new : Kept) : Type 0 where
 -- a port keeps what its log says after an instruction, where it keeps what its deeds say
 pub kept_by : (v : PortView) (k new : Kept) (instr : Instr) (answer : Next) (d : Deed) → IsKept v k → deed_by_next (slice_get v.rank.ops k.done) answer ≡ d
     → CountsSame k new → KeepsDeeds v (d ∷ deeds_of v) new → IsKept (with_log v (next_entry v k instr answer ∷ v.log)) (next_counted new)
-unfolding deeds_of deeds deed_of own_at clock_in count is_next is_push is_to_other is_from_other
+unfolding deeds_of deeds deed_of own_at clock_in count nexts_by pushes_by drops_to_other drops_from_other
 kept_by v k new instr answer d h e c s =
     let t = subst (λ (x : Deed). KeepsDeeds v (x ∷ deeds_of v) new) (sym e) s in
     record {
@@ -70,32 +70,32 @@ kept_by v k new instr answer d h e c s =
 
 -- the notes after a deed that pushes none
 pub record NotesMore (v : PortView) (log : List Deed) (ns : List QueuedNote) : Type 0 where
-  pub within : deed_count is_note_push log ≤ length (notes v.ports v.number log)
-  pub notes_are : ns ≡ map queued_of (drop (deed_count is_note_push log) (notes v.ports v.number log))
+  pub within : deed_count note_pushes_by log ≤ length (notes v.ports v.number log)
+  pub notes_are : ns ≡ map queued_of (drop (deed_count note_pushes_by log) (notes v.ports v.number log))
 
 -- such a deed queues its notes last
-pub notes_more : (v : PortView) (k : Kept) (d : Deed) → IsKept v k → is_note_push d ≡ 0
+pub notes_more : (v : PortView) (k : Kept) (d : Deed) → IsKept v k → note_pushes_by d ≡ 0
     → NotesMore v (d ∷ deeds_of v) (k.notes ++ map queued_of (notes_by v.ports v.number d))
 unfolding notes deed_count
 notes_more v k d h e =
     let log = deeds_of v in
     let old = notes v.ports v.number log in
     let new = notes_by v.ports v.number d in
-    let same : deed_count is_note_push log + is_note_push d ≡ deed_count is_note_push log = omega arith in
+    let same : deed_count note_pushes_by log + note_pushes_by d ≡ deed_count note_pushes_by log = omega arith in
     let size = length-append old new in
     let within = h.notes_within in
     record {
       within = omega arith;
       notes_are =
           ap (λ (ns : List QueuedNote). ns ++ map queued_of new) h.notes_are
-          ∙ sym (map-append queued_of (drop (deed_count is_note_push log) old) new)
-          ∙ ap (map queued_of) (sym (drop-append-le (deed_count is_note_push log) old new within))
+          ∙ sym (map-append queued_of (drop (deed_count note_pushes_by log) old) new)
+          ∙ ap (map queued_of) (sym (drop-append-le (deed_count note_pushes_by log) old new within))
           ∙ ap (λ (n : ℕ). map queued_of (drop n (old ++ new))) (sym same);
     }
 
 -- a deed that pushes no note, opens no life and brings no note
 pub record IsStill (d : Deed) : Type 0 where
-  pub push : is_note_push d ≡ 0
+  pub push : note_pushes_by d ≡ 0
   pub tells : (l : Life) → tells_open l d ≡ false
   pub opens_none : (l : Life) → opens l d ≡ false
   pub says_none : (from what : ℕ) → says from what d ≡ false

@@ -7,7 +7,7 @@ use Rattle.rdm_model.specs.declared.answer.Next.{Next}
 use Rattle.rdm_model.specs.declared.answer.Next.TheVariants.{Ended, Worn, Memory}
 use Rattle.rdm_model.specs.declared.entry.Act.{Act}
 use Rattle.rdm_model.specs.Answers.{answer_of, is_entry, op_of}
-use Rattle.rdm_model.specs.Steps.{stamp_after, count, is_next}
+use Rattle.rdm_model.specs.Steps.{stamp_after, count, nexts_by}
 use Rattle.rdm_model.specs.Settled.{answer_or_worn, left_answer, left_at}
 use Rattle.rdm_model.specs.Worlds.{next_act}
 use Rattle.rdm_port.specs.Views.{PortView, IsPortOf, scene_at}
@@ -74,7 +74,7 @@ entry_after : (job : Job) (v : PortView) (k : Kept) (instr : Instr) (answer : Ne
     → after_instruction job v (Some instr) answer ≡ with_log v (next_entry v k instr answer ∷ v.log)
 unfolding after_instruction next_act stamp_after
 entry_after job v k instr answer p h e =
-    rw e (logged_is job v k (Act.Next (count is_next v.log) (op_of instr) answer) p h
+    rw e (logged_is job v k (Act.Next (count nexts_by v.log) (op_of instr) answer) p h
     ∙ ap (λ (n : ℕ). with_log v (entry_of v (k.clock + 1) (Act.Next n (op_of instr) answer) ∷ v.log)) (sym h.done))
 
 -- where no instruction is left, the port has ended and stays

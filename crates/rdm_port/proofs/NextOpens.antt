@@ -12,7 +12,7 @@ use Rattle.rdm_model.specs.declared.answer.Next.TheVariants.{Did as DidAnswer, M
 use Rattle.rdm_model.specs.declared.answer.DidWhat.{DidWhat}
 use Rattle.rdm_model.specs.declared.answer.DidWhat.TheVariants.{Plain}
 use Rattle.rdm_model.specs.Deeds.{Deed, Did, open_after, open_life, is_connid, of_life}
-use Rattle.rdm_model.specs.Notes.{is_note_push, tells_open, opens, knows_open, says, was_told}
+use Rattle.rdm_model.specs.Notes.{note_pushes_by, tells_open, opens, knows_open, says, was_told}
 use Rattle.rdm_ep.specs.View.{new_endpoint}
 use Rattle.rdm_ep.specs.Keeps.{Keeps}
 use Rattle.rdm_ep.proofs.KeepsQuiet.{keeps_new}
@@ -107,7 +107,7 @@ fresh_after connid log none fresh = rw none fresh
 -- after a life was opened
 pub open_kept : (v : PortView) (k : Kept) (connid : Connid) (what : DidWhat) → IsKept v k → machine_answer v k (OpenLife connid) ≡ DidAnswer what
     → KeepsDeeds v (Did (OpenLife connid) ∷ deeds_of v) (after_did v (OpenLife connid) k)
-unfolding after_did open_life open_after was_told says is_note_push new_endpoint
+unfolding after_did open_life open_after was_told says note_pushes_by new_endpoint
 open_kept v k connid what h a =
     let d = Did (OpenLife connid) in
     let log = deeds_of v in

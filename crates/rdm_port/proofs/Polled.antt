@@ -7,13 +7,12 @@ use Rattle.rdm_model.specs.declared.job.Instr.{Instr}
 use Rattle.rdm_model.specs.declared.entry.Act.{Act}
 use Rattle.rdm_model.specs.declared.answer.Polled.TheVariants as P
 use Rattle.rdm_model.specs.Deeds.{Polled, deed_of, of_open_life, of_life, deed_count}
-use Rattle.rdm_model.specs.Notes.{is_note_push}
-use Rattle.rdm_model.specs.Owns.{Own}
+use Rattle.rdm_model.specs.Notes.{note_pushes_by}
+use Rattle.rdm_model.specs.Beginnings.{Own}
 use Rattle.rdm_model.specs.Scenes.{scene}
 use Rattle.rdm_model.specs.Local.{own_scene}
 use Rattle.rdm_model.specs.Completions.{completions}
-use Rattle.rdm_model.specs.Steps.{stamp_after, is_push}
-use Rattle.rdm_model.specs.Worlds.{next_completion}
+use Rattle.rdm_model.specs.Steps.{stamp_after, pushes_by, next_completion}
 use Rattle.rdm_ep.specs.View.{EndpointView}
 use Rattle.rdm_ep.specs.Answers.{life_scene}
 use Rattle.rdm_ep.specs.Going.{polled_by, after_poll}
@@ -30,13 +29,12 @@ use Rattle.rdm_port.proofs.PushDoes.{is_worn_now, not_worn_now, next_logged}
 
 -- no completion comes where no life is open
 closed_completes : (job : Job) (v : PortView) (k : Kept) → IsPortOf job v → IsKept v k → k.endpoint ≡ None → next_completion (scene_at job v) ≡ None
-unfolding next_completion completions scene_at own_scene scene of_open_life
+unfolding completions scene_at own_scene scene of_open_life
 closed_completes job v k p h q = let d = deeds_are job v p in let o = none_open v k h q in rw (d, o) refl
 
 -- the next completion is the first that the endpoint keeps
 open_completes : (job : Job) (v : PortView) (k : Kept) (e : EndpointView) → IsPortOf job v → IsKept v k → k.endpoint ≡ Some e
     → next_completion (scene_at job v) ≡ slice_get e.completions 0
-unfolding next_completion
 open_completes job v k e p h q =
     let f = open_facts v k e h q in
     let log = of_life f.0 (deeds_of v) in
@@ -79,8 +77,8 @@ unfolding deed_of
 deed_of_poll ops c = refl
 
 -- a poll is no push
-poll_no_push : (c : Completion) → is_push (Act.Poll c) ≡ 0
-unfolding is_push
+poll_no_push : (c : Completion) → pushes_by (Act.Poll c) ≡ 0
+unfolding pushes_by
 poll_no_push c = refl
 
 -- the port with the poll in its log
@@ -89,9 +87,9 @@ polled_port v k c = with_log v (entry_of v (k.clock + 1) (Act.Poll c) ∷ v.log)
 
 -- a poll leaves the notes
 poll_left : (v : PortView) (k : Kept) → IsKept v k → NotesLeft v (poll_counted (after_polled k)) Polled
-unfolding is_note_push
+unfolding note_pushes_by
 poll_left v k h =
-    let n = deed_count is_note_push (deeds_of v) in
+    let n = deed_count note_pushes_by (deeds_of v) in
     let i : n + 0 ≡ n = omega arith in
     record { within = rw i h.notes_within; are = rw i h.notes_are }
 

@@ -8,8 +8,8 @@ use Rattle.rdm_wire.specs.declared.Body.TheVariants.{Note}
 use Rattle.rdm_wire.specs.declared.Datagram.{Datagram}
 use Rattle.rdm_model.specs.declared.job.Job.{Job}
 use Rattle.rdm_model.specs.Deeds.{Deed, Spelled, deed_count, open_life, of_life}
-use Rattle.rdm_model.specs.Notes.{OwedNote, notes, is_note_push, next_note}
-use Rattle.rdm_model.specs.Owns.{Own, life_at, own_of, port_count}
+use Rattle.rdm_model.specs.Notes.{OwedNote, notes, note_pushes_by, next_note}
+use Rattle.rdm_model.specs.Beginnings.{Own, life_at, own_of, port_count}
 use Rattle.rdm_model.specs.Dues.{due}
 use Rattle.rdm_model.specs.Scenes.{Scene, deeds_at, scene}
 use Rattle.rdm_model.specs.Local.{own_scene, heard_by}
@@ -47,7 +47,7 @@ first_queued (suc k) (n ∷ ns) = first_queued k ns
 next_queued : (v : PortView) (k : Kept) → IsKept v k → option_map queued_of (next_note v.ports v.number (deeds_of v)) ≡ slice_get k.notes 0
 unfolding next_note
 next_queued v k h =
-    first_queued (deed_count is_note_push (deeds_of v)) (notes v.ports v.number (deeds_of v)) ∙ ap (λ (ns : List QueuedNote). slice_get ns 0) (sym h.notes_are)
+    first_queued (deed_count note_pushes_by (deeds_of v)) (notes v.ports v.number (deeds_of v)) ∙ ap (λ (ns : List QueuedNote). slice_get ns 0) (sym h.notes_are)
 
 -- the note that goes departs
 note_departs : (job : Job) (v : PortView) (k : Kept) (n : OwedNote) → IsPortOf job v → IsKept v k

@@ -14,8 +14,8 @@ use Rattle.rdm_wire.specs.declared.Datagram.{Datagram}
 use Rattle.rdm_model.specs.declared.job.Instr.{Instr}
 use Rattle.rdm_model.specs.declared.entry.Act.TheVariants.{Push}
 use Rattle.rdm_model.specs.Deeds.{PushedNote, Pushed, deed_by_push, deed_of, deed_count}
-use Rattle.rdm_model.specs.Notes.{OwedNote, notes, is_note_push}
-use Rattle.rdm_model.specs.Steps.{is_push}
+use Rattle.rdm_model.specs.Notes.{OwedNote, notes, note_pushes_by}
+use Rattle.rdm_model.specs.Steps.{pushes_by}
 use Rattle.rdm_ep.specs.declared.state.Outbound.{Outbound}
 use Rattle.rdm_ep.specs.View.{EndpointView}
 use Rattle.rdm_ep.specs.Going.{Leaving, after_outgoing, sent_by, after_sent, out_of}
@@ -35,8 +35,8 @@ unfolding deed_of
 deed_of_push ops d body e = ap deed_by_push e
 
 -- a push counts
-push_counts : (d : Datagram) → is_push (Push d) ≡ 1
-unfolding is_push
+push_counts : (d : Datagram) → pushes_by (Push d) ≡ 1
+unfolding pushes_by
 push_counts d = refl
 
 -- the notes that are left once the first of those was pushed
@@ -49,16 +49,16 @@ drop_more (suc k) (n ∷ ns) q qs e =
 
 -- the notes that are left once a note was pushed
 note_left : (v : PortView) (k : Kept) (q : QueuedNote) (qs : List QueuedNote) → IsKept v k → k.notes ≡ q ∷ qs → NotesLeft v (push_counted (record k { notes = drop 1 k.notes })) PushedNote
-unfolding is_note_push
+unfolding note_pushes_by
 note_left v k q qs h e =
-    let m = drop_more (deed_count is_note_push (deeds_of v)) (notes v.ports v.number (deeds_of v)) q qs (sym e ∙ h.notes_are) in
+    let m = drop_more (deed_count note_pushes_by (deeds_of v)) (notes v.ports v.number (deeds_of v)) q qs (sym e ∙ h.notes_are) in
     record { within = m.0; are = ap (drop 1) e ∙ m.1 }
 
 -- a push of the open life leaves the notes
 life_left : (v : PortView) (k n : Kept) → IsKept v k → n.notes ≡ k.notes → NotesLeft v n Pushed
-unfolding is_note_push
+unfolding note_pushes_by
 life_left v k n h e =
-    let c = deed_count is_note_push (deeds_of v) in
+    let c = deed_count note_pushes_by (deeds_of v) in
     let i : c + 0 ≡ c = omega arith in
     record { within = rw i h.notes_within; are = rw i (e ∙ h.notes_are) }
 

@@ -4,9 +4,9 @@ use Rattle.rdm_model.specs.declared.entry.Entry.{Entry}
 use Rattle.rdm_model.specs.declared.entry.Act.{Act}
 use Rattle.rdm_model.specs.declared.entry.Act.TheVariants.{Push, Poll}
 use Rattle.rdm_model.specs.Deeds.{Deed, deed_of, deeds, open_life, deed_count}
-use Rattle.rdm_model.specs.Notes.{notes, is_note_push}
-use Rattle.rdm_model.specs.Steps.{count, is_next, is_push}
-use Rattle.rdm_model.specs.Reports.{is_to_other, is_from_other}
+use Rattle.rdm_model.specs.Notes.{notes, note_pushes_by}
+use Rattle.rdm_model.specs.Steps.{count, nexts_by, pushes_by}
+use Rattle.rdm_model.specs.Reports.{drops_to_other, drops_from_other}
 use Rattle.rdm_port.specs.Views.{PortView}
 use Rattle.rdm_port.specs.Kept.{Kept, IsKept, clock_in, deeds_of, own_at, queued_of, entry_of, with_log}
 use Rattle.rdm_port.specs.Built.{AreBuilt}
@@ -14,10 +14,10 @@ use Rattle.rdm_port.proofs.SilentDeeds.{IsSilent, notes_silent, knows_silent, to
 
 -- the counts that a push or a poll leaves
 record LeavesCounts (act : Act) : Type 0 where
-  next : is_next act ≡ 0
-  to_other : is_to_other act ≡ 0
-  from_other : is_from_other act ≡ 0
-  few : is_push act ≤ 1
+  next : nexts_by act ≡ 0
+  to_other : drops_to_other act ≡ 0
+  from_other : drops_from_other act ≡ 0
+  few : pushes_by act ≤ 1
 
 -- a push or a poll as an entry
 abbrev pub IsSilentAct : Act → Type 0
@@ -27,7 +27,7 @@ IsSilentAct _ = ⊥
 
 -- a push or a poll counts as nothing but a push
 leaves_counts : (act : Act) → IsSilentAct act → LeavesCounts act
-unfolding is_next is_push is_to_other is_from_other
+unfolding nexts_by pushes_by drops_to_other drops_from_other
 leaves_counts (Push d) s = record { next = refl; to_other = refl; from_other = refl; few = omega arith }
 leaves_counts (Poll c) s = record { next = refl; to_other = refl; from_other = refl; few = omega arith }
 leaves_counts act s = elim s [ ]
@@ -44,8 +44,8 @@ pub record StaysBut (k n : Kept) (pushes : ℕ) : Type 0 where
 
 -- the notes that are left after the deed are the last ones
 pub record NotesLeft (v : PortView) (n : Kept) (d : Deed) : Type 0 where
-  pub within : deed_count is_note_push (deeds_of v) + is_note_push d ≤ length (notes v.ports v.number (deeds_of v))
-  pub are : n.notes ≡ map queued_of (drop (deed_count is_note_push (deeds_of v) + is_note_push d) (notes v.ports v.number (deeds_of v)))
+  pub within : deed_count note_pushes_by (deeds_of v) + note_pushes_by d ≤ length (notes v.ports v.number (deeds_of v))
+  pub are : n.notes ≡ map queued_of (drop (deed_count note_pushes_by (deeds_of v) + note_pushes_by d) (notes v.ports v.number (deeds_of v)))
 
 -- the deeds with one more
 deeds_more : (v : PortView) (stamp : ℕ) (act : Act) (d : Deed) → deed_of v.rank.ops act ≡ d → deeds_of (with_log v (entry_of v stamp act ∷ v.log)) ≡ d ∷ deeds_of v
@@ -64,7 +64,7 @@ count_same f e log q = omega arith
 
 -- what is kept after a push or a poll
 pub kept_silent : (v : PortView) (k n : Kept) (act : Act) (d : Deed) → IsKept v k → IsSilentAct act → IsSilent d → deed_of v.rank.ops act ≡ d
-    → StaysBut k n (is_push act) → NotesLeft v n d → StepsBy d k.endpoint n.endpoint
+    → StaysBut k n (pushes_by act) → NotesLeft v n d → StepsBy d k.endpoint n.endpoint
     → IsKept (with_log v (entry_of v (k.clock + 1) act ∷ v.log)) n
 unfolding own_at clock_in deed_count
 kept_silent v k n act d h t s q stays left steps =
@@ -88,11 +88,11 @@ kept_silent v k n act d h t s q stays left steps =
     let ns = notes_silent v.ports v.number d (deeds_of v) s in
     let os = open_silent d (deeds_of v) s in
     record {
-      done = done ∙ h.done ∙ sym (count_same is_next e v.log c.next);
+      done = done ∙ h.done ∙ sym (count_same nexts_by e v.log c.next);
       clock = clock;
-      pushed = pushed ∙ ap (λ (x : ℕ). x + is_push act) h.pushed ∙ sym (count_more is_push e v.log);
-      to_other = to_other ∙ h.to_other ∙ sym (count_same is_to_other e v.log c.to_other);
-      from_other = from_other ∙ h.from_other ∙ sym (count_same is_from_other e v.log c.from_other);
+      pushed = pushed ∙ ap (λ (x : ℕ). x + pushes_by act) h.pushed ∙ sym (count_more pushes_by e v.log);
+      to_other = to_other ∙ h.to_other ∙ sym (count_same drops_to_other e v.log c.to_other);
+      from_other = from_other ∙ h.from_other ∙ sym (count_same drops_from_other e v.log c.from_other);
       notes_within = rw (ds, ns) left.within;
       notes_are = rw (ds, ns) left.are;
       opened_are = λ l. rw (opened, ds) (h.opened_are l ∙ sym (knows_silent v.number d (deeds_of v) l s));

@@ -4,7 +4,7 @@ use Rattle.rdm_num.specs.declared.numbers.Connid.{Connid}
 use Rattle.rdm_model.specs.declared.job.Job.{Job}
 use Rattle.rdm_model.specs.declared.job.Instr.TheVariants.{OpenLife}
 use Rattle.rdm_model.specs.Deeds.{Deed, Did, open_life, of_life, item_of}
-use Rattle.rdm_model.specs.Owns.{Own}
+use Rattle.rdm_model.specs.Beginnings.{Own}
 use Rattle.rdm_num.specs.Lives.{life}
 use Rattle.rdm_wire.specs.declared.Datagram.{Datagram}
 use Rattle.rdm_wire.specs.declared.Body.{Body}

@@ -8,11 +8,11 @@ use Rattle.rdm_num.specs.declared.numbers.Life.{Life}
 use Rattle.rdm_wire.specs.declared.Datagram.{Datagram}
 use Rattle.rdm_model.specs.declared.entry.Entry.{Entry}
 use Rattle.rdm_model.specs.declared.entry.Act.{Act}
-use Rattle.rdm_model.specs.Owns.{Own}
+use Rattle.rdm_model.specs.Beginnings.{Own}
 use Rattle.rdm_model.specs.Deeds.{Deed, deeds, open_life, of_life, deed_count}
-use Rattle.rdm_model.specs.Notes.{OwedNote, notes, is_note_push, knows_open, was_told}
-use Rattle.rdm_model.specs.Steps.{count, is_next, is_push}
-use Rattle.rdm_model.specs.Reports.{is_to_other, is_from_other}
+use Rattle.rdm_model.specs.Notes.{OwedNote, notes, note_pushes_by, knows_open, was_told}
+use Rattle.rdm_model.specs.Steps.{count, nexts_by, pushes_by}
+use Rattle.rdm_model.specs.Reports.{drops_to_other, drops_from_other}
 use Rattle.rdm_ep.specs.View.{EndpointView, cq_in}
 use Rattle.rdm_ep.specs.Keeps.{Keeps}
 use Rattle.rdm_port.specs.declared.kept.QueuedNote.{QueuedNote}
@@ -88,14 +88,14 @@ IsOpen v _ _ = ⊥
 
 -- what the port keeps is what its log says, whose deeds are all built
 pub record IsKept (v : PortView) (k : Kept) : Type 0 where
-  pub done : k.done ≡ count is_next v.log
+  pub done : k.done ≡ count nexts_by v.log
   pub clock : k.clock ≡ clock_in v.start v.log
-  pub pushed : k.pushed ≡ count is_push v.log
-  pub to_other : k.to_other ≡ count is_to_other v.log
-  pub from_other : k.from_other ≡ count is_from_other v.log
+  pub pushed : k.pushed ≡ count pushes_by v.log
+  pub to_other : k.to_other ≡ count drops_to_other v.log
+  pub from_other : k.from_other ≡ count drops_from_other v.log
   -- the notes that were not pushed are the last ones
-  pub notes_within : deed_count is_note_push (deeds_of v) ≤ length (notes v.ports v.number (deeds_of v))
-  pub notes_are : k.notes ≡ map queued_of (drop (deed_count is_note_push (deeds_of v)) (notes v.ports v.number (deeds_of v)))
+  pub notes_within : deed_count note_pushes_by (deeds_of v) ≤ length (notes v.ports v.number (deeds_of v))
+  pub notes_are : k.notes ≡ map queued_of (drop (deed_count note_pushes_by (deeds_of v)) (notes v.ports v.number (deeds_of v)))
   pub opened_are : (l : Life) → is_opened k.opened l ≡ knows_open v.number (deeds_of v) l
   pub told_are : (from what : ℕ) → is_told k.told from what ≡ was_told (deeds_of v) from what
   pub built : AreBuilt (own_at v) (deeds_of v)

@@ -1,5 +1,6 @@
 -- What the code of a port answers and changes, by what it keeps.
 use Rattle.std.specs.Prelude.{◌≡◌, ℕ, ◌+◌, Bool, true, false, not, ◌&&◌, ◌||◌, nat_lt, nat_le, if◌then◌else◌, List, [], ◌∷◌, ◌++◌, map, length, drop, Option, Some, None, is_some, option_map, slice_get, max}
+use Rattle.rdm_hdr.specs.Fields.{has_bit}
 use Rattle.rdm_num.specs.Lives.{life}
 use Rattle.rdm_num.specs.declared.numbers.PortNo.{PortNo}
 use Rattle.rdm_num.specs.declared.numbers.Life.{Life}
@@ -10,6 +11,7 @@ use Rattle.rdm_wire.specs.declared.NoteBody.{NoteBody as NoteType}
 use Rattle.rdm_wire.specs.declared.NoteBody.TheVariants.{Opened, Said}
 use Rattle.rdm_wire.specs.declared.Datagram.{Datagram}
 use Rattle.rdm_model.specs.Jobs.{spans_length}
+use Rattle.rdm_model.specs.Replies.{confirm_feature}
 use Rattle.rdm_model.specs.declared.job.Instr.{Instr}
 use Rattle.rdm_model.specs.declared.job.Instr.TheVariants.{OpenLife, Insert, Reg, Send, Recv, Cancel, Note, Await, Wait, CloseLife}
 use Rattle.rdm_model.specs.declared.answer.Next.{Next}
@@ -61,22 +63,26 @@ with_endpoint (Some e) answer = answer e
 abbrev pub header_size : SendReq → ℕ
 header_size req = 44 + (if is_some req.tag then 8 else 0) + (if is_some req.cq_data then 8 else 0)
 
--- the message has room in one packet, whatever its headers
-abbrev pub has_room : PortView → SendReq → Bool
-has_room v req = nat_le (spans_length req.parts + header_size req) v.limits.mtu
+-- the send asks for no receipt and has room in one packet, whatever its headers; no other one is built
+abbrev pub is_built_send : PortView → SendReq → Bool
+is_built_send v req = not req.confirm && nat_le (spans_length req.parts + header_size req) v.limits.mtu
 
--- an insert waits for the note that the life was opened; one that would take the place of another life is not built
+-- the endpoint greets a life that is inserted
+abbrev pub greets_inserted : EndpointView → Bool
+greets_inserted e = has_bit confirm_feature e.own.features
+
+-- an insert waits for the note that the life was opened; one that would take the place of another life or greet is not built
 unfoldable pub insert_answer_in : Kept → Life → EndpointView → Next
 insert_answer_in k l e =
     if not (is_opened k.opened l) then NotYet Yet.Opened
-    else if Ep.supersedes l (current_in e l.port.0) then Memory else Did Plain
+    else if Ep.supersedes l (current_in e l.port.0) || greets_inserted e then Memory else Did Plain
 
 -- what an instruction answers by what the port keeps; what is not built wants memory
 unfoldable pub machine_answer : PortView → Kept → Instr → Next
 machine_answer v k (OpenLife connid) = if is_some k.endpoint || not (is_new_life k.opened v connid) then Memory else Did Plain
 machine_answer v k (Insert l) = with_endpoint k.endpoint (insert_answer_in k l)
 machine_answer v k (Reg content) = with_endpoint k.endpoint (λ e. Did (Region (record { 0 = length e.regions })))
-machine_answer v k (Send req) = with_endpoint k.endpoint (λ e. if has_room v req then next_of_send (Ep.send_answer e req) else Memory)
+machine_answer v k (Send req) = with_endpoint k.endpoint (λ e. if is_built_send v req then next_of_send (Ep.send_answer e req) else Memory)
 machine_answer v k (Recv req) = with_endpoint k.endpoint (λ e. next_of_recv (EpRecv.recv_answer e req))
 machine_answer v k (Cancel recv) = with_endpoint k.endpoint (λ e. if waits_for_message e recv.0 then Did Plain else Refused NotPosted)
 machine_answer v k (Note to what) = Did Plain

@@ -7,7 +7,7 @@ use Rattle.rdm_model.specs.declared.answer.Next.{Next}
 use Rattle.rdm_model.specs.declared.answer.Next.TheVariants.{Ended, Memory}
 use Rattle.rdm_model.specs.Answers.{is_entry}
 use Rattle.rdm_model.specs.Deeds.{open_life}
-use Rattle.rdm_model.specs.Steps.{count, is_next}
+use Rattle.rdm_model.specs.Steps.{count, nexts_by}
 use Rattle.rdm_model.specs.Settled.{instruction_left, left_at}
 use Rattle.rdm_model.specs.Worlds.{next_act}
 use Rattle.rdm_model.specs.Reports.{end_of}
@@ -46,7 +46,7 @@ TakesNone v _ = ⊥
 
 -- the next instruction of the port takes no memory
 abbrev pub NextTakesNone : PortView → Type 0
-NextTakesNone v = TakesNone v (slice_get v.rank.ops (count is_next v.log))
+NextTakesNone v = TakesNone v (slice_get v.rank.ops (count nexts_by v.log))
 
 -- the end is that of the port as it stands
 abbrev pub EndsAs : PortView → End → Type 0

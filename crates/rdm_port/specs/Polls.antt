@@ -1,12 +1,12 @@
 -- What a poll of a port does.
 use Rattle.std.specs.Prelude.{◌≡◌, IsTrue, IsFalse, Option, Some, None}
 use Rattle.rdm_num.specs.declared.completion.Completion.{Completion}
+use Rattle.rdm_model.specs.Steps.{next_completion}
 use Rattle.rdm_model.specs.declared.job.Job.{Job}
 use Rattle.rdm_model.specs.declared.entry.Act.TheVariants as Act
 use Rattle.rdm_model.specs.declared.answer.Polled.{Polled}
 use Rattle.rdm_model.specs.declared.answer.Polled.TheVariants as P
 use Rattle.rdm_model.specs.Settled.{is_worn}
-use Rattle.rdm_model.specs.Worlds.{next_completion}
 use Rattle.rdm_port.specs.Views.{PortView, IsPortOf, scene_at, logged}
 
 -- the port is as the answer to a poll of the next completion says

@@ -6,7 +6,7 @@ use Rattle.rdm_model.specs.declared.job.Job.{Job}
 use Rattle.rdm_model.specs.declared.job.Rank.{Rank}
 use Rattle.rdm_model.specs.declared.entry.Entry.{Entry}
 use Rattle.rdm_model.specs.declared.entry.Act.{Act}
-use Rattle.rdm_model.specs.Owns.{rank_of, port_count, with_pools}
+use Rattle.rdm_model.specs.Beginnings.{rank_of, port_count, with_pools}
 use Rattle.rdm_model.specs.Steps.{clock, stamp_after}
 use Rattle.rdm_model.specs.Scenes.{Scene, deeds_at}
 use Rattle.rdm_model.specs.Local.{own_scene}

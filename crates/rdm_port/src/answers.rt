@@ -1,5 +1,5 @@
 //! What an instruction answers, by what a port keeps.
-ghost use Rattle.std.specs.Prelude.{◌≡◌, ◌⊎◌, ◌+◌, Some, true, false, nat_le};
+ghost use Rattle.std.specs.Prelude.{◌≡◌, ◌⊎◌, ◌+◌, Some, true, false, not, ◌&&◌, nat_le};
 ghost use Rattle.rdm_model.specs.declared.answer.Next.TheVariants as NextKind;
 ghost use Rattle.rdm_model.specs.Jobs.{needs_life, spans_length};
 ghost use Rattle.rdm_port.specs.Views.{PortView};
@@ -42,6 +42,8 @@ fn next_of_send(answer: SendAnswer) -> Next
         SendAnswer::Refused(SendWhy::NoEntry) => Next::Refused(Why::NoEntry),
         SendAnswer::Refused(SendWhy::Busy) => Next::Refused(Why::Busy),
         SendAnswer::Refused(SendWhy::Numbers) => Next::Refused(Why::Numbers),
+        SendAnswer::Refused(SendWhy::NoConfirm) => Next::Refused(Why::NoConfirm),
+        SendAnswer::NotYet => Next::NotYet(Yet::Handshake),
         SendAnswer::Again(pool) => Next::Again(pool),
         SendAnswer::Memory => Next::Memory,
     }
@@ -108,7 +110,7 @@ fn answer_in(endpoint: &Endpoint, opened: &[Life], limits: &EpLimits, instr: &In
         Instr::Insert { life } => {
             if !is_opened(opened, *life) {
                 Next::NotYet(Yet::Opened)
-            } else if endpoint.supersedes(*life) {
+            } else if endpoint.supersedes(*life) || endpoint.greets_inserted() {
                 Next::Memory
             } else {
                 Next::Did(DidWhat::Plain)
@@ -123,7 +125,7 @@ fn answer_in(endpoint: &Endpoint, opened: &[Life], limits: &EpLimits, instr: &In
             }
         }
         Instr::Send(req) => {
-            if has_room(limits, req) {
+            if is_built_send(limits, req) {
                 next_of_send(endpoint.answer_send(req))
             } else {
                 Next::Memory
@@ -149,11 +151,12 @@ fn answer_in(endpoint: &Endpoint, opened: &[Life], limits: &EpLimits, instr: &In
     }
 }
 
-/// The message has room in one packet, whatever its headers.
-fn has_room(limits: &EpLimits, req: &SendReq) -> bool
-    ensures { result ≡ nat_le (spans_length req.now.parts + header_size req.now) limits.now.mtu }
+/// The send asks for no receipt and has room in one packet, whatever its headers.
+fn is_built_send(limits: &EpLimits, req: &SendReq) -> bool
+    ensures { result ≡ (not req.now.confirm && nat_le (spans_length req.now.parts + header_size req.now) limits.now.mtu) }
 {
-    total_length(&req.parts) + u128::from(header_size(req)) <= u128::from(limits.mtu)
+    !req.confirm
+        && total_length(&req.parts) + u128::from(header_size(req)) <= u128::from(limits.mtu)
 }
 
 /// How many bytes of headers a message in one packet has beside a raw address, which is the longest.

@@ -1,9 +1,9 @@
 //! The port.
 ghost use Rattle.std.specs.Prelude.{◌≡◌, ◌≢◌, ◌<◌, ◌≤◌, IfOk, true, length, is_none, slice_get};
-ghost use Rattle.rdm_model.specs.Owns.{port_count};
-ghost use Rattle.rdm_model.specs.Owns as Owns;
+ghost use Rattle.rdm_model.specs.Beginnings.{port_count};
+ghost use Rattle.rdm_model.specs.Beginnings as Owns;
 ghost use Rattle.rdm_port.specs.Views.{new_port, IsSamePort};
-ghost use Rattle.rdm_model.specs.Steps.{count, is_next};
+ghost use Rattle.rdm_model.specs.Steps.{count, nexts_by};
 ghost use Rattle.rdm_model.specs.declared.answer.Next.TheVariants as NextKind;
 ghost use Rattle.rdm_port.specs.Nexts.{DoesNext, NextTakesNone, EndsAs};
 ghost use Rattle.rdm_port.specs.Pushes.{DoesPush, PushesOn, FullRose, IsKeptWire};
@@ -47,7 +47,7 @@ impl Model for Port {
 impl Port {
     /// A new port of a job: the rank of that number, with the rank's own pools. It takes the room
     /// for the entry of each of its instructions.
-    #[tactic(auto, unfolding(rdm_model::specs::Owns::rank_of))]
+    #[tactic(auto, unfolding(rdm_model::specs::Beginnings::rank_of))]
     pub fn new(alloc: Global, no: PortNo, job: &Job) -> Result<Port, NoMemory>
         requires rank { no.0 < port_count job.now }
         requires few { port_count job.now ≤ 16 }
@@ -107,7 +107,7 @@ impl Port {
 
     /// Whether no instruction is left.
     pub fn is_over(&self) -> bool
-        ensures { result ≡ is_none (slice_get self.now.rank.ops (count is_next self.now.log)) }
+        ensures { result ≡ is_none (slice_get self.now.rank.ops (count nexts_by self.now.log)) }
     {
         self.rank.ops.as_slice().len() as u64 <= self.state.done
     }

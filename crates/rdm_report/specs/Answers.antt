@@ -23,6 +23,7 @@ abbrev pub yet_text : Yet → List ℕ
 yet_text (yet.Wait have need) = codes "NotYet Wait " ++ decimal have ++ codes " " ++ decimal need
 yet_text yet.Await = codes "NotYet Await"
 yet_text yet.Opened = codes "NotYet Opened"
+yet_text yet.Handshake = codes "NotYet Handshake"
 yet_text (yet.Parts parts) = codes "NotYet Parts " ++ decimal parts
 
 -- the answer of an instruction; those that make no entry stand for what a program waits for

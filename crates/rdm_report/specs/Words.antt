@@ -29,6 +29,7 @@ why_word why.Range = codes "Range"
 why_word why.NoEntry = codes "NoEntry"
 why_word why.Busy = codes "Busy"
 why_word why.Numbers = codes "Numbers"
+why_word why.NoConfirm = codes "NoConfirm"
 why_word why.Superseded = codes "Superseded"
 why_word why.NotPosted = codes "NotPosted"
 

@@ -36,6 +36,7 @@ fn put_yet(out: &mut String, yet: Yet) -> Result<(), AllocError>
         Yet::Wait { have, need } => write!(out, "NotYet Wait {have} {need}"),
         Yet::Await => write!(out, "NotYet Await"),
         Yet::Opened => write!(out, "NotYet Opened"),
+        Yet::Handshake => write!(out, "NotYet Handshake"),
         Yet::Parts(parts) => write!(out, "NotYet Parts {parts}"),
     }
 }

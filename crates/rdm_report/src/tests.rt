@@ -14,7 +14,7 @@ use std::test::Fail;
 // A line for each form of entry and of rank.
 const LINES: &str = "rdm report 1
 status stuck
-entries 21
+entries 22
 1 0 next 0 open did
 2 0 next 1 reg did 2
 3 0 next 2 recv did 3
@@ -36,6 +36,7 @@ entries 21
 19 0 poll recv 3 truncated from 1.7 tag - data 9 length 2 excess 4 6869
 20 0 push 5 to 1.7 packet 64 61616161616161616161616161616161616161616161616161616161616161616161616161616161616161616161616161616161616161616161616161616161
 21 0 push 6 to 1.7 packet 112 sha256:cf5b16a778af8380036ce59e7b0492370b249b11e8f07a51afac45037afee9d1
+22 0 next 5 send refused NoConfirm
 rank 0 done 4 of 4 dropped 1 2 waiting 3
 rank 1 stuck 3 of 4 NotYet Wait 0 1 dropped 0 0 waiting 0
 rank 2 stuck 1 of 5 NotYet Opened dropped 0 0 waiting 1
@@ -43,6 +44,7 @@ rank 3 stuck 1 of 2 NotYet Await dropped 0 0 waiting 0
 rank 4 stuck 1 of 2 NotYet Parts 6 dropped 0 0 waiting 0
 rank 5 stuck 3 of 4 Again Rx dropped 0 0 waiting 0
 rank 6 stuck 1 of 4 Worn dropped 0 0 waiting 1
+rank 7 stuck 4 of 9 NotYet Handshake dropped 0 0 waiting 0
 end
 ";
 
@@ -171,6 +173,7 @@ fn entries(alloc: Global) -> Result<Vec<Act>, AllocError> {
             6,
             between(Load::Packet(Bytes::from_slice(alloc, STANDARD.as_bytes())?))
         ),
+        next(5, OpName::Send, Next::Refused(Why::NoConfirm)),
     ]?)
 }
 
@@ -212,6 +215,7 @@ fn each_form_of_line_is_written(rt: HostRuntime) -> Result<(), Fail> {
         end(1, 2, Some(Next::NotYet(Yet::Parts(6))), (0, 0, 0)),
         end(3, 4, Some(Next::Again(PoolName::Rx)), (0, 0, 0)),
         end(1, 4, Some(Next::Worn), (0, 0, 1)),
+        end(4, 9, Some(Next::NotYet(Yet::Handshake)), (0, 0, 0)),
     ]?;
     let report = Report {
         stuck: true,

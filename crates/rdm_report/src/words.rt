@@ -30,6 +30,7 @@ pub fn why_word(why: Why) -> &'static str
         Why::NoEntry => "NoEntry",
         Why::Busy => "Busy",
         Why::Numbers => "Numbers",
+        Why::NoConfirm => "NoConfirm",
         Why::Superseded => "Superseded",
         Why::NotPosted => "NotPosted",
     }

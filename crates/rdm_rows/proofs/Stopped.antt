@@ -16,7 +16,7 @@ use Rattle.rdm_model.specs.declared.answer.DidWhat.TheVariants as Did
 use Rattle.rdm_model.specs.declared.answer.Handled.TheVariants as Handled
 use Rattle.rdm_model.specs.declared.report.Report.{Report}
 use Rattle.rdm_model.specs.Deeds.{log_of}
-use Rattle.rdm_model.specs.Owns.{port_count}
+use Rattle.rdm_model.specs.Beginnings.{port_count}
 use Rattle.rdm_model.specs.Going.{GoesNote}
 use Rattle.rdm_model.specs.Steps.{clock}
 use Rattle.rdm_model.specs.Wire.{PushedIn, IsUnhandled}

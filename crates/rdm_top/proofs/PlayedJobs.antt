@@ -2,7 +2,7 @@
 use Rattle.std.proofs.Common.{◌≡◌, ℕ, zero, suc, IsTrue, Bool, true, false, not, ◌&&◌, List, [], ◌∷◌, ◌++◌, length, get_or, is_some, Option, Some, None, Ok, refl, inl, inr, subst, if◌then◌else◌}
 use Rattle.std.specs.Prelude.{◌^◌, nat_le, nat_lt, unwrap_or}
 use Rattle.std.specs.List.{list_all}
-use Rattle.std.proofs.lemmas.Bool.{and_parts}
+use Rattle.std.proofs.lemmas.Bool.{and_parts, not-true}
 use Rattle.rdm_lists.specs.Lists.{Member}
 use Rattle.rdm_num.specs.declared.limits.EpLimits.{EpLimits}
 use Rattle.rdm_num.specs.declared.numbers.Connid.{Connid}
@@ -15,7 +15,7 @@ use Rattle.rdm_model.specs.declared.job.Rank.{Rank}
 use Rattle.rdm_model.specs.declared.job.Instr.{Instr}
 use Rattle.rdm_model.specs.declared.job.Instr.TheVariants.{OpenLife, Insert, Reg, Send, Recv, Cancel, Note, Await, Wait, CloseLife}
 use Rattle.rdm_model.specs.Jobs.{is_fair, law_ops, lives_fit, rank_fits, features_fit, instr_fits, limits_fit, is_within, spans_length, differ_in_pools, choices_fit, opens_well, opened_by, is_open_after}
-use Rattle.rdm_model.specs.Owns.{rank_of, no_rank}
+use Rattle.rdm_model.specs.Beginnings.{rank_of, no_rank}
 use Rattle.rdm_model.specs.Worlds.{new_world}
 use Rattle.rdm_law.proofs.Eager.EagerDeeds.{IsEagerOp}
 use Rattle.rdm_law.proofs.Eager.EagerPorts.{EagerJob}
@@ -59,7 +59,8 @@ played_eager : (limits : EpLimits) (connid : Connid) (i : Instr) → opens i ≡
 unfolding opens
 played_eager limits connid (OpenLife c) h played = cc
 played_eager limits connid (Send req) h played =
-    fits_one_packet limits req (eager_has_room (spans_length req.parts) (is_some req.tag) (is_some req.cq_data) limits (and_parts (not req.confirm) (goes_eager limits req) played).1)
+    let p = and_parts (not req.confirm) (goes_eager limits req) played in
+    fits_one_packet limits req (not-true req.confirm p.0) (eager_has_room (spans_length req.parts) (is_some req.tag) (is_some req.cq_data) limits p.1)
 played_eager limits connid _ h played = tt
 
 -- after an open a life is open

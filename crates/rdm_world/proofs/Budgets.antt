@@ -9,7 +9,7 @@ use Rattle.rdm_model.specs.declared.job.Job.{Job}
 use Rattle.rdm_model.specs.declared.job.Rank.{Rank}
 use Rattle.rdm_model.specs.declared.job.Instr.{Instr}
 use Rattle.rdm_model.specs.declared.job.Instr.TheVariants.{OpenLife, Insert, Reg, Send, Recv, Cancel, Note, Await, Wait, CloseLife}
-use Rattle.rdm_model.specs.Owns.{rank_of, no_rank, port_count}
+use Rattle.rdm_model.specs.Beginnings.{rank_of, no_rank, port_count}
 use Rattle.rdm_model.specs.Jobs.{is_fair, law_ops, instr_fits, parts_fit, sent_length, open_count}
 use Rattle.rdm_law.proofs.Fits.FairJobs.{RankFits, fair_job}
 use Rattle.rdm_world.specs.Budgets.{IsSmall}

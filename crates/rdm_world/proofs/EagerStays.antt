@@ -11,7 +11,7 @@ use Rattle.rdm_wire.specs.declared.Body.TheVariants.{Note, Between}
 use Rattle.rdm_model.specs.declared.job.Job.{Job}
 use Rattle.rdm_model.specs.Deeds.{Deed, Item, Spelled, item_of}
 use Rattle.rdm_model.specs.Jobs.{is_fair, law_ops}
-use Rattle.rdm_model.specs.Owns.{Own}
+use Rattle.rdm_model.specs.Beginnings.{Own}
 use Rattle.rdm_model.specs.Worlds.{World, new_world, scene_in, after_choices}
 use Rattle.rdm_law.proofs.Eager.EagerDeeds as Law
 use Rattle.rdm_law.proofs.Eager.EagerWaiting.{waiting_built}

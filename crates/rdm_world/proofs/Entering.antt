@@ -4,6 +4,7 @@ use Rattle.std.specs.Prelude.{◌==◌, ◌&&◌, ◌||◌, nat_le}
 use Rattle.std.proofs.lemmas.Bool.{ne_eqb}
 use Rattle.rdm_num.specs.declared.completion.Completion.{Completion}
 use Rattle.rdm_wire.specs.declared.Datagram.{Datagram}
+use Rattle.rdm_model.specs.Steps.{next_completion}
 use Rattle.rdm_model.specs.declared.job.Job.{Job}
 use Rattle.rdm_model.specs.declared.job.Instr.{Instr}
 use Rattle.rdm_model.specs.declared.job.Choice.{Choice}
@@ -15,7 +16,7 @@ use Rattle.rdm_model.specs.declared.entry.Act.TheVariants.{Push, Poll}
 use Rattle.rdm_model.specs.Answers.{answer_of, is_entry}
 use Rattle.rdm_model.specs.Going.{Going, going}
 use Rattle.rdm_model.specs.Settled.{is_worn, instruction_left}
-use Rattle.rdm_model.specs.Worlds.{World, put_at, scene_in, with_entry, next_act, step_next, datagram_of, with_push, step_push, with_poll, next_completion, after_choice}
+use Rattle.rdm_model.specs.Worlds.{World, put_at, scene_in, with_entry, next_act, step_next, datagram_of, with_push, step_push, with_poll, after_choice}
 use Rattle.rdm_law.proofs.Played.Apart.{put_at_here}
 use Rattle.rdm_world.specs.Shows.{has_changed}
 use Rattle.rdm_world.specs.Views.{WorldView}

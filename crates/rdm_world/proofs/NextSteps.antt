@@ -5,7 +5,7 @@ use Rattle.rdm_model.specs.declared.job.Instr.{Instr}
 use Rattle.rdm_model.specs.declared.job.Choice.{Choice}
 use Rattle.rdm_model.specs.declared.answer.Next.{Next}
 use Rattle.rdm_model.specs.declared.answer.Next.TheVariants.{Ended, Worn, Memory}
-use Rattle.rdm_model.specs.Owns.{port_count}
+use Rattle.rdm_model.specs.Beginnings.{port_count}
 use Rattle.rdm_model.specs.Answers.{answer_of, is_entry}
 use Rattle.rdm_model.specs.Settled.{is_worn, instruction_left, left_at, left_answer, answer_or_worn}
 use Rattle.rdm_model.specs.Worlds.{World, scene_in, with_entry, next_act, step_next, after_choice}

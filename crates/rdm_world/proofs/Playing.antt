@@ -10,10 +10,10 @@ use Rattle.rdm_lists.proofs.Bools.{or_true}
 use Rattle.rdm_model.specs.declared.job.Job.{Job}
 use Rattle.rdm_model.specs.declared.job.Choice.{Choice}
 use Rattle.rdm_model.specs.declared.report.End.{End}
-use Rattle.rdm_model.specs.Owns.{port_count, rank_of}
+use Rattle.rdm_model.specs.Beginnings.{port_count, rank_of}
 use Rattle.rdm_model.specs.Jobs.{choice_rank, is_fair, law_ops, is_within}
 use Rattle.rdm_model.specs.Settled.{instruction_left}
-use Rattle.rdm_model.specs.Steps.{count, is_next}
+use Rattle.rdm_model.specs.Steps.{count, nexts_by}
 use Rattle.rdm_model.specs.Worlds.{World, new_world, scene_in, after_choice, after_choices}
 use Rattle.rdm_model.specs.Played.{end_at, rounds, round_bound, played_world}
 use Rattle.rdm_law.proofs.Played.PlayedSteps.{choices_keep, fair_choices}
@@ -140,10 +140,10 @@ some_or_none (Some x) = refl
 
 -- whether the program of a port in a world that is shown is over
 pub over_shown : (job : Job) (w : World) (v : WorldView) (i : ℕ) (p : PortView) (over : Bool) → IsWorld job w v → i < length v.ports → p ≡ get_or v.ports i p
-    → over ≡ is_none (slice_get p.rank.ops (count is_next p.log)) → is_some (instruction_left job i (w.logs i)) ≡ not over
+    → over ≡ is_none (slice_get p.rank.ops (count nexts_by p.log)) → is_some (instruction_left job i (w.logs i)) ≡ not over
 unfolding instruction_left
 over_shown job w v i p over is within at ends =
     let n = is.count in
     let below_it : i < port_count job = omega arith in
     let here : p ≡ port_in job w i = at ∙ is.ports i p below_it in
-    some_or_none (slice_get (rank_of job i).ops (count is_next (w.logs i))) ∙ sym (ap not (ends ∙ ap (λ (q : PortView). is_none (slice_get q.rank.ops (count is_next q.log))) here))
+    some_or_none (slice_get (rank_of job i).ops (count nexts_by (w.logs i))) ∙ sym (ap not (ends ∙ ap (λ (q : PortView). is_none (slice_get q.rank.ops (count nexts_by q.log))) here))

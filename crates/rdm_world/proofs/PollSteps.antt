@@ -1,15 +1,16 @@
 -- A port polls its next completion.
 use Rattle.std.proofs.Common.{◌≡◌, ℕ, ◌<◌, Bool, true, false, cond, length, get_or, set, Option, Some, None, refl, sym, ◌∙◌, subst}
 use Rattle.rdm_num.specs.declared.completion.Completion.{Completion}
+use Rattle.rdm_model.specs.Steps.{next_completion}
 use Rattle.rdm_model.specs.declared.job.Job.{Job}
 use Rattle.rdm_model.specs.declared.job.Choice.{Choice}
 use Rattle.rdm_model.specs.declared.entry.Act.TheVariants as Act
 use Rattle.rdm_model.specs.declared.answer.Polled.{Polled}
 use Rattle.rdm_model.specs.declared.answer.Polled.TheVariants as P
-use Rattle.rdm_model.specs.Owns.{port_count}
+use Rattle.rdm_model.specs.Beginnings.{port_count}
 use Rattle.rdm_model.specs.Scenes.{Scene}
 use Rattle.rdm_model.specs.Settled.{is_worn}
-use Rattle.rdm_model.specs.Worlds.{World, scene_in, with_entry, with_poll, next_completion, after_choice}
+use Rattle.rdm_model.specs.Worlds.{World, scene_in, with_entry, with_poll, after_choice}
 use Rattle.rdm_port.specs.Views.{PortView, scene_at}
 use Rattle.rdm_port.specs.Polls.{PolledAs, DoesPoll}
 use Rattle.rdm_world.specs.Views.{WorldView}

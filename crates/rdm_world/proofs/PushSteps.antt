@@ -11,7 +11,7 @@ use Rattle.rdm_model.specs.declared.entry.Entry.{Entry}
 use Rattle.rdm_model.specs.declared.entry.Act.{Act}
 use Rattle.rdm_model.specs.declared.answer.Push.{Push}
 use Rattle.rdm_model.specs.declared.answer.Push.TheVariants.{Pushed, Idle, Full, Worn, Memory}
-use Rattle.rdm_model.specs.Owns.{port_count}
+use Rattle.rdm_model.specs.Beginnings.{port_count}
 use Rattle.rdm_model.specs.Going.{Going, GoesNote, Goes, going}
 use Rattle.rdm_model.specs.Settled.{is_worn}
 use Rattle.rdm_model.specs.Worlds.{World, scene_in, put_at, with_entry, with_push, step_push, datagram_of, after_choice}

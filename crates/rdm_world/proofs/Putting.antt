@@ -5,7 +5,7 @@ use Rattle.std.proofs.lemmas.List.{length-set, get_or-set_same, get_or-set_other
 use Rattle.rdm_model.specs.declared.job.Job.{Job}
 use Rattle.rdm_model.specs.declared.entry.Entry.{Entry}
 use Rattle.rdm_model.specs.declared.entry.Act.{Act}
-use Rattle.rdm_model.specs.Owns.{rank_of, port_count, with_pools}
+use Rattle.rdm_model.specs.Beginnings.{rank_of, port_count, with_pools}
 use Rattle.rdm_model.specs.Worlds.{World, with_entry}
 use Rattle.rdm_wire.specs.declared.Datagram.{Datagram}
 use Rattle.rdm_wire.specs.Queues.{MemWireState}

@@ -4,15 +4,16 @@ use Rattle.std.specs.Prelude.{◌==◌}
 use Rattle.std.proofs.lemmas.Bool.{cases_eq, ne_eqb, and_from}
 use Rattle.rdm_num.specs.declared.completion.Completion.{Completion}
 use Rattle.rdm_wire.specs.declared.Datagram.{Datagram}
+use Rattle.rdm_model.specs.Steps.{next_completion}
 use Rattle.rdm_model.specs.declared.job.Job.{Job}
 use Rattle.rdm_model.specs.declared.job.Instr.{Instr}
 use Rattle.rdm_model.specs.declared.job.Choice.{Choice}
 use Rattle.rdm_model.specs.declared.entry.Act.{Act}
-use Rattle.rdm_model.specs.Owns.{port_count}
+use Rattle.rdm_model.specs.Beginnings.{port_count}
 use Rattle.rdm_model.specs.Jobs.{choice_rank}
 use Rattle.rdm_model.specs.Going.{Going, going}
 use Rattle.rdm_model.specs.Settled.{instruction_left}
-use Rattle.rdm_model.specs.Worlds.{World, scene_in, with_entry, step_next, with_push, step_push, after_fetch, with_handle, after_handle_at, after_pick, step_handle, with_poll, next_completion, after_choice, after_choices}
+use Rattle.rdm_model.specs.Worlds.{World, scene_in, with_entry, step_next, with_push, step_push, after_fetch, with_handle, after_handle_at, after_pick, step_handle, with_poll, after_choice, after_choices}
 use Rattle.rdm_law.proofs.Played.PlayedSteps.{Keeps}
 use Rattle.rdm_world.specs.Shows.{IsBuiltWorld, StaysBuilt, has_changed}
 

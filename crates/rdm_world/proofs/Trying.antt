@@ -6,7 +6,7 @@ use Rattle.rdm_wire.specs.declared.Datagram.{Datagram}
 use Rattle.rdm_model.specs.declared.job.Job.{Job}
 use Rattle.rdm_model.specs.declared.job.Choice.{Choice}
 use Rattle.rdm_model.specs.declared.entry.Act.{Act}
-use Rattle.rdm_model.specs.Owns.{port_count}
+use Rattle.rdm_model.specs.Beginnings.{port_count}
 use Rattle.rdm_model.specs.Jobs.{choice_rank}
 use Rattle.rdm_model.specs.Worlds.{World, put_at, with_entry, after_fetch, with_handle, after_handle_at, after_pick, step_handle, after_choice}
 use Rattle.rdm_model.specs.Played.{stop_if, is_last_try, try_then, after_first_handle, handle_any}

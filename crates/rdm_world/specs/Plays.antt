@@ -4,7 +4,7 @@ use Rattle.std.specs.List.{list_any}
 use Rattle.rdm_lists.specs.Lists.{below}
 use Rattle.rdm_model.specs.declared.job.Job.{Job}
 use Rattle.rdm_model.specs.declared.report.End.{End}
-use Rattle.rdm_model.specs.Owns.{port_count}
+use Rattle.rdm_model.specs.Beginnings.{port_count}
 use Rattle.rdm_model.specs.Settled.{instruction_left}
 use Rattle.rdm_model.specs.Worlds.{World}
 use Rattle.rdm_model.specs.Played.{end_at}

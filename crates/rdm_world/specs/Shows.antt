@@ -5,7 +5,7 @@ use Rattle.rdm_lists.specs.Lists.{Member}
 use Rattle.rdm_wire.specs.declared.Datagram.{Datagram}
 use Rattle.rdm_model.specs.declared.job.Job.{Job}
 use Rattle.rdm_model.specs.declared.job.Choice.{Choice}
-use Rattle.rdm_model.specs.Owns.{rank_of, port_count, with_pools}
+use Rattle.rdm_model.specs.Beginnings.{rank_of, port_count, with_pools}
 use Rattle.rdm_model.specs.Jobs.{choice_rank}
 use Rattle.rdm_model.specs.Worlds.{World, scene_in, after_choices}
 use Rattle.rdm_port.specs.Views.{PortView}

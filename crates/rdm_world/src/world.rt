@@ -1,6 +1,6 @@
 //! All ports of a job over one wire in memory.
 ghost use Rattle.std.specs.Prelude.{◌≡◌, ◌≢◌, ◌<◌, ◌≤◌, length, IfOk};
-ghost use Rattle.rdm_model.specs.Owns.{port_count};
+ghost use Rattle.rdm_model.specs.Beginnings.{port_count};
 ghost use Rattle.rdm_model.specs.Answers.{is_entry};
 ghost use Rattle.rdm_model.specs.Jobs.{choice_rank};
 ghost use Rattle.rdm_model.specs.Worlds.{new_world};

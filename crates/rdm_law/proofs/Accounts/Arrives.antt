@@ -5,7 +5,7 @@ use Rattle.rdm_wire.specs.declared.Datagram.{Datagram}
 use Rattle.rdm_model.specs.declared.job.Job.{Job}
 use Rattle.rdm_model.specs.declared.entry.Entry.{Entry}
 use Rattle.rdm_model.specs.Deeds.{Deed, Item}
-use Rattle.rdm_model.specs.Owns.{own_of}
+use Rattle.rdm_model.specs.Beginnings.{own_of}
 use Rattle.rdm_model.specs.Currents.{current}
 use Rattle.rdm_model.specs.Sources.{is_other}
 use Rattle.rdm_model.specs.Scenes.{Scene}

@@ -12,7 +12,7 @@ use Rattle.rdm_model.specs.declared.entry.Entry.{Entry}
 use Rattle.rdm_model.specs.declared.entry.Act.{Act}
 use Rattle.rdm_model.specs.declared.entry.Act.TheVariants.{Handle}
 use Rattle.rdm_model.specs.Deeds.{Deed, Took, Item, deed_of, log_of, open_life}
-use Rattle.rdm_model.specs.Owns.{Messages, own_of, rank_of}
+use Rattle.rdm_model.specs.Beginnings.{Messages, own_of, rank_of}
 use Rattle.rdm_model.specs.Matches.{pairs}
 use Rattle.rdm_model.specs.Parts.{carried_by, carried_pieces}
 use Rattle.rdm_model.specs.Scenes.{deeds_at}
@@ -38,7 +38,7 @@ CarriesAt job life' ns log d =
     → IsPartOf x (ns.bytes source n) × IsApart x (carried_pieces (own_of job life').limits.first ns.head log source n)
 
 -- what was handled by the life that is open
-taken_due : (job : Job) (before : List Entry) (e : Entry) (c : Connid) (source : Life) (item : Item) → Played job before → Comes before e e.act
+pub taken_due : (job : Job) (before : List Entry) (e : Entry) (c : Connid) (source : Life) (item : Item) → Played job before → Comes before e e.act
     → open_life (deeds_at job e.port.0 (log_of e.port.0 before)) ≡ Some c
     → Does job class_of (own_scene job e.port.0 (deeds_at job e.port.0 (log_of e.port.0 before))) (log_of e.port.0 before) e e.act
     → deed_of (rank_of job e.port.0).ops e.act ≡ Took source item → (d : Datagram) × TakenDue job before (life_of e.port.0 c) source item d

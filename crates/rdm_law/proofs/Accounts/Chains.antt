@@ -19,7 +19,7 @@ use Rattle.rdm_wire.specs.declared.ReadData.{ReadData}
 use Rattle.rdm_model.specs.declared.job.Job.{Job}
 use Rattle.rdm_model.specs.declared.entry.Entry.{Entry}
 use Rattle.rdm_model.specs.Deeds.{Deed, Took, Spelled, Asks, Gives}
-use Rattle.rdm_model.specs.Owns.{Own, Messages, own_of}
+use Rattle.rdm_model.specs.Beginnings.{Own, Messages, own_of}
 use Rattle.rdm_model.specs.Sends.{Sent}
 use Rattle.rdm_model.specs.Grants.{Grant, grants}
 use Rattle.rdm_model.specs.Replies.{Reply, asks_for}
@@ -52,7 +52,8 @@ owed_data own ms (d ∷ before) r recv offset connid bytes (inl (inl n)) is = (l
 owed_data own ms (d ∷ before) r recv offset connid bytes (inl (inr (inl n))) is = (let e = n.is in cc)
 owed_data own ms (d ∷ before) r recv offset connid bytes (inl (inr (inr (inl n)))) is = (let e = n.is in cc)
 owed_data own ms (d ∷ before) r recv offset connid bytes (inl (inr (inr (inr (inl n))))) is = (let e = n.is in cc)
-owed_data own ms (d ∷ before) r recv offset connid bytes (inl (inr (inr (inr (inr n))))) is = (let e = n.is in cc)
+owed_data own ms (d ∷ before) r recv offset connid bytes (inl (inr (inr (inr (inr (inl n)))))) is = (let e = n.is in cc)
+owed_data own ms (d ∷ before) r recv offset connid bytes (inl (inr (inr (inr (inr (inr n)))))) is = (let e = n.is in cc)
 
 -- granted bytes: a send of their life to the other one, and the grant that names the receive
 pub record DataWent (job : Job) (history : List Entry) (life' from : Life) (recv : OpId) (offset : ℕ) (connid : Connid) (bytes : List ℕ) (k : ℕ) : Type 0 where

@@ -19,7 +19,7 @@ use Rattle.rdm_wire.specs.declared.Datagram.{Datagram}
 use Rattle.rdm_model.specs.declared.job.Job.{Job}
 use Rattle.rdm_model.specs.declared.entry.Entry.{Entry}
 use Rattle.rdm_model.specs.Deeds.{Deed, Took, Spelled}
-use Rattle.rdm_model.specs.Owns.{Own, Messages, own_of}
+use Rattle.rdm_model.specs.Beginnings.{Own, Messages, own_of}
 use Rattle.rdm_model.specs.Heard.{head_by, heard_head}
 use Rattle.rdm_model.specs.Replies.{Reply}
 use Rattle.rdm_model.specs.Sends.{Sent, sends, sends_to}
@@ -94,7 +94,8 @@ owed_rtm own ms (d ∷ before) r number tag confirm opt form (inl (inl n)) is = 
 owed_rtm own ms (d ∷ before) r number tag confirm opt form (inl (inr (inl n))) is = (let e = n.is in cc)
 owed_rtm own ms (d ∷ before) r number tag confirm opt form (inl (inr (inr (inl n)))) is = (let e = n.is in cc)
 owed_rtm own ms (d ∷ before) r number tag confirm opt form (inl (inr (inr (inr (inl n))))) is = (let e = n.is in cc)
-owed_rtm own ms (d ∷ before) r number tag confirm opt form (inl (inr (inr (inr (inr n))))) is = (let e = n.is in cc)
+owed_rtm own ms (d ∷ before) r number tag confirm opt form (inl (inr (inr (inr (inr (inl n)))))) is = (let e = n.is in cc)
+owed_rtm own ms (d ∷ before) r number tag confirm opt form (inl (inr (inr (inr (inr (inr n)))))) is = (let e = n.is in cc)
 
 -- the message of that number to a life was sent
 pub record Known (job : Job) (history : List Entry) (life' source : Life) (n : ℕ) : Type 0 where
@@ -104,21 +105,19 @@ pub record Known (job : Job) (history : List Entry) (life' source : Life) (n : �
   pub number_is : sent.message.no.0 ≡ n
 
 -- each number to a life is of one send
+pub message_is_one : (own : Own) (ms : Messages) (log : List Deed) (a b : Sent) → Member a (sends own ms log) → Member b (sends own ms log) → a.to ≡ b.to
+    → a.message.no.0 ≡ b.message.no.0 → a ≡ b
+message_is_one own ms log a b m k to same =
+    let p = (placed own ms log a m).1 in
+    let q = (placed own ms log b k).1 in
+    let x = subst (λ (n : ℕ). slice_get (sends_to (sends own ms log) b.to) (n - own.limits.first) ≡ Some a) same
+    (subst (λ (l : Life). slice_get (sends_to (sends own ms log) l) (a.message.no.0 - own.limits.first) ≡ Some a) to p) in
+    cc
+
+-- so the message of that number is of one
 pub known_one : (job : Job) (history : List Entry) (life' source : Life) (n : ℕ) (a b : Known job history life' source n) → a.sent ≡ b.sent
 known_one job history life' source n a b =
-    let own = own_of job source in
-    let log = life_deeds job history source in
-    let ms = account job history source in
-    let p = (placed own ms log a.sent a.member).1 in
-    let q = (placed own ms log b.sent b.member).1 in
-    let at : (to : Life) (m : ℕ) (s : Sent) → s.to ≡ to → s.message.no.0 ≡ m
-    → slice_get (sends_to (sends own ms log) s.to) (s.message.no.0 - own.limits.first) ≡ Some s
-    → slice_get (sends_to (sends own ms log) to) (m - own.limits.first) ≡ Some s
-    = λ to m s h k is. subst (λ (x : ℕ). slice_get (sends_to (sends own ms log) to) (x - own.limits.first) ≡ Some s) k
-    (subst (λ (x : Life). slice_get (sends_to (sends own ms log) x) (s.message.no.0 - own.limits.first) ≡ Some s) h is) in
-    let x = at life' n a.sent a.to_is a.number_is p in
-    let y = at life' n b.sent b.to_is b.number_is q in
-    cc
+    message_is_one (own_of job source) (account job history source) (life_deeds job history source) a.sent b.sent a.member b.member (a.to_is ∙ sym b.to_is) (a.number_is ∙ sym b.number_is)
 
 -- a packet that opens a message and was pushed is of a send, and tells its head
 pub record Opened (job : Job) (history : List Entry) (life' source : Life) (number : MsgNo) (tag : Option ℕ) (confirm : Bool) (opt : Opt) (form : Form) (k : ℕ) : Type 0 where

@@ -20,13 +20,13 @@ use Rattle.rdm_wire.specs.declared.ReadData.{ReadData}
 use Rattle.rdm_model.specs.declared.job.Job.{Job}
 use Rattle.rdm_model.specs.declared.entry.Entry.{Entry}
 use Rattle.rdm_model.specs.Deeds.{Deed, Took, Spelled, Asks, Gives}
-use Rattle.rdm_model.specs.Owns.{Own, own_of}
+use Rattle.rdm_model.specs.Beginnings.{Own, own_of}
 use Rattle.rdm_model.specs.Heard.{heard_head}
 use Rattle.rdm_model.specs.Matches.{pairs}
 use Rattle.rdm_model.specs.Sends.{Sent}
 use Rattle.rdm_model.specs.Replies.{asks_for}
 use Rattle.rdm_model.specs.Dues.{Sends, is_read}
-use Rattle.rdm_model.specs.Named.{read_from, is_in_iov}
+use Rattle.rdm_model.specs.Targets.{read_from, is_in_iov}
 use Rattle.rdm_model.specs.Local.{heard_by}
 use Rattle.rdm_model.specs.Lawful.{life_deeds}
 use Rattle.rdm_model.proofs.Matches.{pair_heard}

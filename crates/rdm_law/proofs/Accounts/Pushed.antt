@@ -10,11 +10,11 @@ use Rattle.rdm_model.specs.declared.job.Job.{Job}
 use Rattle.rdm_model.specs.declared.entry.Entry.{Entry}
 use Rattle.rdm_model.specs.declared.entry.Act.TheVariants.{Push}
 use Rattle.rdm_model.specs.Deeds.{Deed, Pushed, Item, deed_by_push, deed_of, deeds, open_life, of_life}
-use Rattle.rdm_model.specs.Owns.{rank_of, port_count, own_of}
+use Rattle.rdm_model.specs.Beginnings.{rank_of, port_count, own_of}
 use Rattle.rdm_model.specs.Notes.{next_note}
 use Rattle.rdm_model.specs.Dues.{Due}
 use Rattle.rdm_model.specs.Scenes.{Scene, scene, deeds_at}
-use Rattle.rdm_model.specs.Going.{Goes, due_going, Bears, IsNext, going, GoesNote, Going, life_going, IsGoing}
+use Rattle.rdm_model.specs.Going.{Goes, due_going, Bears, GoesNext, going, GoesNote, Going, life_going, IsGoing}
 use Rattle.rdm_model.specs.Classes.{class_of}
 use Rattle.rdm_model.specs.Steps.{Does}
 use Rattle.rdm_model.specs.Local.{own_scene, Local}
@@ -104,7 +104,7 @@ open_going s d from to load (GoesNote note) b is h = let x = h.1 in cc
 open_going s d from to load (Goes dest item) b is h = open_goes s dest item is
 
 -- a push between lives is by a life that is open
-pub open_push : (s : Scene) (d : Datagram) (from to : Connid) (load : Load) → d.body ≡ Between from to load → IsNext s d → (c : Connid) × (s.now ≡ Some c)
+pub open_push : (s : Scene) (d : Datagram) (from to : Connid) (load : Load) → d.body ≡ Between from to load → GoesNext s d → (c : Connid) × (s.now ≡ Some c)
 open_push s d from to load b n = open_going s d from to load n.0 b n.1 n.2
 
 -- the life that is open in a scene is open in its log
@@ -119,7 +119,7 @@ same_life_parts l p c h k = rw (h, k) refl
 -- a push of an open life is its due item, at the count of its deeds
 pushed_by : (job : Job) (port : ℕ) (c from to : Connid) (load : Load) (d : Datagram) (e : Entry) (before : List Entry) → e.port.0 ≡ port → e.act ≡ Push d
     → d.body ≡ Between from to load → open_life (deeds_at job port before) ≡ Some c
-    → IsNext (life_scene (port_count job) (own_of job (life_of port c)) (deeds_at job port before) (of_life c (deeds_at job port before))) d
+    → GoesNext (life_scene (port_count job) (own_of job (life_of port c)) (deeds_at job port before) (of_life c (deeds_at job port before))) d
     → PushedDue job port from (record { port = d.dst; connid = to }) load d (e ∷ before)
 unfolding deed_of deed_by_push own_of
 pushed_by job port c from to load d e before p a b now n =
@@ -151,7 +151,7 @@ pushed_due job port from to load d (e ∷ before) l (inl is) b =
     let does : Does job class_of (own_scene job port port_log) before e (Push d) = subst (λ x. Does job class_of (own_scene job port port_log) before e x) is l.2.2 in
     let open' = open_push (own_scene job port port_log) d from to load b does.3 in
     let now = own_now job port port_log open'.0 open'.1 in
-    let next = subst (λ x. IsNext x d) (opened_scene job port open'.0 port_log now) does.3 in
+    let next = subst (λ x. GoesNext x d) (opened_scene job port open'.0 port_log now) does.3 in
     (ap (λ (x : PortNo). x.0) does.0 ∙ l.1, pushed_by job port open'.0 from to load d e before l.1 is b now next)
 pushed_due job port from to load d (e ∷ before) l (inr h) b =
     let r = pushed_due job port from to load d before l.0 h b in

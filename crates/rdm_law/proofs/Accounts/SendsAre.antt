@@ -7,7 +7,7 @@ use Rattle.rdm_num.specs.declared.numbers.Life.{Life}
 use Rattle.rdm_model.specs.declared.job.Job.{Job}
 use Rattle.rdm_model.specs.declared.entry.Entry.{Entry}
 use Rattle.rdm_model.specs.Deeds.{Deed, Nothing, deed_of, deeds, log_of, open_life, is_connid, of_life}
-use Rattle.rdm_model.specs.Owns.{Own, Messages, own_of, rank_of}
+use Rattle.rdm_model.specs.Beginnings.{Own, Messages, own_of, rank_of}
 use Rattle.rdm_model.specs.Scenes.{deeds_at}
 use Rattle.rdm_model.specs.Sends.{Sent, sends, sent_by, with_sent}
 use Rattle.rdm_model.specs.Local.{heard_by}

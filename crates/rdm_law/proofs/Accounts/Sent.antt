@@ -11,7 +11,7 @@ use Rattle.rdm_match.specs.Matcher.{Pair}
 use Rattle.rdm_model.specs.declared.job.Job.{Job}
 use Rattle.rdm_model.specs.declared.entry.Entry.{Entry}
 use Rattle.rdm_model.specs.Deeds.{Deed, Item}
-use Rattle.rdm_model.specs.Owns.{Heads, own_of}
+use Rattle.rdm_model.specs.Beginnings.{Heads, own_of}
 use Rattle.rdm_model.specs.Parts.{piece_by, carried_pieces}
 use Rattle.rdm_model.specs.Receives.{is_filled}
 use Rattle.rdm_model.specs.Sends.{Sent, sends_to}

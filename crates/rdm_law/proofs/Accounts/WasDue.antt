@@ -12,7 +12,7 @@ use Rattle.rdm_pkt.specs.declared.Form.{Form}
 use Rattle.rdm_pkt.specs.Heads.{head_of}
 use Rattle.rdm_pkt.specs.Openings.{openings, message_head}
 use Rattle.rdm_model.specs.Deeds.{Deed}
-use Rattle.rdm_model.specs.Owns.{Own, Messages}
+use Rattle.rdm_model.specs.Beginnings.{Own, Messages}
 use Rattle.rdm_model.specs.Sends.{Sent, sends}
 use Rattle.rdm_model.specs.Dues.{Due, Sends, packet_piece}
 use Rattle.rdm_model.specs.Local.{heard_by}

@@ -6,7 +6,7 @@ use Rattle.rdm_wire.specs.declared.Datagram.{Datagram}
 use Rattle.rdm_model.specs.declared.job.Job.{Job}
 use Rattle.rdm_model.specs.declared.entry.Entry.{Entry}
 use Rattle.rdm_model.specs.Deeds.{Deed, Item, Spelled}
-use Rattle.rdm_model.specs.Owns.{Own, own_of}
+use Rattle.rdm_model.specs.Beginnings.{Own, own_of}
 use Rattle.rdm_model.specs.Replies.{Reply}
 use Rattle.rdm_model.specs.Sends.{Sent}
 use Rattle.rdm_model.specs.Dues.{Due, Replies, Sends}

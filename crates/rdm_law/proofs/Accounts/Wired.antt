@@ -24,7 +24,7 @@ use Rattle.rdm_model.specs.declared.entry.Entry.{Entry}
 use Rattle.rdm_model.specs.declared.entry.Act.{Act}
 use Rattle.rdm_model.specs.declared.entry.Act.TheVariants.{Next, Push, Handle, Poll}
 use Rattle.rdm_model.specs.Deeds.{Took, Item, Spelled, Asks, Gives, Garbled, item_of, packet_item, deed_by_next, deed_by_push, deed_by_handle, deed_of, deeds, log_of, open_life, is_connid, of_life}
-use Rattle.rdm_model.specs.Owns.{rank_of, port_count, own_of}
+use Rattle.rdm_model.specs.Beginnings.{rank_of, port_count, own_of}
 use Rattle.rdm_model.specs.Jobs.{is_fair, law_ops}
 use Rattle.rdm_model.specs.Dues.{Due}
 use Rattle.rdm_model.specs.Scenes.{Scene, deeds_at}

@@ -10,7 +10,7 @@ use Rattle.rdm_wire.specs.declared.ReadAsk.{ReadAsk}
 use Rattle.rdm_model.specs.declared.job.Job.{Job}
 use Rattle.rdm_model.specs.declared.entry.Entry.{Entry}
 use Rattle.rdm_model.specs.Deeds.{Deed, Did, PushedNote, Pushed, TookNote, Took, Polled, Nothing, Spelled, Asks, Gives, Garbled, deed_count}
-use Rattle.rdm_model.specs.Owns.{Own, Messages, own_of}
+use Rattle.rdm_model.specs.Beginnings.{Own, Messages, own_of}
 use Rattle.rdm_model.specs.Reads.{asked_by, asks_of}
 use Rattle.rdm_model.specs.Sends.{Sent, sent_by, with_sent, sends}
 use Rattle.rdm_model.specs.Local.{heard_by}
@@ -26,7 +26,7 @@ use Rattle.rdm_law.proofs.Classes.ClassEnds.{asks_all_apart, ask_in}
 use Rattle.rdm_law.proofs.Replies.ReplyDues.{asks_apart}
 use Rattle.rdm_law.proofs.Classes.Cover.{AllApart}
 use Rattle.rdm_law.proofs.Bound.Pigeons.{AreDistinct, distinct_fit}
-use Rattle.rdm_law.proofs.Bound.Totals.{is_ask}
+use Rattle.rdm_law.proofs.Bound.Totals.{asks_taken_by}
 use Rattle.rdm_law.proofs.Bound.PushCounts.{total_more}
 use Rattle.rdm_law.proofs.Settled.OwedBack.{given_owed, agree_trans}
 use Rattle.rdm_law.proofs.Settled.ReadLands.{agree_refl}
@@ -84,8 +84,8 @@ unfolding asks_of
 asks_step d before to n = length-append (asks_of before to n) (asked_by to n d)
 
 -- a deed takes an ask or none
-ask_or : (d : Deed) → (is_ask d ≡ 0) ⊎ ((from : Life) × (a : ReadAsk) × (d ≡ Took from (Asks a)))
-unfolding is_ask
+ask_or : (d : Deed) → (asks_taken_by d ≡ 0) ⊎ ((from : Life) × (a : ReadAsk) × (d ≡ Took from (Asks a)))
+unfolding asks_taken_by
 ask_or (Took from (Asks ask)) = inr (from, ask, refl)
 ask_or (Took from (Spelled p)) = inl refl
 ask_or (Took from (Gives g)) = inl refl
@@ -98,9 +98,9 @@ ask_or Polled = inl refl
 ask_or Nothing = inl refl
 
 -- an ask counts once
-ask_one : (d : Deed) (from : Life) (a : ReadAsk) → d ≡ Took from (Asks a) → is_ask d ≡ 1
-unfolding is_ask
-ask_one d from a e = ap is_ask e
+ask_one : (d : Deed) (from : Life) (a : ReadAsk) → d ≡ Took from (Asks a) → asks_taken_by d ≡ 1
+unfolding asks_taken_by
+ask_one d from a e = ap asks_taken_by e
 
 -- how many asks these sends had
 abbrev ask_total : List Deed → List Sent → ℕ
@@ -113,7 +113,7 @@ total_wider own ms d before f = let e = total-append f (sends own ms before) (se
 
 -- each ask that was taken is of a send
 asks_by : (own : Own) (ms : Messages) (log : List Deed) → LifeLocal own log → Agree own.limits.first (heard_by own.limits.first log) ms log
-    → deed_count is_ask log ≤ ask_total log (sends own ms log)
+    → deed_count asks_taken_by log ≤ ask_total log (sends own ms log)
 unfolding deed_count
 asks_by own ms [] local g = omega arith
 asks_by own ms (d ∷ before) local g =
@@ -139,7 +139,7 @@ asks_by own ms (d ∷ before) local g =
 
 -- a life takes no more asks than its messages have bytes
 pub asks_counted : (job : Job) (history : List Entry) (l : Life) → Played job history
-    → deed_count is_ask (life_deeds job history l) ≤ total (λ (s : Sent). length s.message.bytes) (sends_of job history l)
+    → deed_count asks_taken_by (life_deeds job history l) ≤ total (λ (s : Sent). length s.message.bytes) (sends_of job history l)
 asks_counted job history l played =
     let own = own_of job l in
     let log = life_deeds job history l in

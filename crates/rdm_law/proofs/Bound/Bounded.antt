@@ -5,7 +5,7 @@ use Rattle.rdm_model.specs.Grants.{data_room}
 use Rattle.rdm_model.specs.declared.job.Job.{Job}
 use Rattle.rdm_model.specs.declared.entry.Entry.{Entry}
 use Rattle.rdm_model.specs.Deeds.{Deed, deed_count}
-use Rattle.rdm_model.specs.Owns.{own_of, rank_of}
+use Rattle.rdm_model.specs.Beginnings.{own_of, rank_of}
 use Rattle.rdm_model.specs.Jobs.{bound, sum_of_ops, sent_length, open_count}
 use Rattle.rdm_model.specs.Sends.{Sent}
 use Rattle.rdm_model.proofs.Pushes.{pushed_of}
@@ -17,7 +17,7 @@ use Rattle.rdm_law.proofs.Classes.ClassData.{fair_room}
 use Rattle.rdm_law.proofs.Accounts.Wired.{Played, own_life}
 use Rattle.rdm_law.proofs.Accounts.Known.{account, sends_of}
 use Rattle.rdm_law.proofs.Accounts.Named.{pairs_of}
-use Rattle.rdm_law.proofs.Bound.Totals.{is_push'}
+use Rattle.rdm_law.proofs.Bound.Totals.{pushes_of}
 use Rattle.rdm_law.proofs.Bound.EntryCounts.{entry_weight, ops_weight, handled_le}
 use Rattle.rdm_law.proofs.Bound.LifeCounts.{deed_weight, deed_le, deed_at, lives_of, lives_distinct, lives_count, lives_weight}
 use Rattle.rdm_law.proofs.Bound.Covers.{covered_weight, are_covered, push_life}
@@ -42,8 +42,8 @@ count_total f [] = refl
 count_total f (d ∷ before) = let r = count_total f before in omega arith
 
 -- a life pushes what it owes and what it sends
-life_pushes : (job : Job) (history : List Entry) (l : Life) → Played job history → length (seen_lives (life_deeds job history l)) ≤ length (lives_of job history)
-    → total is_push' (life_deeds job history l)
+life_pushes : (job : Job) (history : List Entry) (l : Life) → Played job history → length (seen_lives (own_of job l) (life_deeds job history l)) ≤ length (lives_of job history)
+    → total pushes_of (life_deeds job history l)
     ≤ (length (lives_of job history) + total (pair_load job history l) (pairs_of job history l)) + (total sent_bytes (sends_of job history l) + total send_load (sends_of job history l))
 unfolding own_of data_room
 life_pushes job history l played seen =
@@ -54,7 +54,7 @@ life_pushes job history l played seen =
     let b = total_le (λ (s : Sent). length (pushed_of own (account job history l) log s.number)) send_load (sends_of job history l) (λ s m. packets_counted own log s local (fair_room job played.fair) m) in
     let c = owed_counted job history l played in
     let d = asks_counted job history l played in
-    let e = count_total is_push' log in
+    let e = count_total pushes_of log in
     omega arith
 
 -- the bytes that lives send are no more than the job asks for
@@ -94,18 +94,18 @@ life_loads job history played =
 
 -- the lives took from no more lives than there are
 abbrev SeenFew : Job → List Entry → Type 0
-SeenFew job history = (l : Life) → length (seen_lives (life_deeds job history l)) ≤ length (lives_of job history)
+SeenFew job history = (l : Life) → length (seen_lives (own_of job l) (life_deeds job history l)) ≤ length (lives_of job history)
 
 -- what all lives push, twice as each push may be handled
 all_pushes : (job : Job) (history : List Entry) → Played job history → SeenFew job history
-    → 2 * total (λ e. is_push' (deed_at job e)) history ≤ 2 * sum_of_ops open_count job * sum_of_ops open_count job + 4 * sum_of_ops one job + 6 * sum_of_ops sent_length job
+    → 2 * total (λ e. pushes_of (deed_at job e)) history ≤ 2 * sum_of_ops open_count job * sum_of_ops open_count job + 4 * sum_of_ops one job + 6 * sum_of_ops sent_length job
 all_pushes job history played seen =
     let ls = lives_of job history in
     let f : Life → ℕ = λ l. total (pair_load job history l) (pairs_of job history l) in
     let g : Life → ℕ = λ l. total sent_bytes (sends_of job history l) in
     let h : Life → ℕ = λ l. total send_load (sends_of job history l) in
-    let a = covered_weight job is_push' ls history (are_covered job is_push' ls history (λ before e does. push_life job before e e.act does) (λ l m. m) played) in
-    let b = total_le (λ l. total is_push' (life_deeds job history l)) (λ l. (length ls + f l) + (g l + h l)) ls (λ l m. life_pushes job history l played (seen l)) in
+    let a = covered_weight job pushes_of ls history (are_covered job pushes_of ls history (λ before e does. push_life job before e e.act does) (λ l m. m) played) in
+    let b = total_le (λ l. total pushes_of (life_deeds job history l)) (λ l. (length ls + f l) + (g l + h l)) ls (λ l m. life_pushes job history l played (seen l)) in
     let c = total_plus (λ l. length ls + f l) (λ l. g l + h l) ls in
     let d = total_plus (λ l. length ls) f ls in
     let e = total_plus g h ls in

@@ -21,10 +21,10 @@ use Rattle.rdm_model.specs.declared.entry.Entry.{Entry}
 use Rattle.rdm_model.specs.declared.entry.Act.{Act}
 use Rattle.rdm_model.specs.declared.entry.Act.TheVariants.{Next, Push, Handle, Poll}
 use Rattle.rdm_model.specs.Deeds.{Deed, deed_by_next, deed_by_push, deed_by_handle, deed_of, log_of, open_life, is_connid, of_open_life}
-use Rattle.rdm_model.specs.Owns.{rank_of}
-use Rattle.rdm_model.specs.Completions.{completions, is_poll, poll_count}
+use Rattle.rdm_model.specs.Beginnings.{rank_of}
+use Rattle.rdm_model.specs.Completions.{completions, polls_by, poll_count}
 use Rattle.rdm_model.specs.Scenes.{Scene, scene}
-use Rattle.rdm_model.specs.Going.{IsNext}
+use Rattle.rdm_model.specs.Going.{GoesNext}
 use Rattle.rdm_model.specs.Classes.{class_of}
 use Rattle.rdm_model.specs.Steps.{Does}
 use Rattle.rdm_model.specs.Local.{own_scene}
@@ -34,7 +34,7 @@ use Rattle.rdm_law.proofs.Accounts.Pushed.{open_push}
 use Rattle.rdm_law.proofs.Accounts.Wired.{Played, played_before}
 use Rattle.rdm_law.proofs.Central.Lawfully.{own_entry}
 use Rattle.rdm_law.proofs.Lives.Opened.{open_opened}
-use Rattle.rdm_law.proofs.Bound.Totals.{is_push'}
+use Rattle.rdm_law.proofs.Bound.Totals.{pushes_of}
 use Rattle.rdm_law.proofs.Bound.Pigeons.{total_grows}
 use Rattle.rdm_law.proofs.Bound.LifeCounts.{deed_at, lives_of, lives_member, is_mine, life_cases, with_keeps}
 use Rattle.rdm_lists.proofs.Sums.{total, total_le}
@@ -111,50 +111,50 @@ unfolding own_scene scene
 scene_now job port log = refl
 
 -- an instruction is no push
-next_none : (o : Option Instr) (answer : Answer) → is_push' (deed_by_next o answer) ≡ 0
-unfolding is_push' deed_by_next
+next_none : (o : Option Instr) (answer : Answer) → pushes_of (deed_by_next o answer) ≡ 0
+unfolding pushes_of deed_by_next
 next_none (Some i) (DidAnswer what) = refl
 next_none o answer = refl
 
 -- nor is a handling
-handle_none : (src : PortNo) (body : Body) (answer : Handled) → is_push' (deed_by_handle src body answer) ≡ 0
-unfolding is_push' deed_by_handle
+handle_none : (src : PortNo) (body : Body) (answer : Handled) → pushes_of (deed_by_handle src body answer) ≡ 0
+unfolding pushes_of deed_by_handle
 handle_none src (Note n) (TookAnswer entered) = refl
 handle_none src (Between f to load) (TookAnswer entered) = refl
 handle_none src _ _ = refl
 
 -- a push between lives needs an open one
-push_needs : (job : Job) (port : ℕ) (log : List Deed) (d : Datagram) (body : Body) → d.body ≡ body → IsNext (own_scene job port log) d
-    → (is_push' (deed_by_push body) ≡ 0) ⊎ ((c : Connid) × (open_life log ≡ Some c))
-unfolding is_push' deed_by_push
+push_needs : (job : Job) (port : ℕ) (log : List Deed) (d : Datagram) (body : Body) → d.body ≡ body → GoesNext (own_scene job port log) d
+    → (pushes_of (deed_by_push body) ≡ 0) ⊎ ((c : Connid) × (open_life log ≡ Some c))
+unfolding pushes_of deed_by_push
 push_needs job port log d (Note n) b h = inl refl
 push_needs job port log d (Between f to load) b h =
     let o = open_push (own_scene job port log) d f to load b h in inr (o.0, sym (scene_now job port log) ∙ o.1)
 
 -- a push between lives is by a life that is open
 pub push_life : (job : Job) (before : List Entry) (e : Entry) (act : Act) → Does job class_of (own_scene job e.port.0 (port_deeds job e.port.0 before)) (log_of e.port.0 before) e act
-    → NeedsLife is_push' (rank_of job e.port.0).ops act (open_life (port_deeds job e.port.0 before))
-unfolding deed_of is_push'
+    → NeedsLife pushes_of (rank_of job e.port.0).ops act (open_life (port_deeds job e.port.0 before))
+unfolding deed_of pushes_of
 push_life job before e (Next index op answer) does = inl (next_none (slice_get (rank_of job e.port.0).ops index) answer)
 push_life job before e (Push d) does = push_needs job e.port.0 (port_deeds job e.port.0 before) d d.body refl does.3
 push_life job before e (Handle d answer) does = inl (handle_none d.src d.body answer)
 push_life job before e (Poll c) does = inl refl
 
 -- an instruction is no poll
-next_poll : (o : Option Instr) (answer : Answer) → is_poll (deed_by_next o answer) ≡ 0
-unfolding is_poll deed_by_next
+next_poll : (o : Option Instr) (answer : Answer) → polls_by (deed_by_next o answer) ≡ 0
+unfolding polls_by deed_by_next
 next_poll (Some i) (DidAnswer what) = refl
 next_poll o answer = refl
 
 -- nor is a push
-push_poll : (body : Body) → is_poll (deed_by_push body) ≡ 0
-unfolding is_poll deed_by_push
+push_poll : (body : Body) → polls_by (deed_by_push body) ≡ 0
+unfolding polls_by deed_by_push
 push_poll (Note n) = refl
 push_poll (Between f to load) = refl
 
 -- nor is a handling
-handle_poll : (src : PortNo) (body : Body) (answer : Handled) → is_poll (deed_by_handle src body answer) ≡ 0
-unfolding is_poll deed_by_handle
+handle_poll : (src : PortNo) (body : Body) (answer : Handled) → polls_by (deed_by_handle src body answer) ≡ 0
+unfolding polls_by deed_by_handle
 handle_poll src (Note n) (TookAnswer entered) = refl
 handle_poll src (Between f to load) (TookAnswer entered) = refl
 handle_poll src _ _ = refl
@@ -188,8 +188,8 @@ poll_needs job port log c None is h = none_polled job port log c is h
 
 -- a poll is by a life that is open
 pub poll_life : (job : Job) (before : List Entry) (e : Entry) (act : Act) → Does job class_of (own_scene job e.port.0 (port_deeds job e.port.0 before)) (log_of e.port.0 before) e act
-    → NeedsLife is_poll (rank_of job e.port.0).ops act (open_life (port_deeds job e.port.0 before))
-unfolding deed_of is_poll
+    → NeedsLife polls_by (rank_of job e.port.0).ops act (open_life (port_deeds job e.port.0 before))
+unfolding deed_of polls_by
 poll_life job before e (Next index op answer) does = inl (next_poll (slice_get (rank_of job e.port.0).ops index) answer)
 poll_life job before e (Push d) does = inl (push_poll d.body)
 poll_life job before e (Handle d answer) does = inl (handle_poll d.src d.body answer)

@@ -11,9 +11,9 @@ use Rattle.rdm_model.specs.declared.entry.Entry.{Entry}
 use Rattle.rdm_model.specs.declared.entry.Act.{Act}
 use Rattle.rdm_model.specs.declared.entry.Act.TheVariants.{Next, Push, Handle, Poll}
 use Rattle.rdm_model.specs.Deeds.{log_of}
-use Rattle.rdm_model.specs.Owns.{rank_of, no_rank}
+use Rattle.rdm_model.specs.Beginnings.{rank_of, no_rank}
 use Rattle.rdm_model.specs.Jobs.{sum_of_ops}
-use Rattle.rdm_model.specs.Steps.{count, is_next, is_push, Does}
+use Rattle.rdm_model.specs.Steps.{count, nexts_by, pushes_by, Does, handles_by}
 use Rattle.rdm_model.specs.Scenes.{Scene, deeds_at}
 use Rattle.rdm_model.specs.Classes.{class_of}
 use Rattle.rdm_model.specs.Local.{own_scene, Local}
@@ -38,9 +38,9 @@ abbrev pub entry_weight : Job → (Instr → ℕ) → Entry → ℕ
 entry_weight job w e = op_weight (rank_of job e.port.0).ops w e.act
 
 -- an act weighs what its instruction adds to those before it
-act_step : (job : Job) (s : Scene) (w : Instr → ℕ) (before : List Entry) (e : Entry) (act : Act) (n : ℕ) → n ≡ count is_next before → Does job class_of s before e act
-    → op_weight (rank_of job e.port.0).ops w act + total w (take n (rank_of job e.port.0).ops) ≡ total w (take (n + is_next act) (rank_of job e.port.0).ops)
-unfolding op_weight weight_of is_next
+act_step : (job : Job) (s : Scene) (w : Instr → ℕ) (before : List Entry) (e : Entry) (act : Act) (n : ℕ) → n ≡ count nexts_by before → Does job class_of s before e act
+    → op_weight (rank_of job e.port.0).ops w act + total w (take n (rank_of job e.port.0).ops) ≡ total w (take (n + nexts_by act) (rank_of job e.port.0).ops)
+unfolding op_weight weight_of nexts_by
 act_step job s w before e (Next index op answer) n is does =
     let ops = (rank_of job e.port.0).ops in
     let at : slice_get ops n ≡ Some does.1.0 = subst (λ k. slice_get ops k ≡ Some does.1.0) (does.0 ∙ sym is) does.1.1 in
@@ -55,16 +55,16 @@ act_step job s w before e (Poll c) n is does = let k : n + 0 ≡ n = omega arith
 
 -- the weight of a port's entries is that of the instructions that it came past
 log_weight : (job : Job) (port : ℕ) (w : Instr → ℕ) (log : List Entry) → Local job port log
-    → total (entry_weight job w) log ≡ total w (take (count is_next log) (rank_of job port).ops)
+    → total (entry_weight job w) log ≡ total w (take (count nexts_by log) (rank_of job port).ops)
 unfolding total count
 log_weight job port w [] l = refl
 log_weight job port w (e ∷ before) l =
     let r = log_weight job port w before l.0 in
-    let a = act_step job (own_scene job port (deeds_at job port before)) w before e e.act (count is_next before) refl l.2.2 in
+    let a = act_step job (own_scene job port (deeds_at job port before)) w before e e.act (count nexts_by before) refl l.2.2 in
     let p = l.1 in
-    let t : total w (take (count is_next before) (rank_of job e.port.0).ops) ≡ total w (take (count is_next before) (rank_of job port).ops) = ap (λ x. total w (take (count is_next before) (rank_of job x).ops)) p in
-    let u : total w (take (count is_next before + is_next e.act) (rank_of job e.port.0).ops) ≡ total w (take (count is_next before + is_next e.act) (rank_of job port).ops) =
-    ap (λ x. total w (take (count is_next before + is_next e.act) (rank_of job x).ops)) p in
+    let t : total w (take (count nexts_by before) (rank_of job e.port.0).ops) ≡ total w (take (count nexts_by before) (rank_of job port).ops) = ap (λ x. total w (take (count nexts_by before) (rank_of job x).ops)) p in
+    let u : total w (take (count nexts_by before + nexts_by e.act) (rank_of job e.port.0).ops) ≡ total w (take (count nexts_by before + nexts_by e.act) (rank_of job port).ops) =
+    ap (λ x. total w (take (count nexts_by before + nexts_by e.act) (rank_of job x).ops)) p in
     omega arith
 
 -- past all ports of a history
@@ -91,7 +91,7 @@ ops_weight job history w played =
     let g : Rank → ℕ = λ r. total w r.ops in
     let a = by_ports (entry_weight job w) history n (omega arith) in
     let b = total_to_le (λ p. total (entry_weight job w) (log_of p history)) (λ p. g (get_or job.ranks p no_rank)) n
-    (λ p. let l = log_weight job p w (log_of p history) (played.locals p) in let f = total_front w (rank_of job p).ops (count is_next (log_of p history)) in omega arith) in
+    (λ p. let l = log_weight job p w (log_of p history) (played.locals p) in let f = total_front w (rank_of job p).ops (count nexts_by (log_of p history)) in omega arith) in
     let c = total_places g job.ranks no_rank n refl in
     let d = total_front g job.ranks n in
     let s = sum_total (λ (r : Rank). sum_by w r.ops) job.ranks in
@@ -113,23 +113,18 @@ pushed_any d port (e ∷ before) h =
       | inr o ↦ inr (pushed_any d port before (subst (λ log. PushedIn d log) (log_of-other port e before o) h))
     ]
 
--- 1 for a handling
-unfoldable pub is_handle : Act → ℕ
-is_handle (Handle d answer) = 1
-is_handle _ = 0
-
 -- what was pushed and not handled, counted
 record Waits (history : List Entry) : Type 0 where
   waiting : List Datagram
-  counted : length waiting + total (λ (e : Entry). is_handle e.act) history ≡ total (λ (e : Entry). is_push e.act) history
+  counted : length waiting + total (λ (e : Entry). handles_by e.act) history ≡ total (λ (e : Entry). pushes_by e.act) history
   all : (d : Datagram) → WasPushed d history → IsUnhandled d history → Member d waiting
 
 -- what waits after one more entry
 waits_by : (e : Entry) (before : List Entry) (act : Act) → e.act ≡ act → Wire before → Comes before e act → Waits before → Waits (e ∷ before)
-unfolding total is_handle is_push
+unfolding total handles_by pushes_by
 waits_by e before (Push d) is w c was =
-    let h : is_handle e.act ≡ 0 = ap is_handle is in
-    let p : is_push e.act ≡ 1 = ap is_push is in
+    let h : handles_by e.act ≡ 0 = ap handles_by is in
+    let p : pushes_by e.act ≡ 1 = ap pushes_by is in
     let k = was.counted in
     record {
       waiting = d ∷ was.waiting;
@@ -137,8 +132,8 @@ waits_by e before (Push d) is w c was =
       all = λ q m u. elim m [ inl a ↦ (let e' : Push d ≡ Push q = sym is ∙ a in let s : d ≡ q = cc in inl s) | inr a ↦ inr (was.all q a u.0) ];
     }
 waits_by e before (Handle d answer) is w c was =
-    let h : is_handle e.act ≡ 1 = ap is_handle is in
-    let p : is_push e.act ≡ 0 = ap is_push is in
+    let h : handles_by e.act ≡ 1 = ap handles_by is in
+    let p : pushes_by e.act ≡ 0 = ap pushes_by is in
     let k = was.counted in
     let o = take_out (λ y. 0) d was.waiting (was.all d (pushed_any d d.src.0 before c.1) c.2) in
     let l = o.len in
@@ -153,13 +148,13 @@ waits_by e before (Handle d answer) is w c was =
           ];
     }
 waits_by e before (Next index op answer) is w c was =
-    let h : is_handle e.act ≡ 0 = ap is_handle is in
-    let p : is_push e.act ≡ 0 = ap is_push is in
+    let h : handles_by e.act ≡ 0 = ap handles_by is in
+    let p : pushes_by e.act ≡ 0 = ap pushes_by is in
     let k = was.counted in
     record { waiting = was.waiting; counted = omega arith; all = λ q m u. elim m [ inl a ↦ (let e' : Next index op answer ≡ Push q = sym is ∙ a in cc) | inr a ↦ was.all q a u.0 ] }
 waits_by e before (Poll x) is w c was =
-    let h : is_handle e.act ≡ 0 = ap is_handle is in
-    let p : is_push e.act ≡ 0 = ap is_push is in
+    let h : handles_by e.act ≡ 0 = ap handles_by is in
+    let p : pushes_by e.act ≡ 0 = ap pushes_by is in
     let k = was.counted in
     record { waiting = was.waiting; counted = omega arith; all = λ q m u. elim m [ inl a ↦ (let e' : Poll x ≡ Push q = sym is ∙ a in cc) | inr a ↦ was.all q a u.0 ] }
 
@@ -170,5 +165,5 @@ waits [] w = record { waiting = []; counted = refl; all = λ d m u. elim m [ ] }
 waits (e ∷ before) w = waits_by e before e.act refl w.0 w.1 (waits before w.0)
 
 -- no more is handled than was pushed
-pub handled_le : (history : List Entry) → Wire history → total (λ (e : Entry). is_handle e.act) history ≤ total (λ (e : Entry). is_push e.act) history
+pub handled_le : (history : List Entry) → Wire history → total (λ (e : Entry). handles_by e.act) history ≤ total (λ (e : Entry). pushes_by e.act) history
 handled_le history w = let k = (waits history w).counted in omega arith

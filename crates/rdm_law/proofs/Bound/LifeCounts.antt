@@ -21,7 +21,7 @@ use Rattle.rdm_model.specs.declared.entry.Entry.{Entry}
 use Rattle.rdm_model.specs.declared.entry.Act.{Act}
 use Rattle.rdm_model.specs.declared.entry.Act.TheVariants.{Next, Push, Handle, Poll}
 use Rattle.rdm_model.specs.Deeds.{Deed, Did, deed_by_next, deed_by_push, deed_by_handle, deed_of, deeds, log_of, open_life, is_connid, of_life}
-use Rattle.rdm_model.specs.Owns.{rank_of}
+use Rattle.rdm_model.specs.Beginnings.{rank_of}
 use Rattle.rdm_model.specs.Jobs.{open_count}
 use Rattle.rdm_model.specs.Scenes.{deeds_at}
 use Rattle.rdm_model.specs.Lawful.{port_deeds, life_deeds}

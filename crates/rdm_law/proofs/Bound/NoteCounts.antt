@@ -21,11 +21,11 @@ use Rattle.rdm_model.specs.declared.entry.Entry.{Entry}
 use Rattle.rdm_model.specs.declared.entry.Act.{Act}
 use Rattle.rdm_model.specs.declared.entry.Act.TheVariants.{Next, Push, Handle, Poll}
 use Rattle.rdm_model.specs.Deeds.{Deed, Did, PushedNote, Pushed, TookNote, Took, Polled, Nothing, deed_by_next, deed_by_push, deed_by_handle, deed_of, deeds, deed_count, log_of}
-use Rattle.rdm_model.specs.Owns.{Own, rank_of, port_count}
-use Rattle.rdm_model.specs.Notes.{OwedNote, note_to, notes_by, notes, is_note_push, next_note}
-use Rattle.rdm_model.specs.Completions.{completions, completions_by, is_poll, poll_count}
+use Rattle.rdm_model.specs.Beginnings.{Own, rank_of, port_count}
+use Rattle.rdm_model.specs.Notes.{OwedNote, note_to, notes_by, notes, note_pushes_by, next_note}
+use Rattle.rdm_model.specs.Completions.{completions, completions_by, polls_by, poll_count}
 use Rattle.rdm_model.specs.Scenes.{Scene, scene, deeds_at}
-use Rattle.rdm_model.specs.Going.{Going, GoesNote, Goes, going, life_going, IsGoing, IsNext}
+use Rattle.rdm_model.specs.Going.{Going, GoesNote, Goes, going, life_going, IsGoing, GoesNext}
 use Rattle.rdm_model.specs.Classes.{class_of}
 use Rattle.rdm_model.specs.Steps.{Does}
 use Rattle.rdm_model.specs.Local.{heard_by, own_scene, Local}
@@ -69,64 +69,64 @@ notes_len ports port ops (e ∷ before) le =
     omega arith
 
 -- an instruction is no push of a note
-next_note_none : (o : Option Instr) (answer : Answer) → is_note_push (deed_by_next o answer) ≡ 0
-unfolding is_note_push deed_by_next
+next_note_none : (o : Option Instr) (answer : Answer) → note_pushes_by (deed_by_next o answer) ≡ 0
+unfolding note_pushes_by deed_by_next
 next_note_none (Some i) (DidAnswer what) = refl
 next_note_none o answer = refl
 
 -- nor is a handling
-handle_note_none : (src : PortNo) (body : Body) (answer : Handled) → is_note_push (deed_by_handle src body answer) ≡ 0
-unfolding is_note_push deed_by_handle
+handle_note_none : (src : PortNo) (body : Body) (answer : Handled) → note_pushes_by (deed_by_handle src body answer) ≡ 0
+unfolding note_pushes_by deed_by_handle
 handle_note_none src (Note n) (TookAnswer entered) = refl
 handle_note_none src (Between f to load) (TookAnswer entered) = refl
 handle_note_none src _ _ = refl
 
 -- a note that goes next is one that is owed and was not pushed
-going_left : (s : Scene) (n : OwedNote) → going s ≡ Some (GoesNote n) → deed_count is_note_push s.port_log < length (notes s.ports s.own.life.port.0 s.port_log)
+going_left : (s : Scene) (n : OwedNote) → going s ≡ Some (GoesNote n) → deed_count note_pushes_by s.port_log < length (notes s.ports s.own.life.port.0 s.port_log)
 unfolding going next_note
 going_left s n h =
-    let first = first_note (slice_get (notes s.ports s.own.life.port.0 s.port_log) (deed_count is_note_push s.port_log)) (life_going s.now s) n h (λ k. no_life_note s s.now n k) in
-    slice_get_within (notes s.ports s.own.life.port.0 s.port_log) (deed_count is_note_push s.port_log) n first
+    let first = first_note (slice_get (notes s.ports s.own.life.port.0 s.port_log) (deed_count note_pushes_by s.port_log)) (life_going s.now s) n h (λ k. no_life_note s s.now n k) in
+    slice_get_within (notes s.ports s.own.life.port.0 s.port_log) (deed_count note_pushes_by s.port_log) n first
 
 -- so one is left where a note is pushed
 push_left : (s : Scene) (d : Datagram) (note : NoteBody) (g : Going) → d.body ≡ Note note → going s ≡ Some g → IsGoing s g d
-    → deed_count is_note_push s.port_log < length (notes s.ports s.own.life.port.0 s.port_log)
+    → deed_count note_pushes_by s.port_log < length (notes s.ports s.own.life.port.0 s.port_log)
 push_left s d note (GoesNote n) b is h = going_left s n is
 push_left s d note (Goes to item) b is h = (let x = h.1.1 in cc)
 
 -- the same of the log
-eager_left : (job : Job) (port : ℕ) (log : List Deed) → deed_count is_note_push (own_scene job port log).port_log < length (notes (own_scene job port log).ports port (own_scene job port log).port_log)
-    → deed_count is_note_push log < length (notes (port_count job) port log)
+eager_left : (job : Job) (port : ℕ) (log : List Deed) → deed_count note_pushes_by (own_scene job port log).port_log < length (notes (own_scene job port log).ports port (own_scene job port log).port_log)
+    → deed_count note_pushes_by log < length (notes (port_count job) port log)
 unfolding own_scene scene
 eager_left job port log h = h
 
 -- the same of the scene of a port
-scene_left : (job : Job) (port : ℕ) (log : List Deed) → deed_count is_note_push (own_scene job port log).port_log < length (notes (own_scene job port log).ports (own_scene job port log).own.life.port.0 (own_scene job port log).port_log)
-    → deed_count is_note_push log < length (notes (port_count job) port log)
+scene_left : (job : Job) (port : ℕ) (log : List Deed) → deed_count note_pushes_by (own_scene job port log).port_log < length (notes (own_scene job port log).ports (own_scene job port log).own.life.port.0 (own_scene job port log).port_log)
+    → deed_count note_pushes_by log < length (notes (port_count job) port log)
 scene_left job port log h =
     let p = own_port job port log in
-    eager_left job port log (subst (λ n. deed_count is_note_push (own_scene job port log).port_log < length (notes (own_scene job port log).ports n (own_scene job port log).port_log)) p h)
+    eager_left job port log (subst (λ n. deed_count note_pushes_by (own_scene job port log).port_log < length (notes (own_scene job port log).ports n (own_scene job port log).port_log)) p h)
 
 -- a push leaves no more notes pushed than owed
-note_push : (job : Job) (port : ℕ) (log : List Deed) (d : Datagram) (body : Body) → d.body ≡ body → IsNext (own_scene job port log) d
-    → deed_count is_note_push log ≤ length (notes (port_count job) port log)
-    → deed_count is_note_push log + is_note_push (deed_by_push body) ≤ length (notes (port_count job) port log)
-unfolding is_note_push deed_by_push
+note_push : (job : Job) (port : ℕ) (log : List Deed) (d : Datagram) (body : Body) → d.body ≡ body → GoesNext (own_scene job port log) d
+    → deed_count note_pushes_by log ≤ length (notes (port_count job) port log)
+    → deed_count note_pushes_by log + note_pushes_by (deed_by_push body) ≤ length (notes (port_count job) port log)
+unfolding note_pushes_by deed_by_push
 note_push job port log d (Note note) b n le = let l = scene_left job port log (push_left (own_scene job port log) d note n.0 b n.1 n.2) in omega arith
 note_push job port log d (Between f to load) b n le = omega arith
 
 -- and so does each act
 note_act : (job : Job) (port : ℕ) (log : List Deed) (before : List Entry) (e : Entry) (act : Act) → Does job class_of (own_scene job port log) before e act
-    → deed_count is_note_push log ≤ length (notes (port_count job) port log)
-    → deed_count is_note_push log + is_note_push (deed_of (rank_of job port).ops act) ≤ length (notes (port_count job) port log)
-unfolding deed_of is_note_push
+    → deed_count note_pushes_by log ≤ length (notes (port_count job) port log)
+    → deed_count note_pushes_by log + note_pushes_by (deed_of (rank_of job port).ops act) ≤ length (notes (port_count job) port log)
+unfolding deed_of note_pushes_by
 note_act job port log before e (Next index op answer) does le = let z = next_note_none (slice_get (rank_of job port).ops index) answer in omega arith
 note_act job port log before e (Push d) does le = note_push job port log d d.body refl does.3 le
 note_act job port log before e (Handle d answer) does le = let z = handle_note_none d.src d.body answer in omega arith
 note_act job port log before e (Poll c) does le = omega arith
 
 -- a port pushed no more notes than it owed
-notes_owed : (job : Job) (port : ℕ) (log : List Entry) → Local job port log → deed_count is_note_push (deeds_at job port log) ≤ length (notes (port_count job) port (deeds_at job port log))
+notes_owed : (job : Job) (port : ℕ) (log : List Entry) → Local job port log → deed_count note_pushes_by (deeds_at job port log) ≤ length (notes (port_count job) port (deeds_at job port log))
 unfolding deeds_at deeds deed_count notes
 notes_owed job port [] l = omega arith
 notes_owed job port (e ∷ before) l =
@@ -136,13 +136,13 @@ notes_owed job port (e ∷ before) l =
     omega arith
 
 -- entries of a port and its deeds push as many notes
-count_deeds : (job : Job) (port : ℕ) (log : List Entry) → Local job port log → total (λ e. is_note_push (deed_at job e)) log ≡ deed_count is_note_push (deeds_at job port log)
+count_deeds : (job : Job) (port : ℕ) (log : List Entry) → Local job port log → total (λ e. note_pushes_by (deed_at job e)) log ≡ deed_count note_pushes_by (deeds_at job port log)
 unfolding deeds_at deeds deed_count total
 count_deeds job port [] l = refl
 count_deeds job port (e ∷ before) l =
     let r = count_deeds job port before l.0 in
     let p = l.1 in
-    let t = ap (λ n. is_note_push (deed_of (rank_of job n).ops e.act)) p in
+    let t = ap (λ n. note_pushes_by (deed_of (rank_of job n).ops e.act)) p in
     omega arith
 
 -- deeds of a port weigh no more than its entries
@@ -164,14 +164,14 @@ times_to f (suc n) = let r = times_to f n in omega arith
 
 -- all ports pushed at most 16 notes for each instruction
 pub notes_counted : (job : Job) (history : List Entry) → port_count job ≤ 16 → Played job history
-    → total (λ e. is_note_push (deed_at job e)) history ≤ 16 * total (entry_weight job one) history
+    → total (λ e. note_pushes_by (deed_at job e)) history ≤ 16 * total (entry_weight job one) history
 unfolding deeds_at
 notes_counted job history le played =
     let n = past_ports history in
     let f : ℕ → ℕ = λ p. total (entry_weight job one) (log_of p history) in
-    let a = by_ports (λ e. is_note_push (deed_at job e)) history n (omega arith) in
+    let a = by_ports (λ e. note_pushes_by (deed_at job e)) history n (omega arith) in
     let b = by_ports (entry_weight job one) history n (omega arith) in
-    let c = total_to_le (λ p. total (λ e. is_note_push (deed_at job e)) (log_of p history)) (λ p. 16 * f p) n
+    let c = total_to_le (λ p. total (λ e. note_pushes_by (deed_at job e)) (log_of p history)) (λ p. 16 * f p) n
     (λ p. let l = played.locals p in
     let x = count_deeds job p (log_of p history) l in
     let y = notes_owed job p (log_of p history) l in
@@ -182,10 +182,10 @@ notes_counted job history le played =
     omega arith
 
 -- a step leaves no more polled than completed
-poll_step : (own : Own) (before : List Deed) (d : Deed) → LifeStep own before d → deed_count is_poll before ≤ length (completions own (heard_by own.limits.first before) before)
-    → deed_count is_poll before + is_poll d ≤ length (completions own (heard_by own.limits.first before) before)
-unfolding poll_count is_poll
-poll_step own before Polled step le = let w = slice_get_within (completions own (heard_by own.limits.first before) before) (deed_count is_poll before) step.0 step.1 in omega arith
+poll_step : (own : Own) (before : List Deed) (d : Deed) → LifeStep own before d → deed_count polls_by before ≤ length (completions own (heard_by own.limits.first before) before)
+    → deed_count polls_by before + polls_by d ≤ length (completions own (heard_by own.limits.first before) before)
+unfolding poll_count polls_by
+poll_step own before Polled step le = let w = slice_get_within (completions own (heard_by own.limits.first before) before) (deed_count polls_by before) step.0 step.1 in omega arith
 poll_step own before (Did i) step le = omega arith
 poll_step own before PushedNote step le = omega arith
 poll_step own before Pushed step le = omega arith

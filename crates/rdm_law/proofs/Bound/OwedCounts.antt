@@ -19,7 +19,7 @@ use Rattle.rdm_wire.specs.declared.ReadAsk.{ReadAsk}
 use Rattle.rdm_model.specs.declared.job.Job.{Job}
 use Rattle.rdm_model.specs.declared.entry.Entry.{Entry}
 use Rattle.rdm_model.specs.Deeds.{Deed, Did, PushedNote, Pushed, TookNote, Took, Polled, Nothing, Spelled, Asks, Gives, Garbled, deed_count}
-use Rattle.rdm_model.specs.Owns.{Own, Heads, Messages, own_of}
+use Rattle.rdm_model.specs.Beginnings.{Own, Heads, Messages, own_of}
 use Rattle.rdm_model.specs.Matches.{pairs}
 use Rattle.rdm_model.specs.Reads.{ask_room, asks_in, asks_from}
 use Rattle.rdm_model.specs.Replies.{reply, handshake_by, asks_for, pair_items, pair_replies, given_of, given_by, replies_by}
@@ -33,7 +33,7 @@ use Rattle.rdm_law.proofs.Replies.Asks.{iov_bytes}
 use Rattle.rdm_law.proofs.Classes.ClassKeys.{sent_size}
 use Rattle.rdm_law.proofs.Replies.Owed.{shape_in, recv_in}
 use Rattle.rdm_law.proofs.Replies.Queue.{owed}
-use Rattle.rdm_law.proofs.Bound.Totals.{is_ask}
+use Rattle.rdm_law.proofs.Bound.Totals.{asks_taken_by}
 use Rattle.rdm_law.proofs.Bound.SeenLives.{seen_new, seen_lives, greeted}
 use Rattle.rdm_law.proofs.Bound.PairCounts.{item_count, pair_bound}
 use Rattle.rdm_lists.proofs.Sums.{total, total-append, total_le, total_plus}
@@ -51,8 +51,8 @@ given_one from a None = omega arith
 given_one from a (Some s) = omega arith
 
 -- an ask is answered once
-given_count : (sents : List Sent) (d : Deed) → length (given_by sents d) ≤ is_ask d
-unfolding given_by is_ask
+given_count : (sents : List Sent) (d : Deed) → length (given_by sents d) ≤ asks_taken_by d
+unfolding given_by asks_taken_by
 given_count sents (Took from (Asks ask)) = given_one from ask _
 given_count sents (Took from (Spelled p)) = omega arith
 given_count sents (Took from (Gives g)) = omega arith
@@ -66,7 +66,7 @@ given_count sents Nothing = omega arith
 
 -- what a deed makes owed
 replies_count : (own : Own) (heads : Heads) (sents : List Sent) (d : Deed) (before : List Deed)
-    → length (replies_by own heads sents d before) ≤ length (seen_new before d) + total (λ p. length (pair_items own heads d before p)) (pairs own.limits.first heads (d ∷ before)) + is_ask d
+    → length (replies_by own heads sents d before) ≤ length (seen_new own before d) + total (λ p. length (pair_items own heads d before p)) (pairs own.limits.first heads (d ∷ before)) + asks_taken_by d
 unfolding replies_by pair_replies
 replies_count own heads sents d before =
     let ps = pairs own.limits.first heads (d ∷ before) in
@@ -105,14 +105,14 @@ pairs_step own heads d before =
 
 -- what is owed: a greeting to each life, what pairs owe, an answer to each ask
 owed_by : (own : Own) (ms : Messages) (log : List Deed)
-    → length (owed own ms log) ≤ length (seen_lives log) + total (λ p. item_count own ms.head p log) (pairs own.limits.first ms.head log) + deed_count is_ask log
+    → length (owed own ms log) ≤ length (seen_lives own log) + total (λ p. item_count own ms.head p log) (pairs own.limits.first ms.head log) + deed_count asks_taken_by log
 unfolding owed seen_lives deed_count
 owed_by own ms [] = omega arith
 owed_by own ms (d ∷ before) =
     let old = owed_by own ms before in
     let l = length-append (owed own ms before) (replies_by own ms.head (sends own ms before) d before) in
     let r = replies_count own ms.head (sends own ms before) d before in
-    let s = length-append (seen_lives before) (seen_new before d) in
+    let s = length-append (seen_lives own before) (seen_new own before d) in
     let p = pairs_step own ms.head d before in
     omega arith
 
@@ -169,8 +169,8 @@ asks_bound job history l p played m =
 
 -- a life owes no more than the lives that it took something from, the bytes of its matched messages and one each, and the asks that it took
 pub owed_counted : (job : Job) (history : List Entry) (l : Life) → Played job history
-    → length (owed (own_of job l) (account job history l) (life_deeds job history l)) ≤ length (seen_lives (life_deeds job history l))
-    + total (λ p. 1 + ((account job history l).head p.message.life p.message.no.0).length) (pairs_of job history l) + deed_count is_ask (life_deeds job history l)
+    → length (owed (own_of job l) (account job history l) (life_deeds job history l)) ≤ length (seen_lives (own_of job l) (life_deeds job history l))
+    + total (λ p. 1 + ((account job history l).head p.message.life p.message.no.0).length) (pairs_of job history l) + deed_count asks_taken_by (life_deeds job history l)
 owed_counted job history l played =
     let own = own_of job l in
     let ms = account job history l in

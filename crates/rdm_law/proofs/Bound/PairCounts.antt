@@ -3,6 +3,7 @@ use Rattle.std.proofs.Common.{◌≡◌, ℕ, ◌+◌, ◌≤◌, Bool, true, fa
 use Rattle.std.specs.Prelude.{nat_lt}
 use Rattle.std.proofs.lemmas.Bool.{cases_lt, ltb-true}
 use Rattle.std.proofs.lemmas.List.{length-append, length-map}
+use Rattle.rdm_num.specs.declared.numbers.MsgNo.{MsgNo}
 use Rattle.rdm_num.specs.declared.numbers.OpId.{OpId}
 use Rattle.rdm_num.specs.declared.limits.EpLimits.{EpLimits}
 use Rattle.rdm_num.specs.declared.head.Shape.{Shape}
@@ -10,14 +11,14 @@ use Rattle.rdm_num.specs.declared.head.Shape.TheVariants.{Eager, Medium, LongCts
 use Rattle.rdm_match.specs.Matcher.{Pair, is_pair}
 use Rattle.rdm_model.specs.Deeds.{Deed, Item, Asks, Spelled}
 use Rattle.rdm_pkt.specs.declared.Packet.TheVariants.{Cts}
-use Rattle.rdm_model.specs.Owns.{Own, Heads}
+use Rattle.rdm_model.specs.Beginnings.{Own, Heads}
 use Rattle.rdm_model.specs.Matches.{pairs}
 use Rattle.rdm_model.specs.Receives.{is_filled}
 use Rattle.rdm_model.specs.Grants.{window, with_window, granted_bytes}
-use Rattle.rdm_model.specs.Replies.{asks_for, grant_for, end_for, pair_items}
+use Rattle.rdm_model.specs.Replies.{receipt_for, asks_for, grant_for, end_for, pair_items}
 use Rattle.rdm_model.proofs.Matches.{is_pair_still}
 use Rattle.rdm_model.proofs.SameReceives.{filled_still}
-use Rattle.rdm_law.proofs.Replies.Owed.{shape_in, recv_in}
+use Rattle.rdm_law.proofs.Replies.Owed.{confirm_in, ends_in, shape_in, recv_in}
 use Rattle.rdm_law.proofs.Windows.Windows.{is_window}
 
 -- the pair is there
@@ -51,7 +52,7 @@ grant_length own (Runt send iov runt) recv size = omega arith
 items_length : (own : Own) (heads : Heads) (d : Deed) (before : List Deed) (p : Pair)
     → length (pair_items own heads d before p) ≤ cond (not (there own heads p before)) (length (asks_for (shape_in heads p) (recv_in p))) 0
     + window own.limits heads (d ∷ before) p (granted_bytes own.limits heads before p)
-    + cond (is_filled own.limits.first heads (d ∷ before) p && not (is_filled own.limits.first heads before p)) (length (end_for own (shape_in heads p) (recv_in p))) 0
+    + cond (is_filled own.limits.first heads (d ∷ before) p && not (is_filled own.limits.first heads before p)) (length (ends_in own heads p)) 0
 unfolding pair_items
 items_length own heads d before p =
     let asks = asks_for (shape_in heads p) (recv_in p) in
@@ -59,12 +60,12 @@ items_length own heads d before p =
     let w = window own.limits heads (d ∷ before) p (granted_bytes own.limits heads before p) in
     let G = grant_for own (shape_in heads p) (recv_in p) w in
     let over = is_filled own.limits.first heads (d ∷ before) p && not (is_filled own.limits.first heads before p) in
-    let E : List Item = cond over (end_for own (shape_in heads p) (recv_in p)) [] in
+    let E : List Item = cond over (ends_in own heads p) [] in
     let l1 = length-append (A ++ G) E in
     let l2 = length-append A G in
     let a : length A ≡ cond (not (there own heads p before)) (length asks) 0 = cond_length (not (there own heads p before)) (map Asks asks) ∙ ap (λ (n : ℕ). cond (not (there own heads p before)) n 0) (length-map asks Asks) in
     let g = grant_length own (shape_in heads p) (recv_in p) w in
-    let e = cond_length over (end_for own (shape_in heads p) (recv_in p)) in
+    let e = cond_length over (ends_in own heads p) in
     omega arith
 
 -- a deed adds its window
@@ -93,7 +94,7 @@ count_step false false false false old items asks ends win gran s f a b = omega 
 -- a pair owes its asks once, no more grants than bytes in its windows, and an end once
 pub items_counted : (own : Own) (heads : Heads) (p : Pair) (log : List Deed)
     → item_count own heads p log ≤ cond (there own heads p log) (length (asks_for (shape_in heads p) (recv_in p))) 0 + granted_bytes own.limits heads log p
-    + cond (is_filled own.limits.first heads log p) (length (end_for own (shape_in heads p) (recv_in p))) 0
+    + cond (is_filled own.limits.first heads log p) (length (ends_in own heads p)) 0
 unfolding item_count
 items_counted own heads p [] = omega arith
 items_counted own heads p (d ∷ before) =
@@ -101,7 +102,7 @@ items_counted own heads p (d ∷ before) =
     let items = items_length own heads d before p in
     let g = granted_step own.limits heads d before p in
     let c = count_step (there own heads p before) (there own heads p (d ∷ before)) (is_filled own.limits.first heads before p) (is_filled own.limits.first heads (d ∷ before) p)
-    (item_count own heads p before) (length (pair_items own heads d before p)) (length (asks_for (shape_in heads p) (recv_in p))) (length (end_for own (shape_in heads p) (recv_in p)))
+    (item_count own heads p before) (length (pair_items own heads d before p)) (length (asks_for (shape_in heads p) (recv_in p))) (length (ends_in own heads p))
     (window own.limits heads (d ∷ before) p (granted_bytes own.limits heads before p)) (granted_bytes own.limits heads before p)
     (λ h. is_pair_still own.limits.first heads d before p.recv.id.0 p.message.life p.message.no.0 h) (λ h. filled_still own.limits.first heads d before p h) old items in
     omega arith
@@ -135,24 +136,30 @@ cond_less : (b : Bool) (n : ℕ) → cond b n 0 ≤ n
 cond_less true n = omega arith
 cond_less false n = omega arith
 
--- a message owes one end at most
-ends_one : (own : Own) (shape : Shape) (recv : OpId) → length (end_for own shape recv) ≤ 1
-unfolding end_for
-ends_one own (LongRead send iov) recv = omega arith
-ends_one own (Runt send iov runt) recv = omega arith
-ends_one own Eager recv = omega arith
-ends_one own Medium recv = omega arith
-ends_one own (LongCts send credits) recv = omega arith
+-- and one receipt
+receipt_one : (own : Own) (confirm : Bool) (number : MsgNo) → length (receipt_for own confirm number) ≤ 1
+unfolding receipt_for
+receipt_one own true number = omega arith
+receipt_one own false number = omega arith
 
--- a long message owes no asks and no end
-long_cases : (shape : Shape) (own : Own) (recv : OpId) → ((send : OpId) × (credits : ℕ) × (shape ≡ LongCts send credits) × (asks_for shape recv ≡ []) × (end_for own shape recv ≡ []))
+-- a message owes one end at most
+ends_one : (own : Own) (shape : Shape) (confirm : Bool) (number : MsgNo) (recv : OpId) → length (end_for own shape confirm number recv) ≤ 1
+unfolding end_for
+ends_one own (LongRead send iov) confirm number recv = omega arith
+ends_one own (Runt send iov runt) confirm number recv = omega arith
+ends_one own Eager confirm number recv = receipt_one own confirm number
+ends_one own Medium confirm number recv = receipt_one own confirm number
+ends_one own (LongCts send credits) confirm number recv = receipt_one own confirm number
+
+-- a long message owes no asks
+long_cases : (shape : Shape) (recv : OpId) → ((send : OpId) × (credits : ℕ) × (shape ≡ LongCts send credits) × (asks_for shape recv ≡ []))
     ⊎ ((send : OpId) (credits : ℕ) → shape ≡ LongCts send credits → ⊥)
-unfolding asks_for end_for
-long_cases (LongCts send credits) own recv = inl (send, credits, refl, refl, refl)
-long_cases Eager own recv = inr (λ s c e. cc)
-long_cases Medium own recv = inr (λ s c e. cc)
-long_cases (LongRead send iov) own recv = inr (λ s c e. cc)
-long_cases (Runt send iov runt) own recv = inr (λ s c e. cc)
+unfolding asks_for
+long_cases (LongCts send credits) recv = inl (send, credits, refl, refl)
+long_cases Eager recv = inr (λ s c e. cc)
+long_cases Medium recv = inr (λ s c e. cc)
+long_cases (LongRead send iov) recv = inr (λ s c e. cc)
+long_cases (Runt send iov runt) recv = inr (λ s c e. cc)
 
 -- a pair owes no more than its message has bytes, and one
 pub pair_bound : (own : Own) (heads : Heads) (p : Pair) (log : List Deed) → length (asks_for (shape_in heads p) (recv_in p)) ≤ (heads p.message.life p.message.no.0).length
@@ -160,15 +167,15 @@ pub pair_bound : (own : Own) (heads : Heads) (p : Pair) (log : List Deed) → le
 pair_bound own heads p log asks =
     let c = items_counted own heads p log in
     let a = cond_less (there own heads p log) (length (asks_for (shape_in heads p) (recv_in p))) in
-    let e = cond_less (is_filled own.limits.first heads log p) (length (end_for own (shape_in heads p) (recv_in p))) in
-    elim (long_cases (shape_in heads p) own (recv_in p)) [
+    let e = cond_less (is_filled own.limits.first heads log p) (length (ends_in own heads p)) in
+    elim (long_cases (shape_in heads p) (recv_in p)) [
       | inl l ↦ (
           let none = ap length l.3 in
-          let no_end = ap length l.4 in
+          let one = ends_one own (shape_in heads p) (confirm_in heads p) p.message.no (recv_in p) in
           let g = granted_fits own.limits heads log p in
           omega arith)
       | inr other ↦ (
           let g = none_granted own.limits heads log p other in
-          let one = ends_one own (shape_in heads p) (recv_in p) in
+          let one = ends_one own (shape_in heads p) (confirm_in heads p) p.message.no (recv_in p) in
           omega arith)
     ]

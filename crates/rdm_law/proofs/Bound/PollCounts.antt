@@ -5,12 +5,12 @@ use Rattle.rdm_model.specs.declared.job.Job.{Job}
 use Rattle.rdm_model.specs.declared.job.Instr.TheVariants.{Send, Recv}
 use Rattle.rdm_model.specs.declared.entry.Entry.{Entry}
 use Rattle.rdm_model.specs.Deeds.{Deed, Did, deed_count}
-use Rattle.rdm_model.specs.Owns.{Own, Messages, rank_of, own_of}
+use Rattle.rdm_model.specs.Beginnings.{Own, Messages, rank_of, own_of}
 use Rattle.rdm_model.specs.Local.{heard_by}
 use Rattle.rdm_model.specs.Lawful.{life_deeds}
 use Rattle.rdm_model.specs.Matches.{receive, receives, received_by, with_received}
 use Rattle.rdm_model.specs.Sends.{Sent, sent_by, with_sent, sends}
-use Rattle.rdm_model.specs.Completions.{is_poll, poll_count}
+use Rattle.rdm_model.specs.Completions.{polls_by, poll_count}
 use Rattle.rdm_model.proofs.Numbers.{sends_step}
 use Rattle.rdm_law.proofs.Lives.Lives.{LifeLocal}
 use Rattle.rdm_law.proofs.Accounts.Wired.{Played, own_life}
@@ -68,14 +68,14 @@ count_total f [] = refl
 count_total f (d ∷ before) = let e = count_total f before in omega arith
 
 -- a life polls no more than twice to an instruction that did
-life_polls : (own : Own) (log : List Deed) → LifeLocal own log → total is_poll log ≤ total two log
+life_polls : (own : Own) (log : List Deed) → LifeLocal own log → total polls_by log ≤ total two log
 unfolding poll_count
 life_polls own log local =
     let ms = heard_by own.limits.first log in
     let p = polls_counted own log local in
     let c = completions_counted own log local in
     let d = did_counted own ms log in
-    let t = count_total is_poll log in
+    let t = count_total polls_by log in
     omega arith
 
 -- a sum of doubles
@@ -89,11 +89,11 @@ two_le : (job : Job) (e : Entry) → two (deed_at job e) ≤ 2 * entry_weight jo
 two_le job e = let d = deed_le (rank_of job e.port.0).ops one e.act in omega arith
 
 -- a history has no more polls than twice its instructions that were done
-pub polls_total : (job : Job) (history : List Entry) → Played job history → total (λ e. is_poll (deed_at job e)) history ≤ 2 * total (entry_weight job one) history
+pub polls_total : (job : Job) (history : List Entry) → Played job history → total (λ e. polls_by (deed_at job e)) history ≤ 2 * total (entry_weight job one) history
 polls_total job history played =
     let ls = lives_of job history in
-    let c = covered_weight job is_poll ls history (are_covered job is_poll ls history (λ before e does. poll_life job before e e.act does) (λ l m. m) played) in
-    let p = total_le (λ (l : Life). total is_poll (life_deeds job history l)) (λ (l : Life). total two (life_deeds job history l)) ls
+    let c = covered_weight job polls_by ls history (are_covered job polls_by ls history (λ before e does. poll_life job before e e.act does) (λ l m. m) played) in
+    let p = total_le (λ (l : Life). total polls_by (life_deeds job history l)) (λ (l : Life). total two (life_deeds job history l)) ls
     (λ l m. life_polls (own_of job l) (life_deeds job history l) (own_life job history played l)) in
     let w = lives_weight job ls two (λ (e : Entry). 2 * entry_weight job one e) history (lives_distinct job history) (λ e. two_le job e) in
     let t = total_twice (entry_weight job one) history in

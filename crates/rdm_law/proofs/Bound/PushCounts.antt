@@ -7,7 +7,7 @@ use Rattle.rdm_num.specs.Lives.{same_life}
 use Rattle.rdm_lists.specs.Lists.{Member}
 use Rattle.rdm_model.specs.Deeds.{Deed, Did, PushedNote, Pushed, TookNote, Took, Polled, Nothing, deed_count}
 use Rattle.rdm_model.specs.Currents.{forgotten_by}
-use Rattle.rdm_model.specs.Owns.{Own, Messages}
+use Rattle.rdm_model.specs.Beginnings.{Own, Messages}
 use Rattle.rdm_model.specs.Replies.{Reply, replies_by, without_lives, without_forgotten}
 use Rattle.rdm_model.specs.Sends.{Sent, sent_by, with_sent, sends}
 use Rattle.rdm_model.specs.Dues.{Progress, Due, Replies, Sends, after_due, after_push, after_deed, progress, due}
@@ -20,7 +20,7 @@ use Rattle.rdm_model.proofs.Pushes.{pushed_of}
 use Rattle.rdm_model.proofs.Served.{next_send_due, pushed_last, pushed_longer}
 use Rattle.rdm_law.proofs.Lives.Lives.{LifeStep, LifeLocal}
 use Rattle.rdm_law.proofs.Replies.Queue.{owed}
-use Rattle.rdm_law.proofs.Bound.Totals.{is_push'}
+use Rattle.rdm_law.proofs.Bound.Totals.{pushes_of}
 use Rattle.rdm_law.proofs.Settled.OwedBack.{agree_trans}
 use Rattle.rdm_law.proofs.Settled.ReadLands.{agree_refl}
 use Rattle.rdm_lists.proofs.Sums.{total, total-append, total_le}
@@ -125,8 +125,8 @@ sends_total own ms d before =
     omega arith
 
 -- a deed that is no push takes nothing
-still_waits : (own : Own) (ms : Messages) (d : Deed) (before : List Deed) → (d ≡ Pushed) ⊎ ((is_push' d ≡ 0) × (length (after_push own ms before d (progress own ms before)).replies ≡ length (progress own ms before).replies))
-unfolding is_push' after_push
+still_waits : (own : Own) (ms : Messages) (d : Deed) (before : List Deed) → (d ≡ Pushed) ⊎ ((pushes_of d ≡ 0) × (length (after_push own ms before d (progress own ms before)).replies ≡ length (progress own ms before).replies))
+unfolding pushes_of after_push
 still_waits own ms Pushed before = inl refl
 still_waits own ms (Did instr) before = inr (refl, refl)
 still_waits own ms PushedNote before = inr (refl, refl)
@@ -136,22 +136,22 @@ still_waits own ms Polled before = inr (refl, refl)
 still_waits own ms Nothing before = inr (refl, refl)
 
 -- a push counts once
-pushes_one : (before : List Deed) → deed_count is_push' (Pushed ∷ before) ≡ deed_count is_push' before + 1
-unfolding deed_count is_push'
+pushes_one : (before : List Deed) → deed_count pushes_of (Pushed ∷ before) ≡ deed_count pushes_of before + 1
+unfolding deed_count pushes_of
 pushes_one before = refl
 
 -- nothing else counts
-pushes_none : (d : Deed) (before : List Deed) → is_push' d ≡ 0 → deed_count is_push' (d ∷ before) ≡ deed_count is_push' before
+pushes_none : (d : Deed) (before : List Deed) → pushes_of d ≡ 0 → deed_count pushes_of (d ∷ before) ≡ deed_count pushes_of before
 unfolding deed_count
 pushes_none d before h = omega arith
 
 -- a deed keeps the count
 counted_step : (own : Own) (ms : Messages) (d : Deed) (before : List Deed) → (d ≡ Pushed → (t : Due) × (due own ms before ≡ Some t))
-    → deed_count is_push' before + length (progress own ms before).replies ≤ length (owed own ms before) + packet_total own ms before (sends own ms before)
+    → deed_count pushes_of before + length (progress own ms before).replies ≤ length (owed own ms before) + packet_total own ms before (sends own ms before)
     → length (progress own ms (d ∷ before)).replies ≤ length (after_push own ms before d (progress own ms before)).replies + length (replies_by own ms.head (sends own ms before) d before)
     → length (owed own ms (d ∷ before)) ≡ length (owed own ms before) + length (replies_by own ms.head (sends own ms before) d before)
     → packet_total own ms (d ∷ before) (sends own ms before) ≤ packet_total own ms (d ∷ before) (sends own ms (d ∷ before))
-    → deed_count is_push' (d ∷ before) + length (progress own ms (d ∷ before)).replies ≤ length (owed own ms (d ∷ before)) + packet_total own ms (d ∷ before) (sends own ms (d ∷ before))
+    → deed_count pushes_of (d ∷ before) + length (progress own ms (d ∷ before)).replies ≤ length (owed own ms (d ∷ before)) + packet_total own ms (d ∷ before) (sends own ms (d ∷ before))
 counted_step own ms d before was_due was waits owes more =
     elim (still_waits own ms d before) [
       | inl e ↦ (
@@ -159,7 +159,7 @@ counted_step own ms d before was_due was waits owes more =
           let P : Deed → Type 0 = λ x. length (after_push own ms before x (progress own ms before)).replies + 1 + packet_total own ms before (sends own ms before)
           ≤ length (progress own ms before).replies + packet_total own ms (x ∷ before) (sends own ms before) in
           let step : P d = subst P (sym e) (push_step own ms before t.0 t.1) in
-          let one : deed_count is_push' (d ∷ before) ≡ deed_count is_push' before + 1 = ap (λ (x : Deed). deed_count is_push' (x ∷ before)) e ∙ pushes_one before in
+          let one : deed_count pushes_of (d ∷ before) ≡ deed_count pushes_of before + 1 = ap (λ (x : Deed). deed_count pushes_of (x ∷ before)) e ∙ pushes_one before in
           omega arith)
       | inr q ↦ (
           let none = pushes_none d before q.0 in
@@ -170,7 +170,7 @@ counted_step own ms d before was_due was waits owes more =
 
 -- pushes, and the replies that wait, are of what was owed and of packets
 counted : (own : Own) (ms : Messages) (log : List Deed) → AllWereDue own ms log
-    → deed_count is_push' log + length (progress own ms log).replies ≤ length (owed own ms log) + packet_total own ms log (sends own ms log)
+    → deed_count pushes_of log + length (progress own ms log).replies ≤ length (owed own ms log) + packet_total own ms log (sends own ms log)
 unfolding deed_count progress owed
 counted own ms [] a = omega arith
 counted own ms (d ∷ before) a =
@@ -182,7 +182,7 @@ counted own ms (d ∷ before) a =
 
 -- each push of a life was of a reply that was owed, or of a packet of a send
 pub pushes_counted : (own : Own) (log : List Deed) → LifeLocal own log
-    → deed_count is_push' log ≤ length (owed own (heard_by own.limits.first log) log)
+    → deed_count pushes_of log ≤ length (owed own (heard_by own.limits.first log) log)
     + total (λ (s : Sent). length (pushed_of own (heard_by own.limits.first log) log s.number)) (sends own (heard_by own.limits.first log) log)
 pushes_counted own log local =
     let ms = heard_by own.limits.first log in

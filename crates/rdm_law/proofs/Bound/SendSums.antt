@@ -5,7 +5,7 @@ use Rattle.rdm_num.specs.declared.request.SendReq.{SendReq}
 use Rattle.rdm_model.specs.declared.job.Instr.TheVariants.{Send, Recv}
 use Rattle.rdm_model.specs.Jobs.{sent_length}
 use Rattle.rdm_model.specs.Deeds.{Deed, Did}
-use Rattle.rdm_model.specs.Owns.{Own, Messages}
+use Rattle.rdm_model.specs.Beginnings.{Own, Messages}
 use Rattle.rdm_model.specs.Currents.{current}
 use Rattle.rdm_model.specs.Regions.{regions}
 use Rattle.rdm_model.specs.Matches.{Receive, receives, received_by, with_received}

@@ -4,7 +4,7 @@ use Rattle.std.specs.Prelude.{sum_by}
 use Rattle.std.proofs.lemmas.Bool.{and_parts}
 use Rattle.rdm_model.specs.declared.job.Job.{Job}
 use Rattle.rdm_model.specs.declared.job.Rank.{Rank}
-use Rattle.rdm_model.specs.Owns.{port_count}
+use Rattle.rdm_model.specs.Beginnings.{port_count}
 use Rattle.rdm_model.specs.Jobs.{is_fair, law_ops, is_within, sum_of_ops}
 use Rattle.rdm_law.proofs.Bound.NoteCounts.{one}
 use Rattle.rdm_lists.proofs.Sums.{total, total_same, total_ones, sum_total}

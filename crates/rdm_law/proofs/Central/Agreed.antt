@@ -5,13 +5,13 @@ use Rattle.rdm_model.specs.declared.job.Job.{Job}
 use Rattle.rdm_model.specs.declared.job.Instr.{Instr}
 use Rattle.rdm_model.specs.declared.entry.Entry.{Entry}
 use Rattle.rdm_model.specs.Deeds.{log_of, open_life}
-use Rattle.rdm_model.specs.Owns.{Messages, life_at}
+use Rattle.rdm_model.specs.Beginnings.{Messages, life_at}
 use Rattle.rdm_model.specs.Scenes.{Scene}
 use Rattle.rdm_model.specs.Answers.{answer_of}
 use Rattle.rdm_model.specs.Going.{going}
 use Rattle.rdm_model.specs.Classes.{class_of, lives_class}
 use Rattle.rdm_model.specs.Takes.{is_again_early}
-use Rattle.rdm_model.specs.Settled.{left_answer, left_at, instruction_left, next_completion_is_none}
+use Rattle.rdm_model.specs.Settled.{left_answer, left_at, instruction_left, nothing_to_poll}
 use Rattle.rdm_model.specs.Local.{own_scene}
 use Rattle.rdm_model.specs.Lawful.{port_deeds, sent_to, sent_scene}
 use Rattle.rdm_model.specs.Wire.{PushedIn, IsUnhandled}
@@ -62,14 +62,14 @@ left_agreed job port history log played =
     left_same job (own_at job port history) (sent_scene job port history) log (instruction_left job port log) (λ instr. answer_agreed job port history instr played)
 
 -- no completion is left by both accounts or by neither
-none_same : (s : Scene) (ns : Messages) → AgreesIn s ns → next_completion_is_none s ≡ next_completion_is_none (by_account s ns)
-unfolding next_completion_is_none
+none_same : (s : Scene) (ns : Messages) → AgreesIn s ns → nothing_to_poll s ≡ nothing_to_poll (by_account s ns)
+unfolding nothing_to_poll
 none_same s ns a = let c = completions_same s.own s.ms ns s.log a in rw c refl
 
 -- whether a completion is left to be polled is the same
 pub none_agreed : (job : Job) (port : ℕ) (history : List Entry) → Played job history
-    → next_completion_is_none (own_scene job port (port_deeds job port history)) ≡ next_completion_is_none (sent_scene job port history)
-none_agreed job port history played = in_both job port history next_completion_is_none played (λ a. none_same (own_at job port history) (sent_at job port history) a)
+    → nothing_to_poll (own_scene job port (port_deeds job port history)) ≡ nothing_to_poll (sent_scene job port history)
+none_agreed job port history played = in_both job port history nothing_to_poll played (λ a. none_same (own_at job port history) (sent_at job port history) a)
 
 -- whether a datagram that waits for a port needs an early place is the same, by the whole table of classes as by lives alone
 pub early_agreed : (job : Job) (port : ℕ) (history : List Entry) (d : Datagram) → AllFree job → Played job history → d.dst.0 ≡ port

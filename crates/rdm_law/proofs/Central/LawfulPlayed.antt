@@ -8,7 +8,7 @@ use Rattle.rdm_model.specs.declared.entry.Entry.{Entry}
 use Rattle.rdm_model.specs.declared.entry.Act.{Act}
 use Rattle.rdm_model.specs.declared.entry.Act.TheVariants.{Handle}
 use Rattle.rdm_model.specs.Deeds.{Deed, log_of, open_life}
-use Rattle.rdm_model.specs.Owns.{Messages, life_at}
+use Rattle.rdm_model.specs.Beginnings.{Messages, life_at}
 use Rattle.rdm_model.specs.Scenes.{Scene, scene}
 use Rattle.rdm_model.specs.Jobs.{is_fair, law_ops}
 use Rattle.rdm_model.specs.Classes.{class_of, lives_class}

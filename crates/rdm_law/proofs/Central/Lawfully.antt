@@ -10,7 +10,7 @@ use Rattle.rdm_model.specs.declared.entry.Entry.{Entry}
 use Rattle.rdm_model.specs.declared.entry.Act.{Act}
 use Rattle.rdm_model.specs.declared.entry.Act.TheVariants.{Handle}
 use Rattle.rdm_model.specs.Deeds.{Took, Item, is_connid, deed_of, log_of, open_life, of_life, of_open_life}
-use Rattle.rdm_model.specs.Owns.{Messages, own_of, rank_of, port_count, life_at}
+use Rattle.rdm_model.specs.Beginnings.{Messages, own_of, rank_of, port_count, life_at}
 use Rattle.rdm_model.specs.Heard.{heard_head}
 use Rattle.rdm_model.specs.Matches.{pairs, matching}
 use Rattle.rdm_model.specs.Receives.{is_filled}
@@ -18,7 +18,7 @@ use Rattle.rdm_model.specs.Scenes.{Scene, scene, deeds_at}
 use Rattle.rdm_model.specs.Classes.{class_of, lives_class}
 use Rattle.rdm_model.specs.Steps.{Does, Fits}
 use Rattle.rdm_model.specs.Local.{own_scene, heard_by, Local}
-use Rattle.rdm_model.specs.Lawful.{port_deeds, life_deeds, sent_to, sent_scene, Carries, Lawful}
+use Rattle.rdm_model.specs.Lawful.{port_deeds, life_deeds, sent_to, sent_scene, Carries, Confirms, Lawful}
 use Rattle.rdm_model.specs.Jobs.{is_fair, law_ops}
 use Rattle.rdm_law.specs.Law.{Law, JointLaw}
 use Rattle.rdm_model.specs.Wire.{Comes, IsInOrder}
@@ -28,6 +28,7 @@ use Rattle.rdm_model.proofs.SameClasses.{lives_class_same}
 use Rattle.rdm_model.proofs.SameFits.{fits_same}
 use Rattle.rdm_law.proofs.Lives.Logs.{log_of-same}
 use Rattle.rdm_law.proofs.Central.Joint.{joint_parts}
+use Rattle.rdm_law.proofs.Central.Confirmed.{confirms_at}
 use Rattle.rdm_law.proofs.Lives.Lives.{life_scene, life_of, life_step, opened_scene}
 use Rattle.rdm_law.proofs.Accounts.Wired.{Played, played_before, act_took, took_to}
 use Rattle.rdm_law.proofs.Accounts.Carried.{carried_parts}
@@ -131,6 +132,14 @@ carries_scene job before e played are comes does =
     subst (λ s. Carries s (deed_of (rank_of job e.port.0).ops e.act)) (sym (scene_is_by job e.port.0 before))
     (carries_at job before e (open_life (port_deeds job e.port.0 before)) played are comes refl does)
 
+-- what a port does completes no confirmed send ahead of its receive
+confirms_scene : (job : Job) (before : List Entry) (e : Entry) → Played job before → SendsAre job before → Comes before e e.act
+    → Does job class_of (own_scene job e.port.0 (port_deeds job e.port.0 before)) (log_of e.port.0 before) e e.act
+    → Confirms job before (sent_scene job e.port.0 before) (deed_of (rank_of job e.port.0).ops e.act)
+unfolding sent_scene scene
+confirms_scene job before e played are comes does =
+    confirms_at job before e (open_life (port_deeds job e.port.0 before)) (sent_scene job e.port.0 before) played are comes refl does refl refl refl
+
 -- an entry that fits by what its port took fits by what was sent
 fits_sent : (job : Job) (before : List Entry) (e : Entry) → AllFree job → Played job before → SendsAre job before → Comes before e e.act
     → Fits job class_of (own_scene job e.port.0 (port_deeds job e.port.0 before)) (log_of e.port.0 before) e
@@ -164,6 +173,7 @@ law_from job (e ∷ before) free order played =
       played.wire.1,
       fits_sent job before e free earlier are played.wire.1 fits,
       carries_scene job before e earlier are played.wire.1 fits.2,
+      confirms_scene job before e earlier are played.wire.1 fits.2,
     )
 
 -- the law, where what arrives passes each test

@@ -1,5 +1,5 @@
 -- What a right report of a fair job says.
-use Rattle.std.proofs.Common.{List, [], ◌∷◌}
+use Rattle.std.proofs.Common.{List, [], ◌∷◌, ◌++◌, subst}
 use Rattle.std.specs.Prelude.{IsTrue}
 use Rattle.rdm_model.specs.declared.job.Job.{Job}
 use Rattle.rdm_model.specs.declared.entry.Entry.{Entry}
@@ -8,6 +8,7 @@ use Rattle.rdm_model.specs.Lawful.{Lawful}
 use Rattle.rdm_model.specs.Wire.{Wire}
 use Rattle.rdm_law.specs.Law.{Completes}
 use Rattle.rdm_law.specs.Matched.{MatchesPlainly}
+use Rattle.rdm_law.specs.Confirmed.{ConfirmedAfterReceived}
 use Rattle.rdm_law.specs.Headline.{Headline}
 use Rattle.rdm_law.proofs.Classes.ClassLives.{AllFree}
 use Rattle.rdm_law.proofs.Central.LawfulPlayed.{lawful_order, lawful_played}
@@ -17,6 +18,8 @@ use Rattle.rdm_law.proofs.Accounts.SendsAre.{sends_are}
 use Rattle.rdm_law.proofs.Ends.PolledEnded.{polled_as_ended}
 use Rattle.rdm_law.proofs.Ends.PolledOnce.{polled_once}
 use Rattle.rdm_law.proofs.Ends.MessageOnce.{message_once}
+use Rattle.rdm_law.proofs.Refusals.DroppedOnly.{lawful_at}
+use Rattle.rdm_law.proofs.Central.PolledConfirmed.{confirmed_when_polled}
 use Rattle.rdm_law.proofs.Refusals.Counted.{drops_are_other, counts_drops, again_where_full}
 
 -- the wire of a lawful history delivers once
@@ -30,6 +33,10 @@ matches_plainly job history fair free lawful =
     let played = lawful_played job history fair free lawful in
     record { pairs_are = plainly_paired job history; come = comes_as_sent job history played (sends_are job history played) }
 
+-- a confirmed send completes after its receive
+confirmed_after_received : (job : Job) (history : List Entry) → Lawful job history → ConfirmedAfterReceived job history
+confirmed_after_received job history lawful newer e before split = (lawful_at job newer e before (subst (Lawful job) split lawful)).5
+
 -- the headline, where what settles is complete and what arrives passes each test
 pub headline_where : ((job : Job) → IsTrue (is_fair law_ops job) → AllFree job) → Completes → Headline
 headline_where free completes job report fair right =
@@ -40,6 +47,8 @@ headline_where free completes job report fair right =
       polled = polled_as_ended job report.history fair (free job fair) right.lawful;
       polled_once = polled_once job report.history fair (free job fair) right.lawful;
       message_once = message_once job report.history fair (free job fair) right.lawful;
+      confirmed = confirmed_after_received job report.history right.lawful;
+      confirmed_polls = confirmed_when_polled job report.history fair (free job fair) right.lawful;
       drops = drops_are_other job report.history fair right.lawful;
       counted = counts_drops job report right;
       again = again_where_full job report right;

@@ -19,12 +19,12 @@ use Rattle.rdm_wire.specs.declared.ReadData.{ReadData}
 use Rattle.rdm_model.specs.declared.job.Job.{Job}
 use Rattle.rdm_model.specs.declared.entry.Entry.{Entry}
 use Rattle.rdm_model.specs.Deeds.{Took, Asks}
-use Rattle.rdm_model.specs.Owns.{own_of}
+use Rattle.rdm_model.specs.Beginnings.{own_of}
 use Rattle.rdm_model.specs.Parts.{carried_pieces}
 use Rattle.rdm_model.specs.Receives.{is_filled}
 use Rattle.rdm_model.specs.Sends.{Sent}
 use Rattle.rdm_model.specs.Dues.{is_read, packet_piece, pieces_in}
-use Rattle.rdm_model.specs.Named.{read_from}
+use Rattle.rdm_model.specs.Targets.{read_from}
 use Rattle.rdm_model.specs.Lawful.{life_deeds}
 use Rattle.rdm_model.proofs.Rows.{row_apart}
 use Rattle.rdm_model.proofs.Opens.{openings_in_row, openings_bytes, opened_bytes}

@@ -16,7 +16,7 @@ use Rattle.rdm_wire.specs.declared.ReadAsk.{ReadAsk}
 use Rattle.rdm_model.specs.declared.job.Job.{Job}
 use Rattle.rdm_model.specs.declared.entry.Entry.{Entry}
 use Rattle.rdm_model.specs.Deeds.{Deed, Took, Asks}
-use Rattle.rdm_model.specs.Owns.{own_of}
+use Rattle.rdm_model.specs.Beginnings.{own_of}
 use Rattle.rdm_model.specs.Reads.{asks_of, asked_by}
 use Rattle.rdm_model.specs.Sends.{Sent}
 use Rattle.rdm_model.specs.Replies.{asks_for}

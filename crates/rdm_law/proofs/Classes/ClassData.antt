@@ -21,13 +21,13 @@ use Rattle.rdm_wire.specs.declared.ReadData.{ReadData}
 use Rattle.rdm_model.specs.declared.job.Job.{Job}
 use Rattle.rdm_model.specs.declared.entry.Entry.{Entry}
 use Rattle.rdm_model.specs.Deeds.{Deed, Item, Spelled, Gives}
-use Rattle.rdm_model.specs.Owns.{own_of}
+use Rattle.rdm_model.specs.Beginnings.{own_of}
 use Rattle.rdm_model.specs.Jobs.{is_fair, law_ops, limits_fit, is_within}
 use Rattle.rdm_model.specs.Parts.{piece_by, carried_pieces, has_landed}
 use Rattle.rdm_model.specs.Receives.{is_filled}
 use Rattle.rdm_model.specs.Grants.{data_room}
 use Rattle.rdm_model.specs.Sends.{Sent}
-use Rattle.rdm_model.specs.Named.{live_pair, is_long_shape, is_read_shape, has_shape, is_no_op}
+use Rattle.rdm_model.specs.Targets.{live_pair, is_long_shape, is_read_shape, has_shape, is_no_op}
 use Rattle.rdm_model.specs.Dues.{is_read}
 use Rattle.rdm_model.specs.Currents.{is_forgotten}
 use Rattle.rdm_model.specs.Lawful.{life_deeds}

@@ -22,14 +22,14 @@ use Rattle.rdm_wire.specs.declared.ReadData.{ReadData}
 use Rattle.rdm_model.specs.declared.job.Job.{Job}
 use Rattle.rdm_model.specs.declared.entry.Entry.{Entry}
 use Rattle.rdm_model.specs.Deeds.{Deed, Took, Spelled, Asks, Gives}
-use Rattle.rdm_model.specs.Owns.{Own, Messages, own_of}
+use Rattle.rdm_model.specs.Beginnings.{Own, Messages, own_of}
 use Rattle.rdm_model.specs.Currents.{is_forgotten}
 use Rattle.rdm_model.specs.Reads.{asks_of, asked_by, asked_bytes}
 use Rattle.rdm_model.specs.Replies.{Reply}
 use Rattle.rdm_model.specs.Scenes.{Scene}
 use Rattle.rdm_model.specs.Sends.{Sent}
 use Rattle.rdm_model.specs.Dues.{progress, is_read, ends_send}
-use Rattle.rdm_model.specs.Named.{live_send, read_from, is_read_send, is_no_op}
+use Rattle.rdm_model.specs.Targets.{live_send, read_from, is_read_send, is_no_op}
 use Rattle.rdm_model.specs.Classes.{is_number, is_early_end, is_mismatch}
 use Rattle.rdm_model.specs.Lawful.{life_deeds}
 use Rattle.rdm_model.proofs.Numbers.{made, sent_is_of}
@@ -149,7 +149,8 @@ owed_gives own ms (d ∷ before) r n (inl (inl x)) is = (let e = x.gives_is in c
 owed_gives own ms (d ∷ before) r n (inl (inr (inl x))) is = (let e = x.gives_is in cc)
 owed_gives own ms (d ∷ before) r n (inl (inr (inr (inl x)))) is = (let e = x.gives_is in cc)
 owed_gives own ms (d ∷ before) r n (inl (inr (inr (inr (inl x))))) is = (let e = x.gives_is in cc)
-owed_gives own ms (d ∷ before) r n (inl (inr (inr (inr (inr x))))) is =
+owed_gives own ms (d ∷ before) r n (inl (inr (inr (inr (inr (inl x)))))) is = (let e = x.gives_is in cc)
+owed_gives own ms (d ∷ before) r n (inl (inr (inr (inr (inr (inr x)))))) is =
     (record { recv_id = x.ask.recv_id; at = x.ask.at; bytes = take x.ask.length (drop x.ask.at x.sent.message.bytes) }, x.is)
 
 -- a number that is that one
@@ -190,7 +191,7 @@ none_waits job history i j send recv played e r m to gives =
     let low = at.from in
     let high = at.to in
     let clash : Clash r went.reply =
-    inr (inr (inr (record {
+    inr (inr (inr (inl (record {
       to_is = to ∙ sym went.to_is;
       gives_is = gives ∙ ap (λ (y : Sent). Some y.number) (sym at.given.sent_is) ∙ sym went.of.gives_is;
       data' = g.0;
@@ -198,7 +199,7 @@ none_waits job history i j send recv played e r m to gives =
       data'' = at.given.data';
       is' = went.item_is;
       share = (of.ask.at, omega arith, omega arith, omega arith, omega arith);
-    }))) in
+    })))) in
     waits_once own r went.reply at.due' log (own_life job history played j) m went.was_due clash
 
 -- an end that arrives is the first of its send

@@ -1,20 +1,13 @@
 -- What arrives passes each test that asks more than lives.
 use Rattle.std.proofs.Common.{◌≡◌, ℕ, false, List, refl}
 use Rattle.rdm_num.specs.declared.numbers.Life.{Life}
-use Rattle.rdm_num.specs.declared.numbers.MsgNo.{MsgNo}
-use Rattle.rdm_num.specs.declared.numbers.Connid.{Connid}
 use Rattle.rdm_pkt.specs.declared.Packet.TheVariants.{Rtm, Cts, CtsData, Eor, Handshake, Receipt}
 use Rattle.rdm_wire.specs.declared.Datagram.{Datagram}
 use Rattle.rdm_model.specs.declared.job.Job.{Job}
 use Rattle.rdm_model.specs.declared.entry.Entry.{Entry}
 use Rattle.rdm_model.specs.Deeds.{Deed, Item, Spelled, Gives}
-use Rattle.rdm_model.specs.Owns.{own_of}
-use Rattle.rdm_model.specs.Lawful.{life_deeds}
-use Rattle.rdm_model.specs.Named.{is_no_op}
+use Rattle.rdm_model.specs.Targets.{is_no_op}
 use Rattle.rdm_model.specs.Classes.{is_mismatch}
-use Rattle.rdm_law.proofs.Replies.Causes.{owed_receipt}
-use Rattle.rdm_law.proofs.Accounts.Known.{account}
-use Rattle.rdm_law.proofs.Accounts.Named.{went_reply}
 use Rattle.rdm_law.proofs.Accounts.Arrives.{Arrives, arriving_scene}
 use Rattle.rdm_law.proofs.Classes.ClassGrants.{cts_op_free, cts_agrees, data_agrees}
 use Rattle.rdm_law.proofs.Classes.ClassLives.{AllFree}
@@ -24,13 +17,7 @@ use Rattle.rdm_law.proofs.Classes.ClassOverlap.{overlap_free}
 use Rattle.rdm_law.proofs.Classes.ClassHeads.{rtm_agrees, shake_agrees}
 use Rattle.rdm_law.proofs.Classes.ClassData.{data_op_free, given_op_free}
 use Rattle.rdm_law.proofs.Classes.ClassEnds.{end_has_op, end_agrees}
-
--- no receipt arrives
-no_receipt : (job : Job) (history : List Entry) (to from : Life) (number : MsgNo) (connid : Connid) (d : Datagram)
-    → Arrives job history to from (Spelled (Receipt number connid)) d → ⊥
-no_receipt job history to from number connid d a =
-    let r = went_reply job history to from (Receipt number connid) d a.taken (λ never. never) in
-    owed_receipt (own_of job from) (account job history from) (life_deeds job history from) r.reply number connid r.owed r.is
+use Rattle.rdm_law.proofs.Classes.ClassReceipts.{receipt_has_op, receipt_agrees}
 
 -- what arrives names a live operation
 has_op : (job : Job) (history : List Entry) (to from : Life) (item : Item) (d : Datagram) → Arrives job history to from item d → (ports : ℕ) (port_log : List Deed)
@@ -39,7 +26,7 @@ unfolding is_no_op
 has_op job history to from (Spelled (Cts send recv size connid)) d a ports port_log = cts_op_free job history to from send recv size connid d ports port_log a
 has_op job history to from (Spelled (CtsData recv offset connid bytes)) d a ports port_log = data_op_free job history to from recv offset connid bytes d a ports port_log
 has_op job history to from (Spelled (Eor send recv connid)) d a ports port_log = end_has_op job history to from send recv connid d ports port_log a
-has_op job history to from (Spelled (Receipt number connid)) d a ports port_log = absurd (no_receipt job history to from number connid d a)
+has_op job history to from (Spelled (Receipt number connid)) d a ports port_log = receipt_has_op job history to from number connid d ports port_log a
 has_op job history to from (Gives data') d a ports port_log = given_op_free job history to from data' d a ports port_log
 has_op job history to from _ d a ports port_log = refl
 
@@ -51,6 +38,7 @@ agrees job history to from (Spelled (Rtm number tag confirm opt form)) d a ports
 agrees job history to from (Spelled (CtsData recv offset connid bytes)) d a ports port_log = data_agrees job history to from recv offset connid bytes d ports port_log a
 agrees job history to from (Spelled (Cts send recv size connid)) d a ports port_log = cts_agrees job history to from send recv size connid d ports port_log a
 agrees job history to from (Spelled (Eor send recv connid)) d a ports port_log = end_agrees job history to from send recv connid d ports port_log a
+agrees job history to from (Spelled (Receipt number connid)) d a ports port_log = receipt_agrees job history to from number connid d ports port_log a
 agrees job history to from (Spelled (Handshake words connid raw)) d a ports port_log = shake_agrees job history to from words connid raw d a ports port_log
 agrees job history to from _ d a ports port_log = refl
 

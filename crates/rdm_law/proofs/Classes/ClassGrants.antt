@@ -19,16 +19,16 @@ use Rattle.rdm_match.specs.Matcher.{Pair}
 use Rattle.rdm_model.specs.declared.job.Job.{Job}
 use Rattle.rdm_model.specs.declared.entry.Entry.{Entry}
 use Rattle.rdm_model.specs.Deeds.{Deed, Spelled}
-use Rattle.rdm_model.specs.Owns.{own_of}
+use Rattle.rdm_model.specs.Beginnings.{own_of}
 use Rattle.rdm_model.specs.Currents.{is_forgotten}
 use Rattle.rdm_model.specs.Grants.{Grant, grants}
 use Rattle.rdm_model.specs.Sends.{Sent}
 use Rattle.rdm_model.specs.Dues.{pieces_in}
 use Rattle.rdm_model.specs.Scenes.{Scene}
-use Rattle.rdm_model.specs.Named.{live_send, live_pair, is_long, is_long_send, is_no_op}
+use Rattle.rdm_model.specs.Targets.{live_send, live_pair, is_long, is_long_send, is_no_op}
 use Rattle.rdm_model.specs.Classes.{passes_grants, allowed_bytes, is_wrong_grant, is_mismatch}
 use Rattle.rdm_model.specs.Lawful.{life_deeds}
-use Rattle.rdm_law.proofs.Accounts.Wired.{Played}
+use Rattle.rdm_law.proofs.Accounts.Wired.{Played, own_life}
 use Rattle.rdm_law.proofs.Accounts.Known.{account, sends_of}
 use Rattle.rdm_law.proofs.Accounts.Named.{send_number, head_length}
 use Rattle.rdm_law.proofs.Accounts.Chains.{GrantKnown, grants_known, data_went, data_known, pair_one}
@@ -93,7 +93,7 @@ grant_live job history j i send recv size connid d ports port_log a g =
     let w = g.within in
     let b = g.has_byte in
     live_send_is (arriving_scene job history j ports port_log) g.sent i send.0 g.granting.sent g.granting.to_is g.number_is
-    (long_live (own_of job j) (account job history j) log g.sent g.granting.sent g.granting.long f (omega arith))
+    (long_live (own_of job j) log g.sent (own_life job history a.played j) g.granting.sent g.granting.long f (omega arith))
 
 -- a long send is one that takes grants
 long_is : (kind : Kind) → kind ≡ LongCts → is_long kind ≡ true

@@ -13,13 +13,13 @@ use Rattle.rdm_wire.specs.declared.ReadAsk.{ReadAsk}
 use Rattle.rdm_model.specs.declared.job.Job.{Job}
 use Rattle.rdm_model.specs.declared.entry.Entry.{Entry}
 use Rattle.rdm_model.specs.Deeds.{Deed, Item, Asks}
-use Rattle.rdm_model.specs.Owns.{own_of}
+use Rattle.rdm_model.specs.Beginnings.{own_of}
 use Rattle.rdm_model.specs.Currents.{is_forgotten}
 use Rattle.rdm_model.specs.Reads.{asks_of}
 use Rattle.rdm_model.specs.Scenes.{Scene}
 use Rattle.rdm_model.specs.Sends.{Sent}
-use Rattle.rdm_model.specs.Dues.{progress, is_read, ends_send, is_over}
-use Rattle.rdm_model.specs.Named.{live_send, read_from, is_in_iov, is_good_ask, is_bad_key}
+use Rattle.rdm_model.specs.Dues.{progress, is_read, ends_send, is_complete, is_over}
+use Rattle.rdm_model.specs.Targets.{live_send, read_from, is_in_iov, is_good_ask, is_bad_key}
 use Rattle.rdm_model.specs.Lawful.{life_deeds}
 use Rattle.rdm_law.proofs.Replies.Asks.{iov_bytes}
 use Rattle.rdm_law.proofs.Fits.AnswersFit.{ranges_fit}
@@ -65,7 +65,7 @@ ask_unended job history j i a d h s =
 -- a read send is not over while its life is known and no end of it was taken
 pub read_over : (log : List Deed) (pushed : List Packet) (s : Sent) → is_forgotten log s.to ≡ false → is_read s.kind ≡ true → list_any (ends_send s.to s.number) log ≡ false
     → is_over log pushed s ≡ false
-unfolding is_over
+unfolding is_over is_complete
 read_over log pushed s f r e = rw (f, r, e) refl
 
 -- the life whose datagram arrives is not forgotten

@@ -17,10 +17,10 @@ use Rattle.rdm_model.specs.declared.answer.Handled.{Handled}
 use Rattle.rdm_model.specs.declared.entry.Entry.{Entry}
 use Rattle.rdm_model.specs.declared.entry.Act.TheVariants.{Handle}
 use Rattle.rdm_model.specs.Deeds.{Deed, Item, item_of, log_of, open_life, is_connid}
-use Rattle.rdm_model.specs.Owns.{own_of, port_count}
+use Rattle.rdm_model.specs.Beginnings.{own_of, port_count}
 use Rattle.rdm_model.specs.Currents.{current}
 use Rattle.rdm_model.specs.Sources.{is_other, is_malformed, has_raw}
-use Rattle.rdm_model.specs.Named.{is_bad_key, is_no_op}
+use Rattle.rdm_model.specs.Targets.{is_bad_key, is_no_op}
 use Rattle.rdm_model.specs.Scenes.{Scene, scene}
 use Rattle.rdm_model.specs.Classes.{is_mismatch, is_overlap, item_class, body_class, class_of, body_lives_class, lives_class}
 use Rattle.rdm_model.specs.Local.{own_scene}

@@ -24,12 +24,12 @@ use Rattle.rdm_wire.specs.declared.ReadData.{ReadData}
 use Rattle.rdm_model.specs.declared.job.Job.{Job}
 use Rattle.rdm_model.specs.declared.entry.Entry.{Entry}
 use Rattle.rdm_model.specs.Deeds.{Deed, Item, Spelled, Gives}
-use Rattle.rdm_model.specs.Owns.{own_of}
+use Rattle.rdm_model.specs.Beginnings.{own_of}
 use Rattle.rdm_model.specs.Heard.{heard_head, is_heard}
 use Rattle.rdm_model.specs.Parts.{piece_by, carried_pieces}
 use Rattle.rdm_model.specs.Sends.{Sent}
-use Rattle.rdm_model.specs.Named.{live_pair}
-use Rattle.rdm_model.specs.Classes.{is_taken, is_taken_pair, repeats, is_overlap}
+use Rattle.rdm_model.specs.Targets.{live_pair}
+use Rattle.rdm_model.specs.Classes.{came_in_part, came_in_part_of, repeats, is_overlap}
 use Rattle.rdm_model.specs.Local.{heard_by}
 use Rattle.rdm_model.specs.Lawful.{life_deeds}
 use Rattle.rdm_model.specs.Dues.{Sends}
@@ -75,8 +75,8 @@ heard_known job history to from n h played e =
 -- bytes that arrive were not taken
 pub not_taken : (job : Job) (history : List Entry) (to from : Life) (n : ℕ) (x : Piece) (item : Item) (d : Datagram) (ports : ℕ) (port_log : List Deed) (a : Arrives job history to from item d)
     → PieceOf job history to from n x a.taken.place → HeadKnown job history to from n
-    → is_taken (arriving_scene job history to ports port_log) from n x.offset (length x.bytes) ≡ false
-unfolding is_taken
+    → came_in_part (arriving_scene job history to ports port_log) from n x.offset (length x.bytes) ≡ false
+unfolding came_in_part
 not_taken job history to from n x item d ports port_log a p k =
     let same : p.known.sent ≡ k.known.sent = known_one job history to from n p.known k.known in
     let size : ((account job history to).head from n).length ≡ length k.known.sent.message.bytes = ap (λ (h : Head). h.length) k.head_is ∙ head_length job.limits k.known.sent.message k.known.sent.kind in
@@ -89,14 +89,14 @@ not_taken job history to from n x item d ports port_log a p k =
 pub pair_not_taken : (job : Job) (history : List Entry) (to from : Life) (recv : ℕ) (x : Piece) (item : Item) (d : Datagram) (ports : ℕ) (port_log : List Deed) (a : Arrives job history to from item d)
     → ((n : ℕ) → is_pair (pairs_of job history to) recv from n ≡ true → piece_by (pairs_of job history to) from n item ≡ Some x)
     → (o : Option Pair) → live_pair (arriving_scene job history to ports port_log) from recv ≡ o
-    → is_taken_pair (arriving_scene job history to ports port_log) x.offset (length x.bytes) o ≡ false
-unfolding is_taken_pair
+    → came_in_part_of (arriving_scene job history to ports port_log) x.offset (length x.bytes) o ≡ false
+unfolding came_in_part_of
 pair_not_taken job history to from recv x item d ports port_log a brings None h = refl
 pair_not_taken job history to from recv x item d ports port_log a brings (Some p) h =
     let l = live_pair_parts (arriving_scene job history to ports port_log) from recv p h in
     let is = pair_passes (pairs_of job history to) p recv from p.message.no.0 l.member l.recv_is l.life_is refl in
     let piece = item_piece job history to from p.message.no.0 x item d a.played a.taken (brings p.message.no.0 is) in
-    subst (λ (y : Life). is_taken (arriving_scene job history to ports port_log) y p.message.no.0 x.offset (length x.bytes) ≡ false) (sym l.life_is)
+    subst (λ (y : Life). came_in_part (arriving_scene job history to ports port_log) y p.message.no.0 x.offset (length x.bytes) ≡ false) (sym l.life_is)
     (not_taken job history to from p.message.no.0 x item d ports port_log a piece (pair_head job history to from p a.played l.member l.life_is))
 
 -- a form that is no segment

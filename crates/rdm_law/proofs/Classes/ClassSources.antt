@@ -2,7 +2,7 @@
 use Rattle.rdm_model.proofs.Sending.{grant_taken}
 use Rattle.std.specs.Bool.{then_some}
 use Rattle.rdm_law.proofs.Replies.Seen.{owed_seen}
-use Rattle.rdm_law.proofs.Lives.Held.{sent_current, took_current}
+use Rattle.rdm_law.proofs.Lives.Held.{sent_current, took_current, inserted_current}
 use Rattle.rdm_pkt.specs.Openings.{says_confirm}
 use Rattle.rdm_pkt.specs.declared.Form.{Form}
 use Rattle.rdm_model.specs.Currents.{current}
@@ -21,11 +21,11 @@ use Rattle.rdm_wire.specs.declared.Datagram.{Datagram}
 use Rattle.rdm_model.specs.declared.job.Job.{Job}
 use Rattle.rdm_model.specs.declared.entry.Entry.{Entry}
 use Rattle.rdm_model.specs.Deeds.{Deed, Took, Item, Spelled}
-use Rattle.rdm_model.specs.Owns.{Own, Messages, Heads, own_of}
+use Rattle.rdm_model.specs.Beginnings.{Own, Messages, Heads, own_of}
 use Rattle.rdm_model.specs.Sources.{is_port_of, is_raw_of, is_connid_of, names_source, is_malformed, has_raw}
 use Rattle.rdm_model.specs.Sends.{Sent, known_by, known_word, wants_raw, opt_for, sends}
 use Rattle.rdm_model.specs.Grants.{grants}
-use Rattle.rdm_model.specs.Replies.{Reply}
+use Rattle.rdm_model.specs.Replies.{Reply, greeting}
 use Rattle.rdm_model.specs.Lawful.{life_deeds}
 use Rattle.rdm_model.specs.Local.{heard_by}
 use Rattle.rdm_model.specs.Dues.{Sends}
@@ -34,7 +34,7 @@ use Rattle.rdm_model.proofs.Opens.{opening_is}
 use Rattle.rdm_law.proofs.Lives.Lives.{WasDueAt}
 use Rattle.rdm_law.proofs.Accounts.Wired.{Played, TakenDue, taken_pushed}
 use Rattle.rdm_law.proofs.Accounts.Went.{went}
-use Rattle.rdm_law.proofs.Replies.Owed.{NewReply, OwedIn}
+use Rattle.rdm_law.proofs.Replies.Owed.{MetBy, NewReply, OwedIn}
 use Rattle.rdm_law.proofs.Accounts.WasDue.{due_member, due_is}
 use Rattle.rdm_lists.proofs.Members.{member-append_right}
 use Rattle.rdm_lists.proofs.Options.{or_else_cases}
@@ -62,14 +62,22 @@ sent_names own s p k log h =
       | inr a ↦ rw a.is (eq-eqb own.life.connid.0 own.life.connid.0 refl)
     ]
 
+-- a greeting has the own port, if any
+own_port : (own : Own) (d : Deed) (life : Life) (raw : Option PortNo) → MetBy own d life raw → is_port_of own.life raw ≡ true
+unfolding is_port_of
+own_port own d life raw (inl a) = rw a.2 refl
+own_port own d life raw (inr a) = rw a.1 (eq-eqb own.life.port.0 own.life.port.0 refl)
+
 -- a reply that a deed makes owed names its life
 new_names : (own : Own) (heads : Heads) (sents : List Sent) (d : Deed) (before : List Deed) (r : Reply) → NewReply own heads sents d before r → is_malformed own.life r.item ≡ false
 unfolding is_malformed names_source is_port_of
-new_names own heads sents d before r (inl n) = rw n.is (not_from_true _ (and_from (own.life.connid.0 == own.life.connid.0) true (eq-eqb own.life.connid.0 own.life.connid.0 refl) refl))
+new_names own heads sents d before r (inl n) =
+    rw n.is (not_from_true _ (and_from (own.life.connid.0 == own.life.connid.0) (is_port_of own.life n.raw) (eq-eqb own.life.connid.0 own.life.connid.0 refl) (own_port own d r.to n.raw n.how)))
 new_names own heads sents d before r (inr (inl n)) = rw n.is refl
 new_names own heads sents d before r (inr (inr (inl n))) = rw n.is (not_from_true (own.life.connid.0 == own.life.connid.0) (eq-eqb own.life.connid.0 own.life.connid.0 refl))
 new_names own heads sents d before r (inr (inr (inr (inl n)))) = rw n.is (not_from_true (own.life.connid.0 == own.life.connid.0) (eq-eqb own.life.connid.0 own.life.connid.0 refl))
-new_names own heads sents d before r (inr (inr (inr (inr n)))) = rw n.is refl
+new_names own heads sents d before r (inr (inr (inr (inr (inl n))))) = rw n.is (not_from_true (own.life.connid.0 == own.life.connid.0) (eq-eqb own.life.connid.0 own.life.connid.0 refl))
+new_names own heads sents d before r (inr (inr (inr (inr (inr n))))) = rw n.is refl
 
 -- a reply names its life
 owed_names : (own : Own) (ms : Messages) (r : Reply) (log : List Deed) → OwedIn own ms r log → is_malformed own.life r.item ≡ false
@@ -152,6 +160,11 @@ sent_known own s p k log h =
           inr (Spelled (Cts (op_id s.number) (op_id a.grant.recv) a.grant.size g.0), g.1))
     ]
 
+-- a greeting has a raw address where it says so
+greeting_raw : (own : Own) (port : PortNo) → has_raw (greeting own (Some port)) ≡ true
+unfolding has_raw
+greeting_raw own port = refl
+
 -- what was pushed has a raw address, or its life took something from the one that it goes to
 pub raw_or_heard : (job : Job) (history : List Entry) (to from : Life) (item : Item) (d : Datagram) → TakenDue job history to from item d
     → (has_raw item ≡ true) ⊎ ((x : Item) × Member (Took to x) (life_deeds job history from))
@@ -163,7 +176,10 @@ raw_or_heard job history to from item d t =
       ]
       | inr r ↦ (
           let s = owed_seen (own_of job from) (heard_by (own_of job from).limits.first (life_deeds job history from)) r.reply (life_deeds job history from) r.owed in
-          inr (s.0, subst (λ (l : Life). Member (Took l s.0) (life_deeds job history from)) r.to_is s.1))
+          elim s [
+            | inl a ↦ inr (a.0, subst (λ (l : Life). Member (Took l a.0) (life_deeds job history from)) r.to_is a.1)
+            | inr a ↦ inl (ap has_raw (sym r.is ∙ a.1) ∙ greeting_raw (own_of job from) (own_of job from).life.port)
+          ])
     ]
 
 -- a life that pushed something to another knows its port
@@ -177,7 +193,8 @@ pushed_knows job history to from item d t =
           (sent_current own (heard_by own.limits.first log) log s.sent (due_member own s.sent s.packet t.place log s.was_due))
       | inr r ↦ (
           let s = owed_seen own (heard_by own.limits.first log) r.reply log r.owed in
-          subst (λ (l : Life). is_some (current log l.port.0) ≡ true) r.to_is (took_current log r.reply.to s.0 s.1))
+          subst (λ (l : Life). is_some (current log l.port.0) ≡ true) r.to_is
+          (elim s [ inl a ↦ took_current log r.reply.to a.0 a.1 | inr a ↦ inserted_current log r.reply.to a.0 ]))
     ]
 
 -- what is there is not none

@@ -8,7 +8,7 @@ use Rattle.rdm_model.specs.Deeds.{Item, is_connid}
 use Rattle.rdm_model.specs.Currents.{current}
 use Rattle.rdm_model.specs.Scenes.{Scene}
 use Rattle.rdm_model.specs.Sources.{is_other, is_malformed, has_raw}
-use Rattle.rdm_model.specs.Named.{is_bad_key, is_no_op}
+use Rattle.rdm_model.specs.Targets.{is_bad_key, is_no_op}
 use Rattle.rdm_model.specs.Classes.{is_mismatch, is_overlap, item_class}
 use Rattle.rdm_law.proofs.Lives.Lives.{first_none}
 

@@ -1,5 +1,5 @@
 -- An end that a life took is of the pair of its send's message, whose receive is filled.
-use Rattle.std.proofs.Common.{◌≡◌, ℕ, true, List, [], ◌∷◌, refl, sym, ◌∙◌, ap, subst}
+use Rattle.std.proofs.Common.{◌≡◌, ℕ, Bool, true, false, List, [], ◌∷◌, refl, sym, ◌∙◌, ap, subst}
 use Rattle.std.specs.Prelude.{nat_eq}
 use Rattle.std.specs.List.{list_any}
 use Rattle.std.proofs.lemmas.Bool.{and_parts, eqb-true}
@@ -7,6 +7,7 @@ use Rattle.rdm_lists.specs.Lists.{Member}
 use Rattle.rdm_num.specs.Lives.{same_life, op_id}
 use Rattle.rdm_num.specs.declared.numbers.Life.{Life}
 use Rattle.rdm_num.specs.declared.numbers.OpId.{OpId}
+use Rattle.rdm_num.specs.declared.numbers.MsgNo.{MsgNo}
 use Rattle.rdm_num.specs.declared.numbers.Connid.{Connid}
 use Rattle.rdm_num.specs.declared.limits.EpLimits.{EpLimits}
 use Rattle.rdm_num.specs.declared.head.Head.{Head}
@@ -20,12 +21,12 @@ use Rattle.rdm_wire.specs.declared.Datagram.{Datagram}
 use Rattle.rdm_model.specs.declared.job.Job.{Job}
 use Rattle.rdm_model.specs.declared.entry.Entry.{Entry}
 use Rattle.rdm_model.specs.Deeds.{Deed, Took, Spelled}
-use Rattle.rdm_model.specs.Owns.{Own, own_of}
-use Rattle.rdm_model.specs.Replies.{end_for}
+use Rattle.rdm_model.specs.Beginnings.{Own, own_of}
+use Rattle.rdm_model.specs.Replies.{receipt_for, end_for}
 use Rattle.rdm_model.specs.Receives.{is_filled}
 use Rattle.rdm_model.specs.Dues.{is_read, ends_send}
 use Rattle.rdm_model.specs.Lawful.{life_deeds}
-use Rattle.rdm_law.proofs.Replies.Owed.{shape_in, recv_in}
+use Rattle.rdm_law.proofs.Replies.Owed.{shape_in, confirm_in, ends_in, recv_in}
 use Rattle.rdm_law.proofs.Replies.Causes.{owed_end}
 use Rattle.rdm_law.proofs.Accounts.Wired.{Played, TakenDue, Taken, taken_pushed}
 use Rattle.rdm_law.proofs.Accounts.Known.{account, sends_of, Known}
@@ -34,14 +35,17 @@ use Rattle.rdm_lists.proofs.Members.{list_any_member}
 use Rattle.rdm_num.proofs.Lives.{same_life-true}
 
 -- a message whose receive owes an end is read, and the end names its send
-end_shape : (own : Own) (limits : EpLimits) (m : Message) (kind : Kind) (recv send recv' : OpId) (connid : Connid)
-    → end_for own (shape_by limits m kind) recv ≡ Spelled (Eor send recv' connid) ∷ [] → (m.send ≡ send) × (is_read kind ≡ true)
-unfolding end_for shape_by is_read
-end_shape own limits m Eager recv send recv' connid h = cc
-end_shape own limits m Medium recv send recv' connid h = cc
-end_shape own limits m LongCts recv send recv' connid h = cc
-end_shape own limits m LongRead recv send recv' connid h = (cc, refl)
-end_shape own limits m (Runt runt) recv send recv' connid h = (cc, refl)
+end_shape : (own : Own) (limits : EpLimits) (m : Message) (kind : Kind) (confirm : Bool) (number : MsgNo) (recv send recv' : OpId) (connid : Connid)
+    → end_for own (shape_by limits m kind) confirm number recv ≡ Spelled (Eor send recv' connid) ∷ [] → (m.send ≡ send) × (is_read kind ≡ true)
+unfolding end_for receipt_for shape_by is_read
+end_shape own limits m Eager true number recv send recv' connid h = cc
+end_shape own limits m Eager false number recv send recv' connid h = cc
+end_shape own limits m Medium true number recv send recv' connid h = cc
+end_shape own limits m Medium false number recv send recv' connid h = cc
+end_shape own limits m LongCts true number recv send recv' connid h = cc
+end_shape own limits m LongCts false number recv send recv' connid h = cc
+end_shape own limits m LongRead confirm number recv send recv' connid h = (cc, refl)
+end_shape own limits m (Runt runt) confirm number recv send recv' connid h = (cc, refl)
 
 -- the pair of an end, and the send that it ends
 pub record EndSend (job : Job) (history : List Entry) (i j : Life) (send recv : ℕ) : Type 0 where
@@ -61,13 +65,13 @@ end_send_at : (job : Job) (history : List Entry) (i j source : Life) (send recv 
     → p.message.life ≡ source → (k : Known job history i source p.message.no.0)
     → (account job history i).head p.message.life p.message.no.0 ≡ message_head job.limits k.sent.message k.sent.kind
     → is_filled (own_of job i).limits.first (account job history i).head (life_deeds job history i) p ≡ true
-    → end_for (own_of job i) (shape_in (account job history i).head p) (recv_in p) ≡ Spelled (Eor send recv connid) ∷ [] → recv.0 ≡ p.recv.id.0 → EndSend job history i j send.0 recv.0
+    → ends_in (own_of job i) (account job history i).head p ≡ Spelled (Eor send recv connid) ∷ [] → recv.0 ≡ p.recv.id.0 → EndSend job history i j send.0 recv.0
 end_send_at job history i j source send recv connid p e m l k head filled shape r =
     let member : Member k.sent (sends_of job history j) = subst (λ (x : Life). Member k.sent (sends_of job history x)) e k.member in
     let s : shape_in (account job history i).head p ≡ shape_by job.limits k.sent.message k.sent.kind =
     ap (λ (x : Head). x.shape) head ∙ head_shape job.limits k.sent.message k.sent.kind in
-    let is = end_shape (own_of job i) job.limits k.sent.message k.sent.kind (recv_in p) send recv connid
-    (subst (λ (x : Shape). end_for (own_of job i) x (recv_in p) ≡ Spelled (Eor send recv connid) ∷ []) s shape) in
+    let is = end_shape (own_of job i) job.limits k.sent.message k.sent.kind (confirm_in (account job history i).head p) p.message.no (recv_in p) send recv connid
+    (subst (λ (x : Shape). end_for (own_of job i) x (confirm_in (account job history i).head p) p.message.no (recv_in p) ≡ Spelled (Eor send recv connid) ∷ []) s shape) in
     record {
       pair = p;
       member = m;

@@ -16,10 +16,10 @@ use Rattle.rdm_wire.specs.declared.ReadData.{ReadData}
 use Rattle.rdm_model.specs.declared.job.Job.{Job}
 use Rattle.rdm_model.specs.declared.entry.Entry.{Entry}
 use Rattle.rdm_model.specs.Deeds.{Deed, Item, log_of}
-use Rattle.rdm_model.specs.Owns.{Own, Messages, own_of}
+use Rattle.rdm_model.specs.Beginnings.{Own, Messages, own_of}
 use Rattle.rdm_model.specs.Parts.{carried_pieces}
 use Rattle.rdm_model.specs.Sends.{Sent, sends}
-use Rattle.rdm_model.specs.Named.{read_from}
+use Rattle.rdm_model.specs.Targets.{read_from}
 use Rattle.rdm_model.specs.Dues.{Sends, packet_piece, pieces_in, is_read}
 use Rattle.rdm_model.specs.Local.{heard_by}
 use Rattle.rdm_model.specs.Lawful.{life_deeds}
@@ -89,7 +89,7 @@ read_ahead own s p x k log h c r =
     omega arith
 
 -- given bytes lie in what is read
-given_at : (job : Job) (history : List Entry) (to from : Life) (s : Sent) (x : Piece) (k : ℕ) → Played job history → GivenPiece job history to from s x k
+pub given_at : (job : Job) (history : List Entry) (to from : Life) (s : Sent) (x : Piece) (k : ℕ) → Played job history → GivenPiece job history to from s x k
     → (is_read s.kind ≡ true) × (read_from s.kind ≤ x.offset) × (x.offset + length x.bytes ≤ iov_bytes s.message.iov)
 given_at job history to from s x k played g =
     let a = given_known job history to from g.data' k played g.went in
@@ -141,7 +141,7 @@ piece_once job history to from n x y k l place played a b i j =
       | inr u ↦ elim b.how [
         | inl v ↦ absurd (sent_given job history to from b.known.sent a.known.sent y x l k place played (sym same) v u j i)
         | inr v ↦ (
-            let clash : Clash u.went.reply v.went.reply = inr (inr (inr (record {
+            let clash : Clash u.went.reply v.went.reply = inr (inr (inr (inl (record {
               to_is = u.went.to_is ∙ sym v.went.to_is;
               gives_is = u.went.of.gives_is ∙ ap (λ (s : Sent). Some s.number) (u.sent_is ∙ same ∙ sym v.sent_is) ∙ sym v.went.of.gives_is;
               data' = u.data';
@@ -155,7 +155,7 @@ piece_once job history to from n x y k l place played a b i j =
                 subst (λ (p : Piece). p.offset ≤ place) v.piece_is j.0,
                 subst (λ (p : Piece). place < p.offset + length p.bytes) v.piece_is j.1,
               );
-            }))) in
+            })))) in
             reply_once own u.went.reply v.went.reply k l log (own_life job history played from) u.went.was_due v.went.was_due clash)
       ]
     ]

@@ -18,14 +18,14 @@ use Rattle.rdm_pkt.specs.declared.Packet.TheVariants.{Rtm, CtsData}
 use Rattle.rdm_pkt.specs.Heads.{piece_of}
 use Rattle.rdm_match.specs.Matcher.{Pair, is_pair, is_recv}
 use Rattle.rdm_model.specs.Deeds.{Deed, Took, Item, Spelled, Gives}
-use Rattle.rdm_model.specs.Owns.{Own}
+use Rattle.rdm_model.specs.Beginnings.{Own}
 use Rattle.rdm_model.specs.Heard.{is_heard, heard_head}
 use Rattle.rdm_model.specs.Matches.{pairs}
 use Rattle.rdm_model.specs.Receives.{recv_ends, has_ended}
 use Rattle.rdm_model.specs.Parts.{carried_by, carried_pieces}
 use Rattle.rdm_model.specs.Scenes.{Scene}
-use Rattle.rdm_model.specs.Named.{live_pair, has_shape, is_long_shape, is_read_shape, is_no_op}
-use Rattle.rdm_model.specs.Classes.{is_taken, is_taken_pair, repeats, is_overlap}
+use Rattle.rdm_model.specs.Targets.{live_pair, has_shape, is_long_shape, is_read_shape, is_no_op}
+use Rattle.rdm_model.specs.Classes.{came_in_part, came_in_part_of, repeats, is_overlap}
 use Rattle.rdm_model.specs.Lawful.{IsApart}
 use Rattle.rdm_model.specs.Local.{heard_by}
 use Rattle.rdm_model.proofs.Matches.{is_pair_member}
@@ -77,9 +77,9 @@ missing_apart ps size offset len q m h =
     ]) refl
 
 -- bytes that are not taken are missing
-not_taken : (s : Scene) (source : Life) (n offset len : ℕ) → is_taken s source n offset len ≡ false
+not_taken : (s : Scene) (source : Life) (n offset len : ℕ) → came_in_part s source n offset len ≡ false
     → is_missing (carried_pieces s.own.limits.first s.ms.head s.log source n) (s.ms.head source n).length offset len ≡ true
-unfolding is_taken
+unfolding came_in_part
 not_taken s source n offset len h = not-false (is_missing (carried_pieces s.own.limits.first s.ms.head s.log source n) (s.ms.head source n).length offset len) h
 
 -- the pair of a live receive is of that receive and life, and the receive has not ended
@@ -107,8 +107,8 @@ shaped s test (Some p) h = (p, refl)
 
 -- bytes for the pair of a live receive that are not taken are missing from the message that the receive was matched to
 pair_missing : (s : Scene) (from : Life) (recv n offset len : ℕ) (p : Pair) → live_pair s from recv ≡ Some p → is_pair (pairs s.own.limits.first s.ms.head s.log) recv from n ≡ true
-    → is_taken_pair s offset len (Some p) ≡ false → is_missing (carried_pieces s.own.limits.first s.ms.head s.log from n) (s.ms.head from n).length offset len ≡ true
-unfolding is_taken_pair
+    → came_in_part_of s offset len (Some p) ≡ false → is_missing (carried_pieces s.own.limits.first s.ms.head s.log from n) (s.ms.head from n).length offset len ≡ true
+unfolding came_in_part_of
 pair_missing s from recv n offset len p h k t =
     let l = live_pair_parts s from recv p h in
     let q = is_pair_member (pairs s.own.limits.first s.ms.head s.log) recv from n k in
@@ -120,7 +120,7 @@ pair_missing s from recv n offset len p h k t =
 
 -- bytes for a live receive that are not taken are missing
 data_missing : (s : Scene) (from : Life) (recv n offset len : ℕ) (test : Shape → Bool) (o : Option Pair) → live_pair s from recv ≡ o
-    → has_shape s test o ≡ true → is_pair (pairs s.own.limits.first s.ms.head s.log) recv from n ≡ true → is_taken_pair s offset len o ≡ false
+    → has_shape s test o ≡ true → is_pair (pairs s.own.limits.first s.ms.head s.log) recv from n ≡ true → came_in_part_of s offset len o ≡ false
     → is_missing (carried_pieces s.own.limits.first s.ms.head s.log from n) (s.ms.head from n).length offset len ≡ true
 data_missing s from recv n offset len test None h sh k t = (let x = shaped s test None sh in let e = x.1 in cc)
 data_missing s from recv n offset len test (Some p) h sh k t = pair_missing s from recv n offset len p h k t

@@ -11,25 +11,25 @@ use Rattle.rdm_pkt.specs.Choice.{eager_room}
 use Rattle.rdm_model.specs.declared.job.Instr.{Instr}
 use Rattle.rdm_model.specs.declared.job.Instr.TheVariants.{OpenLife, Insert, Send}
 use Rattle.rdm_model.specs.Jobs.{spans_length}
-use Rattle.rdm_model.specs.Owns.{Own, with_pools}
+use Rattle.rdm_model.specs.Beginnings.{Own, with_pools}
 use Rattle.rdm_model.specs.Deeds.{Deed, Did, PushedNote, Pushed, TookNote, Took, Polled, Nothing, Item, Spelled}
 use Rattle.rdm_model.specs.Currents.{inserted_by, last_inserted, seen_by, first_seen, current}
 use Rattle.rdm_model.specs.Heard.{is_heard}
 use Rattle.rdm_lists.proofs.Options.{or_else_cases, then_some_parts}
 
--- the message has room in one packet, whatever its headers
+-- the message has room in one packet, whatever its headers, and asks for no receipt
 abbrev pub FitsOnePacket : EpLimits → SendReq → Type 0
-FitsOnePacket limits req = (raw : Bool) → nat_le (spans_length req.parts) (eager_room (is_some req.tag) (is_some req.cq_data) raw limits) ≡ true
+FitsOnePacket limits req = (req.confirm ≡ false) × ((raw : Bool) → nat_le (spans_length req.parts) (eager_room (is_some req.tag) (is_some req.cq_data) raw limits) ≡ true)
 
--- a message in one packet that was not heard of, or a handshake
+-- a message in one packet that was not heard of and asks for no receipt, or a handshake
 abbrev pub IsEagerItem : Own → List Deed → Life → Item → Type 0
-IsEagerItem own before from (Spelled (Rtm number tag confirm opt (Eager bytes))) = (own.limits.first ≤ number.0) × (is_heard before from number.0 ≡ false)
+IsEagerItem own before from (Spelled (Rtm number tag confirm opt (Eager bytes))) = (confirm ≡ false) × (own.limits.first ≤ number.0) × (is_heard before from number.0 ≡ false)
 IsEagerItem own before from (Spelled (Handshake words connid raw)) = Unit {0}
 IsEagerItem own before from _ = ⊥
 
--- a message of a life in one packet, or a handshake
+-- a message of a life in one packet that asks for no receipt, or a handshake
 abbrev pub IsEagerPacket : (first : ℕ) → Packet → Type 0
-IsEagerPacket first (Rtm number tag confirm opt (Eager bytes)) = first ≤ number.0
+IsEagerPacket first (Rtm number tag confirm opt (Eager bytes)) = (confirm ≡ false) × (first ≤ number.0)
 IsEagerPacket first (Handshake words connid raw) = Unit {0}
 IsEagerPacket first _ = ⊥
 

@@ -9,7 +9,7 @@ use Rattle.rdm_pkt.specs.declared.Kind.{Kind}
 use Rattle.rdm_pkt.specs.declared.Kind.TheVariants.{Eager, LongCts}
 use Rattle.rdm_pkt.specs.Openings.{rtm, openings}
 use Rattle.rdm_model.specs.Deeds.{Deed, Item, Spelled}
-use Rattle.rdm_model.specs.Owns.{Own, Messages, Heads}
+use Rattle.rdm_model.specs.Beginnings.{Own, Messages, Heads}
 use Rattle.rdm_model.specs.Sends.{Sent, sends}
 use Rattle.rdm_model.specs.Replies.{Reply}
 use Rattle.rdm_model.specs.Dues.{Due, Replies, Sends, progress, due}
@@ -24,7 +24,7 @@ use Rattle.rdm_law.proofs.Replies.Answered.{waits_owed}
 use Rattle.rdm_law.proofs.Fits.SentFits.{SentFits}
 use Rattle.rdm_law.proofs.Fits.DuesFit.{reply_no_send}
 use Rattle.rdm_law.proofs.Eager.EagerDeeds.{IsEagerPacket, IsEagerLoad, IsTheLife, AreEagerDeeds}
-use Rattle.rdm_law.proofs.Eager.EagerDues.{IsEagerGoing, all_eager, eager_owed, eager_sends, eager_kind}
+use Rattle.rdm_law.proofs.Eager.EagerDues.{IsEagerHead, IsEagerGoing, all_eager, eager_owed, eager_sends, eager_kind}
 use Rattle.rdm_lists.proofs.Members.{member-append_right}
 use Rattle.rdm_lists.proofs.Places.{slice_get-member}
 
@@ -50,7 +50,7 @@ eager_send own lives ms log t k fit r =
       | inl a ↦
           let m : Member r.packet (openings own.limits s.message s.kind) =
           subst (λ (ps : List Packet). Member r.packet ps) (sym a.1) (member-append_right r.packet (pushed_of own ms log s.number) (r.packet ∷ a.0) (inl refl)) in
-          (p.to, subst (IsEagerPacket own.limits.first) (only_opening own s r.packet kind m) (placed own ms log s r.member).0)
+          (p.to, subst (IsEagerPacket own.limits.first) (only_opening own s r.packet kind m) (p.silent, (placed own ms log s r.member).0))
       | inr a ↦ (let long = a.3.long in absurd (eager_no_long (sym kind ∙ long)))
     ]
 
@@ -65,7 +65,7 @@ eager_due own lives ms log (Replies r) to item k heads fit is goes =
           let same : a.0 ≡ r = (let e = a.2 in cc) in
           let waits : Member r (progress own ms log).replies = subst (λ (x : Reply). Member x (progress own ms log).replies) same (slice_get-member (progress own ms log).replies 0 a.0 a.1) in
           let w = waits_owed own ms log r waits in
-          let plain = eager_owed own lives ms log r (λ source n. ap (λ (hs : Heads). (hs source n).shape) heads ∙ all_eager own lives log k source n) k
+          let plain = eager_owed own lives ms log r (λ source n. subst (λ (hs : Heads). IsEagerHead (hs source n)) (sym heads) (all_eager own lives log k source n)) k
           (owed_in own ms log r (slice_get-member (owed own ms log) w.0.place r w.3)) in
           let to_is : r.to ≡ to = cc in
           let item_is : r.item ≡ item = cc in

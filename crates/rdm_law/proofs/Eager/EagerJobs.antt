@@ -13,13 +13,16 @@ unfolding common_length
 raw_is_longest tagged cq_data true = omega arith
 raw_is_longest tagged cq_data false = omega arith
 
--- what has room beside a raw address has room in one packet, whatever its headers
-pub fits_one_packet : (limits : EpLimits) (req : SendReq) → nat_le (spans_length req.parts) (eager_room (is_some req.tag) (is_some req.cq_data) true limits) ≡ true → FitsOnePacket limits req
-fits_one_packet limits req h = λ raw.
-    let tagged = is_some req.tag in
-    let cq_data = is_some req.cq_data in
-    let a = eager_room_is tagged cq_data raw limits in
-    let b = eager_room_is tagged cq_data true limits in
-    let c = raw_is_longest tagged cq_data raw in
-    let d = leb-true (spans_length req.parts) (eager_room tagged cq_data true limits) h in
-    le-leb (spans_length req.parts) (eager_room tagged cq_data raw limits) (omega arith)
+-- what has room beside a raw address has room in one packet, whatever its headers, where it asks for no receipt
+pub fits_one_packet : (limits : EpLimits) (req : SendReq) → req.confirm ≡ false → nat_le (spans_length req.parts) (eager_room (is_some req.tag) (is_some req.cq_data) true limits) ≡ true → FitsOnePacket limits req
+fits_one_packet limits req silent h = (
+  silent,
+  λ raw.
+      let tagged = is_some req.tag in
+      let cq_data = is_some req.cq_data in
+      let a = eager_room_is tagged cq_data raw limits in
+      let b = eager_room_is tagged cq_data true limits in
+      let c = raw_is_longest tagged cq_data raw in
+      let d = leb-true (spans_length req.parts) (eager_room tagged cq_data true limits) h in
+      le-leb (spans_length req.parts) (eager_room tagged cq_data raw limits) (omega arith),
+)

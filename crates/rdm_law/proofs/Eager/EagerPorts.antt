@@ -26,7 +26,7 @@ use Rattle.rdm_model.specs.declared.entry.Entry.{Entry}
 use Rattle.rdm_model.specs.declared.entry.Act.{Act}
 use Rattle.rdm_model.specs.declared.entry.Act.TheVariants.{Next, Push, Handle, Poll}
 use Rattle.rdm_model.specs.Deeds.{Deed, Did, TookNote, packet_item, item_of, deed_by_next, deed_by_push, deed_by_handle, deed_of, deeds, open_life, of_life}
-use Rattle.rdm_model.specs.Owns.{rank_of}
+use Rattle.rdm_model.specs.Beginnings.{rank_of}
 use Rattle.rdm_model.specs.Notes.{tells_open, opens, knows_open}
 use Rattle.rdm_model.specs.Scenes.{deeds_at}
 use Rattle.rdm_model.specs.Local.{Local}

@@ -4,6 +4,7 @@ use Rattle.rdm_lists.specs.Lists.{Member}
 use Rattle.rdm_num.specs.declared.numbers.Connid.{Connid}
 use Rattle.rdm_num.specs.declared.completion.Completion.{Completion}
 use Rattle.rdm_wire.specs.declared.Datagram.{Datagram}
+use Rattle.rdm_model.specs.Steps.{next_completion}
 use Rattle.rdm_model.specs.declared.job.Job.{Job}
 use Rattle.rdm_model.specs.declared.job.Instr.{Instr}
 use Rattle.rdm_model.specs.declared.job.Choice.{Choice}
@@ -19,7 +20,7 @@ use Rattle.rdm_model.specs.Going.{Going, GoesNote, Goes, going}
 use Rattle.rdm_model.specs.Takes.{handled_answer, is_again_early}
 use Rattle.rdm_model.specs.Settled.{is_worn, is_worn_by, instruction_left}
 use Rattle.rdm_model.specs.Local.{own_scene}
-use Rattle.rdm_model.specs.Worlds.{World, new_world, put_at, scene_in, with_entry, next_act, step_next, datagram_of, with_push, step_push, after_fetch, with_handle, after_handle_at, after_pick, step_handle, with_poll, next_completion, after_choice}
+use Rattle.rdm_model.specs.Worlds.{World, new_world, put_at, scene_in, with_entry, next_act, step_next, datagram_of, with_push, step_push, after_fetch, with_handle, after_handle_at, after_pick, step_handle, with_poll, after_choice}
 use Rattle.rdm_law.proofs.Played.Apart.{put_at_case, removed, member_seam}
 use Rattle.rdm_law.proofs.Played.DeliverSteps.{IsQuiet, one_more, one_more_cases, one_less_was}
 use Rattle.rdm_law.proofs.Played.Sound.{Sound, waiting_in, chosen, entry_of}

@@ -17,7 +17,7 @@ use Rattle.rdm_wire.specs.declared.Body.TheVariants.{Note, Between}
 use Rattle.rdm_wire.specs.declared.Load.TheVariants.{Packet as PacketLoad, Ask, Given}
 use Rattle.rdm_model.specs.declared.job.Job.{Job}
 use Rattle.rdm_model.specs.Deeds.{Deed, Spelled, packet_item, item_of, open_life, of_open_life}
-use Rattle.rdm_model.specs.Owns.{Own, own_of, life_at}
+use Rattle.rdm_model.specs.Beginnings.{Own, own_of, life_at}
 use Rattle.rdm_model.specs.Jobs.{is_fair, law_ops}
 use Rattle.rdm_model.specs.Heard.{heard_head, is_heard}
 use Rattle.rdm_model.specs.Scenes.{scene, deeds_at}
@@ -63,7 +63,7 @@ packet_built : (job : Job) (lives : ℕ → Connid) (w : World) (port : ℕ) (d 
     → IsEagerPacket job.limits.first p → IsEagerItem (own_of job (life_at port o)) (of_open_life o (deeds_at job port (w.logs port))) (life d.src from) (Spelled p)
 unfolding own_of
 packet_built job lives w port d from to bytes (Rtm number tag confirm opt (Eager data')) o fair plain world m body packet h =
-    (h, open_unheard job lives (life d.src from) w port number d o fair plain world m (has_message d from to bytes number tag confirm opt (Eager data') body packet))
+    (h.0, h.1, open_unheard job lives (life d.src from) w port number d o fair plain world m (has_message d from to bytes number tag confirm opt (Eager data') body packet))
 packet_built job lives w port d from to bytes (Handshake words connid raw) o fair plain world m body packet h = tt
 packet_built job lives w port d from to bytes (Rtm number tag confirm opt (Medium size offset data')) o fair plain world m body packet h = h
 packet_built job lives w port d from to bytes (Rtm number tag confirm opt (LongCts size send credits data')) o fair plain world m body packet h = h

@@ -10,7 +10,7 @@ use Rattle.rdm_wire.specs.declared.Body.TheVariants.{Between}
 use Rattle.rdm_model.specs.declared.job.Job.{Job}
 use Rattle.rdm_model.specs.declared.entry.Entry.{Entry}
 use Rattle.rdm_model.specs.Deeds.{Item, Spelled, Asks, Gives, Garbled, open_life, of_life}
-use Rattle.rdm_model.specs.Owns.{rank_of, own_of, life_at, port_count}
+use Rattle.rdm_model.specs.Beginnings.{rank_of, own_of, life_at, port_count}
 use Rattle.rdm_model.specs.Jobs.{is_fair, law_ops}
 use Rattle.rdm_model.specs.Scenes.{Scene, scene, deeds_at}
 use Rattle.rdm_model.specs.Sends.{Sent, sends}

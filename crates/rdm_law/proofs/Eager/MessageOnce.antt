@@ -23,7 +23,7 @@ use Rattle.rdm_model.specs.declared.entry.Entry.{Entry}
 use Rattle.rdm_model.specs.declared.entry.Act.{Act}
 use Rattle.rdm_model.specs.declared.entry.Act.TheVariants.{Handle}
 use Rattle.rdm_model.specs.Deeds.{Deed, Item, Spelled, item_of, of_life}
-use Rattle.rdm_model.specs.Owns.{rank_of, Own, Messages, own_of, port_count}
+use Rattle.rdm_model.specs.Beginnings.{rank_of, Own, Messages, own_of, port_count}
 use Rattle.rdm_model.specs.Jobs.{is_fair, law_ops}
 use Rattle.rdm_model.specs.Heard.{heard_head, is_heard}
 use Rattle.rdm_model.specs.Scenes.{deeds_at}

@@ -6,7 +6,7 @@ use Rattle.rdm_lists.specs.Lists.{Member}
 use Rattle.rdm_num.specs.declared.numbers.Life.{Life}
 use Rattle.rdm_match.specs.Matcher.{Pair}
 use Rattle.rdm_model.specs.Deeds.{Deed}
-use Rattle.rdm_model.specs.Owns.{Heads}
+use Rattle.rdm_model.specs.Beginnings.{Heads}
 use Rattle.rdm_model.specs.Matches.{Receive, receives}
 use Rattle.rdm_model.specs.Receives.{RecvEnd, Filled, Gone, ended_recv, gone_with}
 use Rattle.rdm_law.proofs.Matching.Numbered.{LacksPair, PairsApart}

@@ -12,18 +12,19 @@ use Rattle.rdm_num.specs.Pieces.{covers}
 use Rattle.rdm_num.specs.declared.completion.Completion.TheVariants.{Recv as RecvCompletion}
 use Rattle.rdm_pkt.specs.declared.Packet.{Packet}
 use Rattle.rdm_model.specs.Deeds.{Deed}
-use Rattle.rdm_model.specs.Owns.{Own, Messages}
+use Rattle.rdm_model.specs.Beginnings.{Own, Messages}
 use Rattle.rdm_model.specs.Currents.{is_forgotten, forgotten_by}
 use Rattle.rdm_model.specs.Matches.{Receive, receives}
 use Rattle.rdm_model.specs.Receives.{RecvEnd, ended_recv, recv_ends, recv_ends_by, with_recv_ends, receive_numbered}
 use Rattle.rdm_model.specs.Sends.{Sent, sends}
-use Rattle.rdm_model.specs.Dues.{progress, pieces_in, is_read, is_pushed, is_over, ends_send, live_of, live_sends}
+use Rattle.rdm_model.specs.Dues.{progress, pieces_in, is_read, is_pushed, is_complete, is_over, ends_send, confirms, live_of, live_sends}
 use Rattle.rdm_model.specs.Completions.{outcome, recv_completion, recv_completions, ended_sends, send_completion, completions_by, completions}
 use Rattle.rdm_model.proofs.SameReceives.{covers_more}
 use Rattle.rdm_model.proofs.Numbers.{sends_step}
 use Rattle.rdm_model.proofs.Opens.{pieces_in-append}
 use Rattle.rdm_model.proofs.Pushes.{pushed_of}
 use Rattle.rdm_model.proofs.Served.{pushed_longer}
+use Rattle.rdm_law.proofs.Ends.Overs.{CompleteBy, complete_by, over_from, pushed_still}
 use Rattle.rdm_lists.proofs.Members.{filter-member, member_list_any}
 use Rattle.rdm_lists.proofs.Filters.{filter_length}
 
@@ -44,28 +45,25 @@ weaker {A} p q r (x ∷ xs) h =
           ]
     ]) refl
 
-pushed_still : (s : Sent) (ps more : List Packet) → is_pushed s ps ≡ true → is_pushed s (ps ++ more) ≡ true
-unfolding is_pushed
-pushed_still s [] more h = cc
-pushed_still s (p ∷ ps) more h =
-    subst (λ x. covers x (length s.message.bytes) ≡ true) (sym (pieces_in-append (p ∷ ps) more)) (covers_more (pieces_in (p ∷ ps)) (pieces_in more) (length s.message.bytes) h)
+-- what completes a send stays
+by_still : (own : Own) (ms : Messages) (d : Deed) (before : List Deed) (s : Sent) → CompleteBy before (pushed_of own ms before s.number) s
+    → CompleteBy (d ∷ before) (pushed_of own ms (d ∷ before) s.number) s
+by_still own ms d before s (inl a) = inl (a.0, or_right (ends_send s.to s.number d) (list_any (ends_send s.to s.number) before) a.1)
+by_still own ms d before s (inr (inl a)) = inr (inl (a.0, a.1, or_right (confirms s.to s.message.no.0 d) (list_any (confirms s.to s.message.no.0) before) a.2))
+by_still own ms d before s (inr (inr a)) =
+    let more = pushed_longer own ms d before s.number in
+    inr (inr (a.0, a.1, subst (λ x. is_pushed s x ≡ true) (sym more.1) (pushed_still s (pushed_of own ms before s.number) more.0 a.2)))
 
 -- a send that is over stays so
 over_still : (own : Own) (ms : Messages) (d : Deed) (before : List Deed) (s : Sent) → is_over before (pushed_of own ms before s.number) s ≡ true
     → is_over (d ∷ before) (pushed_of own ms (d ∷ before) s.number) s ≡ true
 unfolding is_over is_forgotten
 over_still own ms d before s h =
-    let more = pushed_longer own ms d before s.number in
-    let ended = list_any (ends_send s.to s.number) before in
     let now = pushed_of own ms (d ∷ before) s.number in
-    elim (or_cases (is_forgotten before s.to) (cond (is_read s.kind) ended (is_pushed s (pushed_of own ms before s.number))) h) [
-      | inl f ↦ or_left (is_forgotten before s.to || list_any (same_life s.to) (forgotten_by before d)) (cond (is_read s.kind) (ends_send s.to s.number d || ended) (is_pushed s now))
+    elim (or_cases (is_forgotten before s.to) (is_complete before (pushed_of own ms before s.number) s) h) [
+      | inl f ↦ or_left (is_forgotten before s.to || list_any (same_life s.to) (forgotten_by before d)) (is_complete (d ∷ before) now s)
           (or_left (is_forgotten before s.to) (list_any (same_life s.to) (forgotten_by before d)) f)
-      | inr k ↦ or_right (is_forgotten before s.to || list_any (same_life s.to) (forgotten_by before d)) (cond (is_read s.kind) (ends_send s.to s.number d || ended) (is_pushed s now))
-          ((elim (is_read s.kind) as (λ b. cond b ended (is_pushed s (pushed_of own ms before s.number)) ≡ true → cond b (ends_send s.to s.number d || ended) (is_pushed s now) ≡ true) [
-            | true ↦ λ e. or_right (ends_send s.to s.number d) ended e
-            | false ↦ λ e. subst (λ x. is_pushed s x ≡ true) (sym more.1) (pushed_still s (pushed_of own ms before s.number) more.0 e)
-          ]) k)
+      | inr k ↦ over_from (d ∷ before) now s (by_still own ms d before s (complete_by before (pushed_of own ms before s.number) s k))
     ]
 
 not_live : (b c : Bool) → (c ≡ true → b ≡ true) → not b ≡ true → not c ≡ true
@@ -81,12 +79,12 @@ ended_count own ms d before =
     let sents = sends own ms before in
     let live : Sent → Bool = λ s. not (is_over before (pushed_of own ms before s.number) s) in
     let live' : Sent → Bool = λ s. not (is_over (d ∷ before) (pushed_of own ms (d ∷ before) s.number) s) in
-    let after : Sent → Bool = λ x. list_any (λ (t : Sent). t.number == x.number) (filter live' sents) in
-    let w = weaker live' after live sents (λ s m t. (
-      member_list_any (λ (t : Sent). t.number == s.number) s (filter live' sents) (filter-member live' s sents m t) (eq-eqb s.number s.number refl),
-      not_live (is_over (d ∷ before) (pushed_of own ms (d ∷ before) s.number) s) (is_over before (pushed_of own ms before s.number) s) (over_still own ms d before s) t,
+    let over' : Sent → Bool = λ s. is_over (d ∷ before) (pushed_of own ms (d ∷ before) s.number) s in
+    let w = weaker live' live' live sents (λ s m t. (
+      t,
+      not_live (over' s) (is_over before (pushed_of own ms before s.number) s) (over_still own ms d before s) t,
     )) in
-    let b = length-filter_both after (λ x. not (after x)) (λ x. refl) (filter live sents) in
+    let b = length-filter_both over' live' (λ x. refl) (filter live sents) in
     omega arith
 
 -- a deed makes each of its new sends live at most

@@ -9,7 +9,7 @@ use Rattle.rdm_num.specs.declared.completion.Completion.TheVariants.{Recv}
 use Rattle.rdm_num.specs.declared.completion.Outcome.{Outcome}
 use Rattle.rdm_model.specs.declared.job.Instr.TheVariants.{Cancel}
 use Rattle.rdm_model.specs.Deeds.{Deed, Did}
-use Rattle.rdm_model.specs.Owns.{Own, Messages, Heads}
+use Rattle.rdm_model.specs.Beginnings.{Own, Messages, Heads}
 use Rattle.rdm_model.specs.Currents.{forgotten_by}
 use Rattle.rdm_model.specs.Matches.{Receive, receives, pairs}
 use Rattle.rdm_model.specs.Receives.{RecvEnd, Filled, Withdrawn, Gone, ended_recv, filled_by, gone_with, withdrawn_by, recv_ends_by, with_recv_ends, recv_ends, receive_numbered}

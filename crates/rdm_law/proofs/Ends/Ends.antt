@@ -10,7 +10,7 @@ use Rattle.rdm_num.specs.declared.numbers.RecvNo.{RecvNo}
 use Rattle.rdm_match.specs.Matcher.{Pair, is_recv}
 use Rattle.rdm_model.specs.declared.job.Instr.TheVariants.{Cancel}
 use Rattle.rdm_model.specs.Deeds.{Deed, Did}
-use Rattle.rdm_model.specs.Owns.{Heads}
+use Rattle.rdm_model.specs.Beginnings.{Heads}
 use Rattle.rdm_model.specs.Currents.{forgotten_by, is_forgotten}
 use Rattle.rdm_model.specs.Matches.{Receive, receives, pairs}
 use Rattle.rdm_model.specs.Receives.{RecvEnd, Filled, Withdrawn, Gone, ended_recv, has_ended, is_filled, filled_by, concerns, gone_with, withdrawn_by, recv_ends_by, with_recv_ends, recv_ends}

@@ -9,7 +9,7 @@ use Rattle.rdm_num.specs.declared.numbers.Life.{Life}
 use Rattle.rdm_match.specs.Matcher.{Pair, Matching, is_recv}
 use Rattle.rdm_model.specs.declared.job.Instr.TheVariants.{Insert, Cancel as CancelOp}
 use Rattle.rdm_model.specs.Deeds.{Deed, Did}
-use Rattle.rdm_model.specs.Owns.{Own, Heads}
+use Rattle.rdm_model.specs.Beginnings.{Own, Heads}
 use Rattle.rdm_model.specs.Currents.{current, other_life, forgotten_by}
 use Rattle.rdm_model.specs.Local.{heard_by}
 use Rattle.rdm_model.specs.Matches.{Receive, receives, received_by, with_received, matching, pairs}

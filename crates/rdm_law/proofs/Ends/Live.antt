@@ -16,12 +16,12 @@ use Rattle.rdm_model.specs.declared.answer.DidWhat.TheVariants.{Plain}
 use Rattle.rdm_model.specs.declared.answer.Why.TheVariants.{NotPosted}
 use Rattle.rdm_model.specs.declared.answer.Next.TheVariants.{Did as DidAnswer, Refused}
 use Rattle.rdm_model.specs.Deeds.{Deed, Did}
-use Rattle.rdm_model.specs.Owns.{Own, Heads}
+use Rattle.rdm_model.specs.Beginnings.{Own, Heads}
 use Rattle.rdm_model.specs.Currents.{is_forgotten}
 use Rattle.rdm_model.specs.Matches.{Receive, receives, events_by, matching, pairs}
 use Rattle.rdm_model.specs.Receives.{has_ended, is_filled, concerns, recv_ends}
 use Rattle.rdm_model.specs.Scenes.{Scene}
-use Rattle.rdm_model.specs.Named.{live_pair}
+use Rattle.rdm_model.specs.Targets.{live_pair}
 use Rattle.rdm_model.specs.Answers.{answer_of, is_unmatched}
 use Rattle.rdm_model.specs.Local.{heard_by}
 use Rattle.rdm_model.proofs.SameMatches.{matching_same}

@@ -6,11 +6,11 @@ use Rattle.rdm_lists.specs.Lists.{Member}
 use Rattle.rdm_num.specs.Lives.{same_life}
 use Rattle.rdm_num.specs.declared.numbers.Life.{Life}
 use Rattle.rdm_model.specs.Deeds.{Deed}
-use Rattle.rdm_model.specs.Owns.{Own, Messages}
+use Rattle.rdm_model.specs.Beginnings.{Own, Messages}
 use Rattle.rdm_model.specs.Scenes.{Scene}
 use Rattle.rdm_model.specs.Sends.{Sent, sends}
 use Rattle.rdm_model.specs.Dues.{progress, is_over, live_of, live_sends}
-use Rattle.rdm_model.specs.Named.{live_send}
+use Rattle.rdm_model.specs.Targets.{live_send}
 use Rattle.rdm_model.proofs.Numbers.{sends_one}
 use Rattle.rdm_lists.proofs.Members.{member-filter, filter-member, find_member, member_find}
 use Rattle.rdm_lists.proofs.Options.{some_of}
@@ -23,7 +23,7 @@ unfolding live_sends live_of
 live_parts own ms log s m = member-filter (λ (t : Sent). not (is_over log ((progress own ms log).packets t.number) t)) s (sends own ms log) m
 
 -- a send that is not over is live
-live_from : (own : Own) (ms : Messages) (log : List Deed) (s : Sent) → Member s (sends own ms log) → is_over log ((progress own ms log).packets s.number) s ≡ false
+pub live_from : (own : Own) (ms : Messages) (log : List Deed) (s : Sent) → Member s (sends own ms log) → is_over log ((progress own ms log).packets s.number) s ≡ false
     → Member s (live_sends own ms log)
 unfolding live_sends live_of
 live_from own ms log s m h = filter-member (λ (t : Sent). not (is_over log ((progress own ms log).packets t.number) t)) s (sends own ms log) m (ap not h)

@@ -15,7 +15,7 @@ use Rattle.rdm_model.specs.declared.job.Job.{Job}
 use Rattle.rdm_model.specs.declared.entry.Entry.{Entry}
 use Rattle.rdm_model.specs.declared.entry.Act.TheVariants.{Poll}
 use Rattle.rdm_model.specs.Deeds.{Deed, deed_of}
-use Rattle.rdm_model.specs.Owns.{own_of, rank_of}
+use Rattle.rdm_model.specs.Beginnings.{own_of, rank_of}
 use Rattle.rdm_model.specs.Local.{heard_by}
 use Rattle.rdm_model.specs.Matches.{Receive, receives, pairs}
 use Rattle.rdm_model.specs.Receives.{receive_numbered}

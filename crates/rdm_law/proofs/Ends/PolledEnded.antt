@@ -23,7 +23,7 @@ use Rattle.rdm_model.specs.declared.entry.Entry.{Entry}
 use Rattle.rdm_model.specs.declared.entry.Act.{Act}
 use Rattle.rdm_model.specs.declared.entry.Act.TheVariants.{Poll}
 use Rattle.rdm_model.specs.Deeds.{Deed, Did, open_life, of_open_life, log_of}
-use Rattle.rdm_model.specs.Owns.{Heads, Messages, own_of, life_at}
+use Rattle.rdm_model.specs.Beginnings.{Heads, Messages, own_of, life_at}
 use Rattle.rdm_model.specs.Matches.{Receive, receives, pairs}
 use Rattle.rdm_model.specs.Receives.{RecvEnd, Filled, Withdrawn, Gone, ended_recv, concerns}
 use Rattle.rdm_model.specs.Regions.{kept_bytes}

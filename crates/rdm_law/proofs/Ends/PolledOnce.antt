@@ -17,13 +17,13 @@ use Rattle.rdm_model.specs.declared.entry.Entry.{Entry}
 use Rattle.rdm_model.specs.declared.entry.Act.{Act}
 use Rattle.rdm_model.specs.declared.entry.Act.TheVariants.{Poll}
 use Rattle.rdm_model.specs.Deeds.{Deed, Polled, Nothing, deed_of, deed_count, open_life, of_open_life, log_of}
-use Rattle.rdm_model.specs.Owns.{Own, Messages, own_of, life_at, rank_of}
+use Rattle.rdm_model.specs.Beginnings.{Own, Messages, own_of, life_at, rank_of}
 use Rattle.rdm_model.specs.Local.{heard_by}
 use Rattle.rdm_model.specs.Matches.{Receive, receives}
 use Rattle.rdm_model.specs.Receives.{RecvEnd, ended_recv, recv_ends_by, with_recv_ends, recv_ends, receive_numbered}
 use Rattle.rdm_model.specs.Sends.{Sent}
 use Rattle.rdm_model.specs.Dues.{progress}
-use Rattle.rdm_model.specs.Completions.{outcome, recv_completion, recv_completions, send_completion, ended_sends, completions_by, completions, is_poll, poll_count}
+use Rattle.rdm_model.specs.Completions.{outcome, recv_completion, recv_completions, send_completion, ended_sends, completions_by, completions, polls_by, poll_count}
 use Rattle.rdm_model.specs.Scenes.{scene}
 use Rattle.rdm_model.specs.Jobs.{is_fair, law_ops}
 use Rattle.rdm_model.specs.Classes.{lives_class}
@@ -190,7 +190,7 @@ polled_still own k c d log w = record { at = completed_still own k c d log w.at;
 
 -- a poll polls the next completion
 polled_now : (own : Own) (c : Completion) (log : List Deed) → slice_get (completed own log) (poll_count log) ≡ Some c → WasPolled own (poll_count log) c (Polled ∷ log)
-unfolding poll_count deed_count is_poll
+unfolding poll_count deed_count polls_by
 polled_now own c log h = record { at = completed_still own (poll_count log) c Polled log h; past = omega arith }
 
 -- over more entries

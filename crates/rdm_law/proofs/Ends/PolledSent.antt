@@ -10,7 +10,7 @@ use Rattle.rdm_num.specs.declared.completion.Outcome.{Outcome}
 use Rattle.rdm_num.specs.declared.completion.Outcome.TheVariants.{Took}
 use Rattle.rdm_match.specs.Matcher.{Pair}
 use Rattle.rdm_model.specs.Deeds.{Deed}
-use Rattle.rdm_model.specs.Owns.{Own, Messages}
+use Rattle.rdm_model.specs.Beginnings.{Own, Messages}
 use Rattle.rdm_model.specs.Matches.{Receive, receives}
 use Rattle.rdm_model.specs.Receives.{RecvEnd, Filled, Withdrawn, Gone, ended_recv, recv_ends, with_recv_ends, recv_ends_by, receive_numbered}
 use Rattle.rdm_model.specs.Regions.{kept_bytes}

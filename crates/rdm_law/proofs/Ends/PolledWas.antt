@@ -19,7 +19,7 @@ use Rattle.rdm_model.specs.declared.entry.Entry.{Entry}
 use Rattle.rdm_model.specs.declared.entry.Act.{Act}
 use Rattle.rdm_model.specs.declared.entry.Act.TheVariants.{Poll}
 use Rattle.rdm_model.specs.Deeds.{Deed, Did, open_life, of_open_life, log_of}
-use Rattle.rdm_model.specs.Owns.{Heads, own_of, life_at}
+use Rattle.rdm_model.specs.Beginnings.{Heads, own_of, life_at}
 use Rattle.rdm_model.specs.Currents.{forgotten_by}
 use Rattle.rdm_model.specs.Matches.{Receive, receives, pairs}
 use Rattle.rdm_model.specs.Receives.{RecvEnd, Filled, Gone, is_filled, filled_by, concerns, has_ended, withdrawn_by, gone_with, recv_ends, with_recv_ends, recv_ends_by}

@@ -1,5 +1,5 @@
 -- A send that is over, to a life that is not forgotten, completed.
-use Rattle.std.proofs.Common.{◌≡◌, ℕ, ◌<◌, ◌≤◌, Bool, true, false, cond, ◌&&◌, not, List, [], ◌∷◌, ◌++◌, map, length, Option, Some, None, refl, arith, inl, inr, sym, ◌∙◌, ap, subst}
+use Rattle.std.proofs.Common.{◌≡◌, ℕ, ◌<◌, ◌≤◌, Bool, true, false, cond, ◌&&◌, not, List, [], ◌∷◌, ◌++◌, map, length, Option, Some, None, refl, arith, true≢false, inl, inr, sym, ◌∙◌, ap, subst}
 use Rattle.std.specs.Prelude.{◌==◌, ◌||◌, filter, nat_eq}
 use Rattle.std.specs.List.{list_any}
 use Rattle.std.proofs.lemmas.Bool.{and_parts, eqb-true, not-true, or_parts, not-false}
@@ -13,23 +13,26 @@ use Rattle.rdm_num.specs.declared.completion.Completion.TheVariants.{Send as Sen
 use Rattle.rdm_pkt.specs.declared.Packet.{Packet}
 use Rattle.rdm_pkt.specs.declared.Packet.TheVariants.{Eor}
 use Rattle.rdm_model.specs.Deeds.{Deed, Took, Spelled}
-use Rattle.rdm_model.specs.Owns.{Own, Messages}
+use Rattle.rdm_model.specs.Beginnings.{Own, Messages}
 use Rattle.rdm_model.specs.Currents.{is_forgotten, forgotten_by}
 use Rattle.rdm_model.specs.Matches.{receives}
 use Rattle.rdm_model.specs.Receives.{recv_ends, recv_ends_by}
 use Rattle.rdm_model.specs.Sends.{Sent, sends}
-use Rattle.rdm_model.specs.Dues.{progress, is_read, is_pushed, is_over, ends_send, live_of, live_sends}
+use Rattle.rdm_model.specs.Dues.{progress, is_pushed, is_over, ends_send, confirms, live_of, live_sends}
 use Rattle.rdm_model.specs.Completions.{recv_completions, ended_sends, send_completion, completions_by, completions}
 use Rattle.rdm_model.specs.Scenes.{Scene}
-use Rattle.rdm_model.specs.Named.{live_send, is_read_send, is_no_op}
+use Rattle.rdm_model.specs.Targets.{live_send, is_read_send, is_no_op}
 use Rattle.rdm_model.specs.Local.{heard_by}
 use Rattle.rdm_model.proofs.Numbers.{NewSent, sends_step, sends_one, send_below, new_number}
-use Rattle.rdm_model.proofs.Pushes.{pushed_of, pushed_step, none_pushed}
+use Rattle.rdm_model.proofs.Pushes.{pushed_of, pushed_step, none_pushed, member_later}
 use Rattle.rdm_model.proofs.SameRegions.{Agree, agree_before, sends_same}
 use Rattle.rdm_model.proofs.Grows.{agree_grows}
 use Rattle.rdm_law.proofs.Lives.Lives.{LifeLocal, LifeStep, life_scene}
 use Rattle.rdm_law.proofs.Classes.Classed.{taken_parts}
+use Rattle.rdm_law.proofs.Accounts.Known.{message_is_one}
 use Rattle.rdm_law.proofs.Ends.LiveSends.{live_parts}
+use Rattle.rdm_law.proofs.Ends.Overs.{over_by}
+use Rattle.rdm_law.proofs.Ends.Receipts.{PushedWhole, ReceiptsMade, whole_same, receipt_pushed}
 use Rattle.rdm_law.proofs.Classes.EndsKnown.{ends_send_took}
 use Rattle.rdm_lists.proofs.Members.{member-append_left, member-append_right, member-append_cases, member-filter, filter-member, map-member, list_any_member, find_member}
 
@@ -108,29 +111,23 @@ unended own ms (d ∷ before) peer n m le =
       | false ↦ λ e. unended own ms before peer n m.0 (let r = sends_more own ms d before in omega arith)
     ]) refl
 
--- a send to a life that is not forgotten is over by its end, or by what was pushed
-over_parts : (log : List Deed) (ps : List Packet) (s : Sent) → is_over log ps s ≡ true → is_forgotten log s.to ≡ false
-    → cond (is_read s.kind) (list_any (ends_send s.to s.number) log) (is_pushed s ps) ≡ true
-unfolding is_over
-over_parts log ps s h f =
-    let e : (false || cond (is_read s.kind) (list_any (ends_send s.to s.number) log) (is_pushed s ps)) ≡ true = subst (λ b. (b || cond (is_read s.kind) (list_any (ends_send s.to s.number) log) (is_pushed s ps)) ≡ true) f h in
-    e
-
 -- a send of which nothing was pushed is not pushed
 none_over : (s : Sent) (ps : List Packet) → ps ≡ [] → is_pushed s ps ≡ false
 unfolding is_pushed
 none_over s ps e = rw e refl
 
--- where neither of two cases holds
-cond_false : (t a b : Bool) → a ≡ false → b ≡ false → cond t a b ≡ true → ⊥
-cond_false true a b h k e = cc
-cond_false false a b h k e = cc
+-- a send that a deed makes is none of those before
+not_new : (own : Own) (ms : Messages) (d : Deed) (before : List Deed) (s : Sent) → NewSent own ms before (sends own ms before) d s → Member s (sends own ms before) → ⊥
+not_new own ms d before s new m =
+    let n = new_number own ms before (sends own ms before) d s new in
+    let b = send_below own ms before s m in
+    absurd (omega arith)
 
 -- a send is not over by the deed that makes it
-new_live : (own : Own) (ms : Messages) (d : Deed) (before : List Deed) (s : Sent) → EndsMade own ms before → NewSent own ms before (sends own ms before) d s
-    → is_forgotten (d ∷ before) s.to ≡ false → is_over (d ∷ before) (pushed_of own ms (d ∷ before) s.number) s ≡ true → ⊥
-unfolding ends_send
-new_live own ms d before s made new f over =
+new_live : (own : Own) (ms : Messages) (d : Deed) (before : List Deed) (s : Sent) → EndsMade own ms before → ReceiptsMade own ms before → NewSent own ms before (sends own ms before) d s
+    → Member s (sends own ms (d ∷ before)) → is_forgotten (d ∷ before) s.to ≡ false → is_over (d ∷ before) (pushed_of own ms (d ∷ before) s.number) s ≡ true → ⊥
+unfolding ends_send confirms
+new_live own ms d before s made receipts new here f over =
     let n = new_number own ms before (sends own ms before) d s new in
     let none : pushed_of own ms before s.number ≡ [] = none_pushed own ms before s.number (omega arith) in
     let same : pushed_of own ms (d ∷ before) s.number ≡ [] = (elim (pushed_step own ms d before s.number) [
@@ -139,8 +136,17 @@ new_live own ms d before s made new f over =
     ]) in
     let ended : list_any (ends_send s.to s.number) (d ∷ before) ≡ false =
     subst (λ (x : Deed). list_any (ends_send s.to s.number) (x ∷ before) ≡ false) (sym new.by) (unended own ms before s.to s.number made (omega arith)) in
-    cond_false (is_read s.kind) (list_any (ends_send s.to s.number) (d ∷ before)) (is_pushed s (pushed_of own ms (d ∷ before) s.number)) ended
-    (none_over s (pushed_of own ms (d ∷ before) s.number) same) (over_parts (d ∷ before) (pushed_of own ms (d ∷ before) s.number) s over f)
+    elim (over_by (d ∷ before) (pushed_of own ms (d ∷ before) s.number) s over f) [
+      | inl a ↦ true≢false (sym a.1 ∙ ended)
+      | inr a ↦ elim a [
+        | inl b ↦ (
+            let was : list_any (confirms s.to s.message.no.0) before ≡ true = subst (λ (x : Deed). list_any (confirms s.to s.message.no.0) (x ∷ before) ≡ true) new.by b.2 in
+            let w = receipts s.to s.message.no.0 was in
+            let t : w.0 ≡ s = message_is_one own ms (d ∷ before) w.0 s (member_later own ms d before w.0 w.1) here w.2 w.3 in
+            not_new own ms d before s new (subst (λ (x : Sent). Member x (sends own ms before)) t w.1))
+        | inr b ↦ true≢false (sym b.2 ∙ none_over s (pushed_of own ms (d ∷ before) s.number) same)
+      ]
+    ]
 
 -- a send that is over after a deed and was not before ended by it
 newly_over : (own : Own) (ms : Messages) (d : Deed) (before : List Deed) (s : Sent) → Member s (sends own ms before)
@@ -149,22 +155,8 @@ newly_over : (own : Own) (ms : Messages) (d : Deed) (before : List Deed) (s : Se
 unfolding ended_sends live_of progress
 newly_over own ms d before s m was now =
     let live : Sent → Bool = λ t. not (is_over before (pushed_of own ms before t.number) t) in
-    let live' : Sent → Bool = λ t. not (is_over (d ∷ before) (pushed_of own ms (d ∷ before) t.number) t) in
-    let after : Sent → Bool = λ x. list_any (λ (t : Sent). t.number == x.number) (filter live' (sends own ms before)) in
-    let here = filter-member live s (sends own ms before) m (ap not was) in
-    let gone : after s ≡ false =
-    (elim (after s) as (λ b. after s ≡ b → b ≡ false) [
-      | false ↦ λ e. refl
-      | true ↦ λ e. absurd (
-          let t = list_any_member (λ (t : Sent). t.number == s.number) (filter live' (sends own ms before)) e in
-          let f = member-filter live' t.0 (sends own ms before) t.1 in
-          let same : t.0 ≡ s = sends_one own ms before t.0 s f.0 m (eqb-true t.0.number s.number t.2) in
-          let x = not-true (is_over (d ∷ before) (pushed_of own ms (d ∷ before) t.0.number) t.0) f.1 in
-          let y : is_over (d ∷ before) (pushed_of own ms (d ∷ before) s.number) s ≡ false =
-          subst (λ (z : Sent). is_over (d ∷ before) (pushed_of own ms (d ∷ before) z.number) z ≡ false) same x in
-          cc)
-    ]) refl in
-    filter-member (λ (x : Sent). not (after x)) s (filter live (sends own ms before)) here (ap not gone)
+    let over' : Sent → Bool = λ t. is_over (d ∷ before) (pushed_of own ms (d ∷ before) t.number) t in
+    filter-member over' s (filter live (sends own ms before)) (filter-member live s (sends own ms before) m (ap not was)) now
 
 -- a send that ended by a deed completes by it
 ended_completes : (own : Own) (ms : Messages) (d : Deed) (before : List Deed) (s : Sent) → Member s (ended_sends own ms d before (progress own ms before))
@@ -182,17 +174,39 @@ forgotten_earlier : (d : Deed) (before : List Deed) (life : Life) → is_forgott
 unfolding is_forgotten
 forgotten_earlier d before life h = (or_parts (is_forgotten before life) (list_any (same_life life) (forgotten_by before d)) h).0
 
--- the same by any account of the messages, where ends are of sends that were made
-done_by : (own : Own) (ms : Messages) (log : List Deed) (s : Sent) → EndsMade own ms log → Member s (sends own ms log) → is_over log (pushed_of own ms log s.number) s ≡ true
-    → is_forgotten log s.to ≡ false → Member (SendCompletion (record { 0 = s.number }) false) (completions own ms log)
+-- each receipt that was taken was of a message that had been pushed whole
+abbrev pub AllReceiptsMade : Own → Messages → List Deed → Type 0
+AllReceiptsMade own ms [] = Unit {0}
+AllReceiptsMade own ms (d ∷ before) = AllReceiptsMade own ms before × ReceiptsMade own ms before
+
+-- by accounts that agree
+all_receipts_same : (own : Own) (ms ns : Messages) (log : List Deed) → Agree own.limits.first ms ns log → AllReceiptsMade own ms log → AllReceiptsMade own ns log
+all_receipts_same own ms ns [] a r = tt
+all_receipts_same own ms ns (d ∷ before) a r =
+    let b = agree_before own.limits.first ms ns d before a in
+    (all_receipts_same own ms ns before b r.0, λ to n h. whole_same own ms ns before to n b (r.1 to n h))
+
+-- a life takes receipts of messages that it pushed whole
+receipts_made : (own : Own) (log : List Deed) → LifeLocal own log → AllReceiptsMade own (heard_by own.limits.first log) log
+receipts_made own [] l = tt
+receipts_made own (d ∷ before) l =
+    let first = own.limits.first in
+    let g = agree_grows first d before in (
+      all_receipts_same own (heard_by first before) (heard_by first (d ∷ before)) before g (receipts_made own before l.0),
+      λ to n h. whole_same own (heard_by first before) (heard_by first (d ∷ before)) before to n g (receipt_pushed own before to n l.0 h),
+    )
+
+-- the same by any account of the messages, where ends and receipts are of sends that were made
+done_by : (own : Own) (ms : Messages) (log : List Deed) (s : Sent) → EndsMade own ms log → AllReceiptsMade own ms log → Member s (sends own ms log)
+    → is_over log (pushed_of own ms log s.number) s ≡ true → is_forgotten log s.to ≡ false → Member (SendCompletion (record { 0 = s.number }) false) (completions own ms log)
 unfolding completions sends
-done_by own ms [] s e m over f = elim m [ ]
-done_by own ms (d ∷ before) s e m over f =
+done_by own ms [] s e r m over f = elim m [ ]
+done_by own ms (d ∷ before) s e r m over f =
     let c = SendCompletion (record { 0 = s.number }) false in
     let older : Member s (sends own ms before) → Member c (completions own ms before ++ completions_by own ms d before) =
     λ k. (elim (is_over before (pushed_of own ms before s.number) s) as (λ b. is_over before (pushed_of own ms before s.number) s ≡ b
     → Member c (completions own ms before ++ completions_by own ms d before)) [
-      | true ↦ λ was. member-append_left c (completions own ms before) (completions_by own ms d before) (done_by own ms before s e.0 k was (forgotten_earlier d before s.to f))
+      | true ↦ λ was. member-append_left c (completions own ms before) (completions_by own ms d before) (done_by own ms before s e.0 r.0 k was (forgotten_earlier d before s.to f))
       | false ↦ λ was. member-append_right c (completions own ms before) (completions_by own ms d before) (ended_completes own ms d before s (newly_over own ms d before s k was over) f)
     ]) refl in
     elim (sends_step own ms d before) [
@@ -200,7 +214,7 @@ done_by own ms (d ∷ before) s e m over f =
       | inr new ↦ elim (member-append_cases s (sends own ms before) (new.0 ∷ []) (subst (λ (x : List Sent). Member s x) new.2 m)) [
         | inl k ↦ older k
         | inr k ↦ elim k [
-          | inl is ↦ absurd (new_live own ms d before s e.0 (subst (λ (x : Sent). NewSent own ms before (sends own ms before) d x) is new.1) f over)
+          | inl is ↦ absurd (new_live own ms d before s e.0 r.1 (subst (λ (x : Sent). NewSent own ms before (sends own ms before) d x) is new.1) m f over)
           | inr never ↦ elim never [ ]
         ]
       ]
@@ -210,4 +224,6 @@ done_by own ms (d ∷ before) s e m over f =
 pub send_done : (own : Own) (log : List Deed) (s : Sent) → LifeLocal own log → Member s (sends own (heard_by own.limits.first log) log)
     → is_over log ((progress own (heard_by own.limits.first log) log).packets s.number) s ≡ true → is_forgotten log s.to ≡ false
     → Member (SendCompletion (record { 0 = s.number }) false) (completions own (heard_by own.limits.first log) log)
-send_done own log s l m over f = done_by own (heard_by own.limits.first log) log s (ends_made own log l) m over f
+send_done own log s l m over f =
+    let ms = heard_by own.limits.first log in
+    done_by own ms log s (ends_made own log l) (receipts_made own log l) m over f

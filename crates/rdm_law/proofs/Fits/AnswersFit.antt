@@ -19,7 +19,7 @@ use Rattle.rdm_model.specs.declared.answer.Why.{Why}
 use Rattle.rdm_model.specs.declared.answer.Why.TheVariants.{NoRegion, Range, NoEntry, Busy, Numbers}
 use Rattle.rdm_model.specs.Deeds.{Deed, Did}
 use Rattle.rdm_model.specs.Currents.{current}
-use Rattle.rdm_model.specs.Owns.{Own, Messages}
+use Rattle.rdm_model.specs.Beginnings.{Own, Messages}
 use Rattle.rdm_model.specs.Regions.{regions}
 use Rattle.rdm_model.specs.Sends.{Sent, sends_to, new_sent, sent_to_current, bytes_of, sent_by, with_sent, sends}
 use Rattle.rdm_model.specs.Scenes.{Scene}

@@ -18,7 +18,7 @@ use Rattle.rdm_pkt.specs.Grammar.{form_fields, last_fields, entry_fields, head_f
 use Rattle.rdm_num.specs.declared.numbers.Connid.{Connid}
 use Rattle.rdm_pkt.specs.Openings.{rtm, read_rtm, medium_form, runt_form, long_cts_form, no_bytes, room_in, openings}
 use Rattle.rdm_model.specs.Deeds.{Deed, Took, Item, Spelled}
-use Rattle.rdm_model.specs.Owns.{Own, Messages}
+use Rattle.rdm_model.specs.Beginnings.{Own, Messages}
 use Rattle.rdm_model.specs.Sends.{Sent, sends}
 use Rattle.rdm_model.specs.Grants.{Grant, grants, grant_bytes, data_room}
 use Rattle.rdm_model.specs.Replies.{Reply}
@@ -30,7 +30,7 @@ use Rattle.rdm_model.proofs.Dues.{SendDue, due_cases, GrantedNext, Underway, nex
 use Rattle.rdm_model.proofs.Pushes.{pushed_of, underway}
 use Rattle.rdm_model.proofs.Sending.{grant_taken}
 use Rattle.rdm_law.proofs.Fits.Fitting.{CanGo}
-use Rattle.rdm_law.proofs.Fits.SmallBytes.{AllTakenFit, TakenFits, bytes_front, bytes_rest, layout_fits, all_parts}
+use Rattle.rdm_law.proofs.Fits.SmallBytes.{taken_member, AllTakenFit, TakenFits, bytes_front, bytes_rest, layout_fits, all_parts}
 use Rattle.rdm_law.proofs.Fits.RegionsFit.{MessagesFit}
 use Rattle.rdm_law.proofs.Fits.SentFits.{SentFits, DeedsFit, sent_fits}
 use Rattle.rdm_law.proofs.Fits.RepliesFit.{OwnFits, HeadsFit, replies_fit}
@@ -106,12 +106,6 @@ openings_fit own s (Runt n) p o l f is m =
     subst (λ x. fits x ≡ true) r.2
     (runt_fits own s n r.0 o f (omega arith) (omega arith) (subst (λ (k : ℕ). PieceFits k r.0) whole piece))
 
--- a datagram that was taken fits
-taken_member : (from : Life) (item : Item) (log : List Deed) → AllTakenFit log → Member (Took from item) log → TakenFits (Took from item)
-taken_member from item [] fit m = elim m [ ]
-taken_member from item (d ∷ before) fit (inl is) = subst TakenFits is fit.1
-taken_member from item (d ∷ before) fit (inr m) = taken_member from item before fit.0 m
-
 -- the receive that a grant names
 cts_recv : (send recv : OpId) (size : ℕ) (connid : Connid) → fits (Cts send recv size connid) ≡ true → recv.0 < 4294967296
 unfolding layout head_fields field_fits
@@ -131,47 +125,14 @@ grant_recv log peer send g fit m =
     let t = grant_taken log peer send g m in
     cts_recv (op_id send) (op_id g.recv) g.size t.0 (taken_member peer (Spelled (Cts (op_id send) (op_id g.recv) g.size t.0)) log fit t.1)
 
--- a send that isn't over has bytes left
-not_pushed : (s : Sent) (pushed : List Packet) → is_pushed s pushed ≡ false → 0 < length pushed → covers (pieces_in pushed) (length s.message.bytes) ≡ false
-unfolding is_pushed
-not_pushed s [] h some = absurd (omega arith)
-not_pushed s (p ∷ ps) h some = h
-
--- the second of two tests that both fail
-or_right_false : (a b : Bool) → (a || b) ≡ false → b ≡ false
-or_right_false true b h = cc
-or_right_false false b h = h
-
--- a long send that isn't over is not pushed
-long_pushed : (kind : Kind) (over pushed : Bool) → kind ≡ LongCts → cond (is_read kind) over pushed ≡ false → pushed ≡ false
-unfolding is_read
-long_pushed LongCts over pushed is h = h
-long_pushed Eager over pushed is h = cc
-long_pushed Medium over pushed is h = cc
-long_pushed LongRead over pushed is h = cc
-long_pushed (Runt n) over pushed is h = cc
-
--- a long send that isn't over has bytes that were not pushed
-bytes_left : (own : Own) (log : List Deed) (s : Sent) (pushed : List Packet) → s.kind ≡ LongCts → is_over log pushed s ≡ false → Underway own s pushed → 0 < length pushed
-    → piece_bytes (pieces_in pushed) < length s.message.bytes
-unfolding is_over
-bytes_left own log s pushed long live u some =
-    let a = long_pushed s.kind _ (is_pushed s pushed) long (or_right_false _ _ live) in
-    let b = not_pushed s pushed a some in
-    elim (cases_lt (piece_bytes (pieces_in pushed)) (length s.message.bytes)) [
-      | inl less ↦ less
-      | inr all ↦ (let c = row_covers s.message.bytes (pieces_in pushed) (length s.message.bytes) u.row all in absurd (true≢false (sym c ∙ b)))
-    ]
-
 -- the next granted bytes of a live send fit
 granted_fits : (own : Own) (log : List Deed) (s : Sent) (pushed : List Packet) (p : Packet) → OwnFits own → LimitsFit own.limits → SentFits own s → AllTakenFit log
     → is_over log pushed s ≡ false → Underway own s pushed → 0 < length pushed → GrantedNext own (grants log s.to s.number) s pushed p → fits p ≡ true
 unfolding data_room
 granted_fits own log s pushed p o l f taken live u some g =
     let done = piece_bytes (pieces_in pushed) in
-    let left : done < length s.message.bytes = bytes_left own log s pushed g.long live u some in
     let allowed = piece_bytes (pieces_in (openings own.limits s.message s.kind)) + grant_bytes (grants log s.to s.number) in
-    let below : done < allowed = g.below in
+    let below : done < min allowed (length s.message.bytes) = g.below in
     let most = min (allowed - done) (data_room own.limits) in
     let room : 0 < data_room own.limits = (let m = l.mtu in omega arith) in
     let bytes = take most (drop done s.message.bytes) in
@@ -216,7 +177,7 @@ due_fits ports own ms log (Replies r) to item o l h k fit taken is goes =
           let same : a.0 ≡ r = (let e = a.2 in cc) in
           let of : r.item ≡ item = cc in
           let waits : Member r (progress own ms log).replies = subst (λ (x : Reply). Member x (progress own ms log).replies) same (slice_get-member (progress own ms log).replies 0 a.0 a.1) in
-          subst CanGo of (replies_fit ports own ms log r o h k fit waits)
+          subst CanGo of (replies_fit ports own ms log r o h k fit taken waits)
       | inr a ↦ (let e = a.1.is in absurd (reply_no_send r a.1.sent a.1.packet e))
     ]
 due_fits ports own ms log (Sends s p) to item o l h k fit taken is goes =

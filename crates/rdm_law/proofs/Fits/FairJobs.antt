@@ -19,18 +19,18 @@ use Rattle.rdm_model.specs.declared.entry.Entry.{Entry}
 use Rattle.rdm_model.specs.declared.entry.Act.{Act}
 use Rattle.rdm_model.specs.declared.entry.Act.TheVariants.{Next, Push, Handle, Poll}
 use Rattle.rdm_model.specs.Deeds.{Deed, deed_by_next, deed_by_push, deed_by_handle, deed_of, deeds, of_life, deed_count}
-use Rattle.rdm_model.specs.Owns.{rank_of, no_rank, port_count}
+use Rattle.rdm_model.specs.Beginnings.{rank_of, no_rank, port_count}
 use Rattle.rdm_model.specs.Jobs.{is_fair, law_ops, features_fit, rank_fits, instr_fits, is_within}
 use Rattle.rdm_model.specs.Scenes.{Scene, deeds_at}
 use Rattle.rdm_num.specs.declared.limits.EpLimits.{EpLimits}
 use Rattle.rdm_model.specs.Classes.{class_of}
-use Rattle.rdm_model.specs.Steps.{count, is_next, Does}
+use Rattle.rdm_model.specs.Steps.{count, nexts_by, Does}
 use Rattle.rdm_model.specs.Local.{own_scene, Local}
 use Rattle.rdm_law.proofs.Lives.Lives.{at_of_life}
 use Rattle.rdm_law.proofs.Fits.Fitting.{BodyFits, HandledFits, AllHandledFit, item_fits}
 use Rattle.rdm_law.proofs.Fits.SmallBytes.{AllTakenFit, TakenFits, all_at}
 use Rattle.rdm_law.proofs.Fits.RegionsFit.{DidFits, AllDidFit}
-use Rattle.rdm_law.proofs.Fits.SentFits.{is_did, did_count}
+use Rattle.rdm_law.proofs.Fits.SentFits.{done_by, did_count}
 use Rattle.rdm_law.proofs.Fits.OpeningsFit.{LimitsFit, limits_are}
 
 -- what the proofs use of a fair rank, or of none
@@ -164,37 +164,37 @@ unfolding of_life deed_count
 life_count c [] = omega arith
 life_count c (d ∷ before) =
     let was = life_count c before in
-    at_of_life (λ (log : List Deed). did_count log ≤ did_count before + is_did d) c d before (λ s. omega arith) (λ s. omega arith)
+    at_of_life (λ (log : List Deed). did_count log ≤ did_count before + done_by d) c d before (λ s. omega arith) (λ s. omega arith)
 
 -- an instruction counts one at most
-did_next : (o : Option Instr) (answer : Answer) → is_did (deed_by_next o answer) ≤ 1
-unfolding deed_by_next is_did
+did_next : (o : Option Instr) (answer : Answer) → done_by (deed_by_next o answer) ≤ 1
+unfolding deed_by_next done_by
 did_next (Some instr) (DidAnswer what) = omega arith
 did_next _ _ = omega arith
 
 -- a push counts none
-did_push : (body : Body) → is_did (deed_by_push body) ≤ 0
-unfolding deed_by_push is_did
+did_push : (body : Body) → done_by (deed_by_push body) ≤ 0
+unfolding deed_by_push done_by
 did_push (Note note) = omega arith
 did_push (Between from to load) = omega arith
 
 -- a handling counts none
-did_handle : (src : PortNo) (body : Body) (answer : Handled) → is_did (deed_by_handle src body answer) ≤ 0
-unfolding deed_by_handle is_did
+did_handle : (src : PortNo) (body : Body) (answer : Handled) → done_by (deed_by_handle src body answer) ≤ 0
+unfolding deed_by_handle done_by
 did_handle src (Note note) (TookAnswer entered) = omega arith
 did_handle src (Between from to load) (TookAnswer entered) = omega arith
 did_handle src _ _ = omega arith
 
 -- an act counts no more than an instruction
-did_one : (ops : List Instr) (act : Act) → is_did (deed_of ops act) ≤ is_next act
-unfolding deed_of is_next is_did
+did_one : (ops : List Instr) (act : Act) → done_by (deed_of ops act) ≤ nexts_by act
+unfolding deed_of nexts_by done_by
 did_one ops (Next index op answer) = did_next (slice_get ops index) answer
 did_one ops (Push d) = did_push d.body
 did_one ops (Handle d answer) = did_handle d.src d.body answer
 did_one ops (Poll c) = omega arith
 
 -- no more instructions did than were done
-pub did_instructions : (ops : List Instr) (log : List Entry) → did_count (deeds ops log) ≤ count is_next log
+pub did_instructions : (ops : List Instr) (log : List Entry) → did_count (deeds ops log) ≤ count nexts_by log
 unfolding deeds deed_count count
 did_instructions ops [] = omega arith
 did_instructions ops (e ∷ before) =
@@ -204,8 +204,8 @@ did_instructions ops (e ∷ before) =
 
 -- an act leaves the count within the program
 next_act_within : (job : Job) (port : ℕ) (s : Scene) (e : Entry) (before : List Entry) (act : Act) → e.port.0 ≡ port → Does job class_of s before e act
-    → count is_next before ≤ length (rank_of job port).ops → count is_next before + is_next act ≤ length (rank_of job port).ops
-unfolding is_next
+    → count nexts_by before ≤ length (rank_of job port).ops → count nexts_by before + nexts_by act ≤ length (rank_of job port).ops
+unfolding nexts_by
 next_act_within job port s e before (Next index op answer) p does was =
     let at : slice_get (rank_of job port).ops index ≡ Some does.1.0 = subst (λ n. slice_get (rank_of job n).ops index ≡ Some does.1.0) p does.1.1 in
     let a = slice_get_within (rank_of job port).ops index does.1.0 at in
@@ -216,7 +216,7 @@ next_act_within job port s e before (Handle d answer) p does was = omega arith
 next_act_within job port s e before (Poll c) p does was = omega arith
 
 -- no more instructions than the program has
-pub next_within : (job : Job) (port : ℕ) (log : List Entry) → Local job port log → count is_next log ≤ length (rank_of job port).ops
+pub next_within : (job : Job) (port : ℕ) (log : List Entry) → Local job port log → count nexts_by log ≤ length (rank_of job port).ops
 unfolding count
 next_within job port [] l = omega arith
 next_within job port (e ∷ before) l =

@@ -17,7 +17,7 @@ use Rattle.rdm_pkt.specs.Choice.{eager_room, both_have}
 use Rattle.rdm_pkt.specs.Grammar.{form_fields, last_fields, entry_fields, iov_fits, form_fits, confirm_fits, fits, spelling}
 use Rattle.rdm_pkt.specs.Openings.{rtm, read_rtm, medium_form, runt_form, long_cts_form, room_in}
 use Rattle.rdm_model.specs.Jobs.{limits_fit, option_fits, len_max, is_within}
-use Rattle.rdm_model.specs.Owns.{Own}
+use Rattle.rdm_model.specs.Beginnings.{Own}
 use Rattle.rdm_model.specs.Sends.{Sent, opt_for}
 use Rattle.rdm_law.proofs.Fits.Fitting.{AreBytes}
 use Rattle.rdm_law.proofs.Fits.SmallBytes.{all_append}

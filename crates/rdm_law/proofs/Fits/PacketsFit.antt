@@ -104,6 +104,14 @@ handshake_fits features connid a b =
     (all_fields (Number 4 4 ∷ Number 8 features ∷ []) (word_field 4 (omega arith), (long_field features a, tt))))
     (all_fields (Number 4 connid.0 ∷ []) (word_field connid.0 b, tt)))
 
+-- a receipt
+pub receipt_fits : (number : MsgNo) (connid : Connid) → number.0 < 4294967296 → connid.0 < 4294967296 → fits (Receipt number connid) ≡ true
+unfolding packet_fits layout
+receipt_fits number connid a b =
+    fits_from (Receipt number connid) refl
+    (all_append field_fits (head_fields 10 32768) (Number 4 number.0 ∷ Number 4 connid.0 ∷ []) (head_fits 10 32768 (omega arith) (omega arith))
+    (all_fields (Number 4 number.0 ∷ Number 4 connid.0 ∷ []) (word_field number.0 a, (word_field connid.0 b, tt))))
+
 -- a packet type is small
 kind_small : (confirm : Bool) (form : Form) → type_of confirm form ≤ 204
 unfolding type_of
@@ -163,6 +171,18 @@ headers_fit life false cq_data a b h = record {
   one = refl;
   fields = all_append field_fits (cq_data_fields cq_data) (Number 4 life.connid.0 ∷ []) (cq_data_fits cq_data h) (all_fields (Number 4 life.connid.0 ∷ []) (word_field life.connid.0 b, tt));
 }
+
+-- features, with the raw address of a life
+pub raw_handshake_fits : (features : ℕ) (life : Life) → features < 18446744073709551616 → life.port.0 < 4294967296 → life.connid.0 < 4294967296
+    → fits (Handshake (features ∷ []) life.connid (Some life.port)) ≡ true
+unfolding packet_fits layout sender_opt opt_flags opt_for option_fits
+raw_handshake_fits features life a b c =
+    let o : HeadersFit (opt_for life true None) = headers_fit life true None b c refl in
+    fits_from (Handshake (features ∷ []) life.connid (Some life.port)) refl
+    (all_append field_fits (head_fields 9 1 ++ Number 4 4 ∷ Number 8 features ∷ []) (opt_fields (opt_for life true None))
+    (all_append field_fits (head_fields 9 1) (Number 4 4 ∷ Number 8 features ∷ []) (head_fits 9 1 (omega arith) (omega arith))
+    (all_fields (Number 4 4 ∷ Number 8 features ∷ []) (word_field 4 (omega arith), (long_field features a, tt))))
+    o.fields)
 
 -- a packet that opens a message
 pub rtm_from : (number : MsgNo) (tag : Option ℕ) (confirm : Bool) (opt : Opt) (form : Form) → number.0 < 4294967296 → option_fits tag ≡ true → HeadersFit opt → confirm_fits confirm form ≡ true

@@ -4,7 +4,7 @@ use Rattle.std.proofs.lemmas.List.{map-append, length-replicate}
 use Rattle.rdm_lists.specs.Lists.{Member}
 use Rattle.rdm_num.specs.declared.request.RecvReq.{RecvReq}
 use Rattle.rdm_model.specs.Deeds.{Deed}
-use Rattle.rdm_model.specs.Owns.{Messages}
+use Rattle.rdm_model.specs.Beginnings.{Messages}
 use Rattle.rdm_model.specs.Jobs.{len_max}
 use Rattle.rdm_model.specs.Matches.{Receive, receives}
 use Rattle.rdm_model.specs.Receives.{RecvEnd, Filled, Withdrawn, Gone, ended_recv, recv_ends, recv_ends_by, receive_numbered}

@@ -11,7 +11,7 @@ use Rattle.rdm_pkt.specs.Choice.{choose}
 use Rattle.rdm_model.specs.declared.job.Instr.TheVariants.{Send, Recv}
 use Rattle.rdm_model.specs.Deeds.{Deed, Did, deed_count}
 use Rattle.rdm_model.specs.Currents.{current}
-use Rattle.rdm_model.specs.Owns.{Own, Messages}
+use Rattle.rdm_model.specs.Beginnings.{Own, Messages}
 use Rattle.rdm_model.specs.Jobs.{instr_fits, range_fits, option_fits, len_max}
 use Rattle.rdm_model.specs.Matches.{Receive, receives, received_by, with_received}
 use Rattle.rdm_model.specs.Regions.{regions}
@@ -25,13 +25,13 @@ use Rattle.rdm_law.proofs.Fits.RegionSizes.{region_size, size_bound}
 use Rattle.rdm_law.proofs.Fits.AnswersFit.{sent_life, sent_lives, lives_of_sends, sends_to_count, NumberFits, AllNumbersFit}
 
 -- 1 for an instruction that did
-unfoldable pub is_did : Deed → ℕ
-is_did (Did instr) = 1
-is_did _ = 0
+unfoldable pub done_by : Deed → ℕ
+done_by (Did instr) = 1
+done_by _ = 0
 
 -- how many instructions did
 abbrev pub did_count : List Deed → ℕ
-did_count log = deed_count is_did log
+did_count log = deed_count done_by log
 
 -- an option has one value at most
 pub option_length : {A : Type 0} (o : Option A) → length (option_to_list o) ≤ 1
@@ -39,8 +39,8 @@ option_length None = omega arith
 option_length (Some x) = omega arith
 
 -- a deed sends once at most, if it is an instruction that did
-lives_by_deed : (before : List Deed) (d : Deed) → length (sent_life before d) ≤ is_did d
-unfolding sent_life is_did
+lives_by_deed : (before : List Deed) (d : Deed) → length (sent_life before d) ≤ done_by d
+unfolding sent_life done_by
 lives_by_deed before (Did (Send req)) = option_length (current before req.to.0)
 lives_by_deed before _ = omega arith
 
@@ -63,8 +63,8 @@ sends_count own ms log =
     omega arith
 
 -- a deed accepts one receive at most, if it is an instruction that did
-received_count : (rs : List Receive) (before : List Deed) (d : Deed) → length (received_by rs before d) ≤ is_did d
-unfolding received_by is_did
+received_count : (rs : List Receive) (before : List Deed) (d : Deed) → length (received_by rs before d) ≤ done_by d
+unfolding received_by done_by
 received_count rs before (Did (Recv req)) = omega arith
 received_count rs before _ = omega arith
 

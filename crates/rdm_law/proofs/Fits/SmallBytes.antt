@@ -21,7 +21,7 @@ use Rattle.rdm_pkt.specs.Grammar.{head_fields, type_of, rtm_flags, form_fields, 
 use Rattle.rdm_hdr.specs.Headers.{opt_fields}
 use Rattle.rdm_match.specs.Matcher.{Pair}
 use Rattle.rdm_model.specs.Deeds.{Deed, Took, Item, Spelled, Asks, Gives, Garbled}
-use Rattle.rdm_model.specs.Owns.{Heads}
+use Rattle.rdm_model.specs.Beginnings.{Heads}
 use Rattle.rdm_model.specs.Matches.{pairs}
 use Rattle.rdm_model.specs.Parts.{piece_by, carried_by, carried_pieces}
 use Rattle.rdm_model.specs.Local.{heads_by, bytes_by}
@@ -79,12 +79,13 @@ layout_fits p h = (and_parts (packet_fits p) (fields_fit (layout p)) h).1
 
 -- the fields of a packet that opens a message and fits
 pub record RtmFits (number : MsgNo) (tag : Option ℕ) (form : Form) : Type 0 where
+  pub number_fits : number.0 < 4294967296
   pub header : list_all field_fits (form_fields form) ≡ true
   pub last : list_all field_fits (last_fields form) ≡ true
 
 -- the fields of the header, and those that come last
 pub rtm_fits : (number : MsgNo) (tag : Option ℕ) (confirm : Bool) (opt : Opt) (form : Form) → fits (Rtm number tag confirm opt form) ≡ true → RtmFits number tag form
-unfolding layout
+unfolding layout field_fits
 rtm_fits number tag confirm opt form h =
     let head : List Field = head_fields (type_of confirm form + cond (is_some tag) 1 0) (rtm_flags tag opt) in
     let front : List Field = head ++ Number 4 number.0 ∷ form_fields form in
@@ -93,7 +94,7 @@ rtm_fits number tag confirm opt form h =
     let c = all_parts field_fits front (tag_fields tag) b.0 in
     let d = all_parts field_fits head (Number 4 number.0 ∷ form_fields form) c.0 in
     let e = and_parts (field_fits (Number 4 number.0)) (list_all field_fits (form_fields form)) d.1 in
-    record { header = e.1; last = a.1 }
+    record { number_fits = ltb-true number.0 4294967296 e.0; header = e.1; last = a.1 }
 
 -- the bytes that come last in a form
 last_bytes : (form : Form) (x : Piece) → list_all field_fits (last_fields form) ≡ true → piece_of form ≡ Some x → AreBytes x.bytes
@@ -207,3 +208,9 @@ bytes_by_fit first log source n fit =
     list_all-map (λ b. nat_lt b 256) f places
     ∙ all_always (λ place. nat_lt (f place) 256) places
     (λ place. byte_or_zero (byte_at ps place) (λ b h. byte_at_fits ps place b (carried_pieces_fit first (heads_by log) log source n fit) h))
+
+-- a datagram that was taken fits
+pub taken_member : (from : Life) (item : Item) (log : List Deed) → AllTakenFit log → Member (Took from item) log → TakenFits (Took from item)
+taken_member from item [] fit m = elim m [ ]
+taken_member from item (d ∷ before) fit (inl is) = subst TakenFits is fit.1
+taken_member from item (d ∷ before) fit (inr m) = taken_member from item before fit.0 m

@@ -11,7 +11,7 @@ use Rattle.rdm_model.specs.declared.entry.Act.{Act}
 use Rattle.rdm_model.specs.declared.entry.Act.TheVariants.{Handle}
 use Rattle.rdm_model.specs.declared.answer.Handled.TheVariants.{Took as TookAnswer}
 use Rattle.rdm_model.specs.Deeds.{Deed, Took, Item, deed_of, deeds, log_of, open_life, of_life}
-use Rattle.rdm_model.specs.Owns.{rank_of}
+use Rattle.rdm_model.specs.Beginnings.{rank_of}
 use Rattle.rdm_model.specs.Scenes.{deeds_at}
 use Rattle.rdm_model.specs.Classes.{class_of}
 use Rattle.rdm_model.specs.Steps.{Does}

@@ -8,7 +8,7 @@ use Rattle.rdm_num.specs.declared.numbers.Life.{Life}
 use Rattle.rdm_model.specs.declared.job.Instr.TheVariants.{Insert}
 use Rattle.rdm_model.specs.Deeds.{Deed, Did, Took, Item}
 use Rattle.rdm_model.specs.Currents.{inserted_by, last_inserted, seen_by, first_seen, current, is_current, was_current}
-use Rattle.rdm_model.specs.Owns.{Own, Messages}
+use Rattle.rdm_model.specs.Beginnings.{Own, Messages}
 use Rattle.rdm_model.specs.Sends.{Sent, new_sent, sends}
 use Rattle.rdm_model.proofs.Numbers.{NewSent, made}
 use Rattle.rdm_lists.proofs.Options.{or_else_cases, then_some_parts, some-or_else_left, some-or_else_right}
@@ -83,6 +83,19 @@ pub took_current : (log : List Deed) (from : Life) (item : Item) → Member (Too
 took_current [] from item m = elim m [ ]
 took_current (d ∷ before) from item (inl a) = took_now d before from item a
 took_current (d ∷ before) from item (inr a) = current_stays d before from.port.0 (took_current before from item a)
+
+-- the port of a life that was inserted has a current life
+inserted_now : (d : Deed) (before : List Deed) (life : Life) → d ≡ Did (Insert life) → is_some (current (d ∷ before) life.port.0) ≡ true
+unfolding current last_inserted inserted_by or_else
+inserted_now d before life is =
+    let t : (life.port.0 == life.port.0) ≡ true = eq-eqb life.port.0 life.port.0 refl in
+    rw (is, t) refl
+
+-- so it stays
+pub inserted_current : (log : List Deed) (life : Life) → Member (Did (Insert life)) log → is_some (current log life.port.0) ≡ true
+inserted_current [] life m = elim m [ ]
+inserted_current (d ∷ before) life (inl a) = inserted_now d before life a
+inserted_current (d ∷ before) life (inr a) = current_stays d before life.port.0 (inserted_current before life a)
 
 -- a new send goes to the life that is current
 pub to_new : (own : Own) (ms : Messages) (before : List Deed) (sents : List Sent) (d : Deed) (s : Sent) (n : NewSent own ms before sents d s) → s.to ≡ n.to

@@ -26,7 +26,7 @@ use Rattle.rdm_model.specs.declared.entry.Entry.{Entry}
 use Rattle.rdm_model.specs.declared.entry.Act.{Act}
 use Rattle.rdm_model.specs.declared.entry.Act.TheVariants.{Next, Push, Handle, Poll}
 use Rattle.rdm_model.specs.Deeds.{Deed, Did, TookNote, Took, Item, deed_by_next, deed_by_push, deed_by_handle, deed_of, deeds, log_of, open_life, of_life}
-use Rattle.rdm_model.specs.Owns.{own_of, rank_of, life_at}
+use Rattle.rdm_model.specs.Beginnings.{own_of, rank_of, life_at}
 use Rattle.rdm_model.specs.Currents.{inserted_by, last_inserted, seen_by, first_seen, current}
 use Rattle.rdm_model.specs.Notes.{tells_open, opens, knows_open}
 use Rattle.rdm_model.specs.Scenes.{Scene, scene, deeds_at}

@@ -24,14 +24,14 @@ use Rattle.rdm_model.specs.declared.entry.Entry.{Entry}
 use Rattle.rdm_model.specs.declared.entry.Act.{Act}
 use Rattle.rdm_model.specs.declared.entry.Act.TheVariants.{Next, Push, Handle, Poll}
 use Rattle.rdm_model.specs.Deeds.{Deed, Did, PushedNote, Pushed, TookNote, Took, Polled, Nothing, Item, item_of, deed_by_next, deed_by_push, deed_by_handle, deed_of, deeds, open_life, is_connid, of_life, of_open_life}
-use Rattle.rdm_model.specs.Owns.{Own, rank_of, port_count, life_at, own_of}
+use Rattle.rdm_model.specs.Beginnings.{Own, rank_of, port_count, life_at, own_of}
 use Rattle.rdm_model.specs.Notes.{OwedNote, next_note}
 use Rattle.rdm_model.specs.Dues.{Due, due}
 use Rattle.rdm_num.specs.declared.completion.Completion.{Completion}
 use Rattle.rdm_model.specs.Completions.{completions, poll_count}
 use Rattle.rdm_model.specs.Scenes.{Scene, scene, deeds_at}
 use Rattle.rdm_model.specs.Answers.{answer_of}
-use Rattle.rdm_model.specs.Going.{Going, GoesNote, Goes, due_going, life_going, note_going, going, Bears, IsGoing, IsNext}
+use Rattle.rdm_model.specs.Going.{Going, GoesNote, Goes, due_going, life_going, note_going, going, Bears, IsGoing, GoesNext}
 use Rattle.rdm_model.specs.Classes.{item_class, body_class, class_of}
 use Rattle.rdm_model.specs.Takes.{class_answer, handled_answer}
 use Rattle.rdm_model.specs.Steps.{Does}
@@ -154,7 +154,7 @@ push_is_going ports own port_log log d from to load (Goes dest item) b is h =
 
 -- a push between lives that is next is of the next due item of the open life
 pub push_is : (ports : ℕ) (own : Own) (port_log log : List Deed) (d : Datagram) (from to : Connid) (load : Load)
-    → d.body ≡ Between from to load → IsNext (life_scene ports own port_log log) d → IsPush own log d from to load
+    → d.body ≡ Between from to load → GoesNext (life_scene ports own port_log log) d → IsPush own log d from to load
 push_is ports own port_log log d from to load b n = push_is_going ports own port_log log d from to load n.0 b n.1 n.2
 
 -- an instruction that did is one that the life may do
@@ -167,7 +167,7 @@ next_step ports own port_log log (Some i) (DidAnswer what) instr is h =
 next_step ports own port_log log _ answer instr is h = tt
 
 -- a push is of what is next
-push_step : (ports : ℕ) (own : Own) (port_log log : List Deed) (d : Datagram) (body : Body) → d.body ≡ body → IsNext (life_scene ports own port_log log) d
+push_step : (ports : ℕ) (own : Own) (port_log log : List Deed) (d : Datagram) (body : Body) → d.body ≡ body → GoesNext (life_scene ports own port_log log) d
     → LifeStep own log (deed_by_push body)
 unfolding deed_by_push
 push_step ports own port_log log d (Note note) b n = tt

@@ -14,7 +14,7 @@ use Rattle.rdm_model.specs.declared.entry.Entry.{Entry}
 use Rattle.rdm_model.specs.declared.entry.Act.{Act}
 use Rattle.rdm_model.specs.declared.entry.Act.TheVariants.{Next, Push, Handle, Poll}
 use Rattle.rdm_model.specs.Deeds.{Deed, Did, deed_by_next, deed_of, deeds, open_after, open_life}
-use Rattle.rdm_model.specs.Owns.{rank_of}
+use Rattle.rdm_model.specs.Beginnings.{rank_of}
 use Rattle.rdm_model.specs.Standing.{is_open_op, is_close_op, has_one_life}
 use Rattle.rdm_law.proofs.Lives.Knows.{push_did, handle_did}
 use Rattle.rdm_lists.proofs.Members.{filter-member, member_list_any}

@@ -13,7 +13,7 @@ use Rattle.rdm_model.specs.declared.answer.Next.TheVariants.{Did as DidAnswer}
 use Rattle.rdm_model.specs.Deeds.{Deed, Did}
 use Rattle.rdm_model.specs.Currents.{inserted_by, last_inserted, first_seen, current, is_current, was_current, is_superseded, other_life, forgotten_by, is_forgotten}
 use Rattle.rdm_model.specs.Sources.{is_other}
-use Rattle.rdm_model.specs.Owns.{Own}
+use Rattle.rdm_model.specs.Beginnings.{Own}
 use Rattle.rdm_model.specs.Answers.{answer_of}
 use Rattle.rdm_law.proofs.Lives.Lives.{life_scene, LifeStep, LifeLocal}
 use Rattle.rdm_law.proofs.Lives.Held.{Replaced, kept_current, current_port}

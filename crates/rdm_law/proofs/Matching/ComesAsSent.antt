@@ -15,7 +15,7 @@ use Rattle.rdm_model.specs.declared.job.Job.{Job}
 use Rattle.rdm_model.specs.declared.job.Instr.TheVariants.{Recv, Cancel as CancelOp, Insert}
 use Rattle.rdm_model.specs.declared.entry.Entry.{Entry}
 use Rattle.rdm_model.specs.Deeds.{Deed, Did, Took}
-use Rattle.rdm_model.specs.Owns.{Heads, own_of}
+use Rattle.rdm_model.specs.Beginnings.{Heads, own_of}
 use Rattle.rdm_model.specs.Heard.{heard_head, is_heard}
 use Rattle.rdm_model.specs.Matches.{arrival, events_by, merge}
 use Rattle.rdm_model.specs.Sends.{Sent, sends_to}

@@ -9,7 +9,7 @@ use Rattle.rdm_match.specs.declared.Arrived.{Arrived}
 use Rattle.rdm_match.specs.Matcher.{Post, Cancel, Forget, Pair, Matching, accepts, after_post, after_arrive, after, run}
 use Rattle.rdm_model.specs.declared.job.Instr.TheVariants.{Insert, Recv, Cancel as CancelOp}
 use Rattle.rdm_model.specs.Deeds.{Deed, Did, Took}
-use Rattle.rdm_model.specs.Owns.{Heads}
+use Rattle.rdm_model.specs.Beginnings.{Heads}
 use Rattle.rdm_model.specs.Currents.{forgotten_by}
 use Rattle.rdm_model.specs.Heard.{heard_head, is_heard, heard_below, has_entered, entering}
 use Rattle.rdm_model.specs.Matches.{arrival, events_by, matching}

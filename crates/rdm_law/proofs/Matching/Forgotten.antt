@@ -13,7 +13,7 @@ use Rattle.rdm_match.specs.Matcher.{Event, Post, Arrive, Cancel, Forget, Pair, M
 use Rattle.rdm_model.specs.declared.job.Instr.TheVariants.{Recv, Cancel as CancelOp, Insert}
 use Rattle.rdm_model.specs.declared.answer.Class.TheVariants.{ToOther, FromOther}
 use Rattle.rdm_model.specs.Deeds.{Deed, Did, Took, Item, is_connid}
-use Rattle.rdm_model.specs.Owns.{Own, Heads}
+use Rattle.rdm_model.specs.Beginnings.{Own, Heads}
 use Rattle.rdm_model.specs.Currents.{current, is_current, forgotten_by, is_forgotten, named_life}
 use Rattle.rdm_model.specs.Sources.{is_other}
 use Rattle.rdm_model.specs.Classes.{item_class}

@@ -8,7 +8,7 @@ use Rattle.rdm_match.specs.declared.Arrived.{Arrived}
 use Rattle.rdm_match.specs.Matcher.{Event, Post, Arrive, Cancel, Forget, Pair, Matching, accepts, after_post, after_arrive, after, run}
 use Rattle.rdm_model.specs.declared.job.Instr.TheVariants.{Insert, Recv, Cancel as CancelOp}
 use Rattle.rdm_model.specs.Deeds.{Deed, Did, Took}
-use Rattle.rdm_model.specs.Owns.{Heads}
+use Rattle.rdm_model.specs.Beginnings.{Heads}
 use Rattle.rdm_model.specs.Currents.{forgotten_by}
 use Rattle.rdm_model.specs.Heard.{entering}
 use Rattle.rdm_model.specs.Matches.{Receive, receive, receives, received_by, with_received, arrival, events_by, matching}

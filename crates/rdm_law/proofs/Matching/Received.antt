@@ -8,7 +8,7 @@ use Rattle.rdm_match.specs.declared.Arrived.{Arrived}
 use Rattle.rdm_match.specs.Matcher.{Event, Post, Arrive, Cancel, Forget, Pair, Matching, accepts, after_post, after_arrive, after, run, is_recv}
 use Rattle.rdm_model.specs.declared.job.Instr.TheVariants.{Insert, Recv, Cancel as CancelOp}
 use Rattle.rdm_model.specs.Deeds.{Deed, Did, Took}
-use Rattle.rdm_model.specs.Owns.{Heads}
+use Rattle.rdm_model.specs.Beginnings.{Heads}
 use Rattle.rdm_model.specs.Matches.{Receive, receive, receives, received_by, with_received, arrival, events_by, matching}
 use Rattle.rdm_lists.proofs.Members.{member-append_left, member-append_right, member-append_cases, member-filter, member-map, find_member, without_member}
 use Rattle.rdm_lists.proofs.Places.{slice_get_split, member_at}

@@ -9,7 +9,7 @@ use Rattle.rdm_model.specs.declared.job.Choice.{Choice}
 use Rattle.rdm_model.specs.declared.entry.Entry.{Entry}
 use Rattle.rdm_model.specs.declared.entry.Act.{Act}
 use Rattle.rdm_model.specs.declared.entry.Act.TheVariants.{Next, Push, Handle, Poll}
-use Rattle.rdm_model.specs.Owns.{port_count}
+use Rattle.rdm_model.specs.Beginnings.{port_count}
 use Rattle.rdm_model.specs.Jobs.{choice_rank}
 use Rattle.rdm_model.specs.declared.answer.OpName.{OpName}
 use Rattle.rdm_model.specs.declared.answer.Next.{Next as Answer}
@@ -17,7 +17,7 @@ use Rattle.rdm_model.specs.declared.answer.Handled.{Handled}
 use Rattle.rdm_model.specs.Answers.{op_of, answer_of, is_entry}
 use Rattle.rdm_model.specs.Classes.{class_of}
 use Rattle.rdm_model.specs.Going.{Going}
-use Rattle.rdm_model.specs.Steps.{count, is_next}
+use Rattle.rdm_model.specs.Steps.{count, nexts_by, handles_by}
 use Rattle.rdm_model.specs.Takes.{handled_answer, is_again_early}
 use Rattle.rdm_model.specs.Settled.{is_worn, is_worn_by}
 use Rattle.rdm_model.specs.Worlds.{World, new_world, put_at, scene_in, with_entry, next_act, step_next, datagram_of, with_push, step_push, after_fetch, with_handle, after_handle_at, after_pick, step_handle, with_poll, after_choice}
@@ -25,14 +25,9 @@ use Rattle.rdm_law.proofs.Played.Apart.{put_at_here, put_at_there, Removed, remo
 use Rattle.rdm_law.proofs.Played.Sound.{chosen, entry_of}
 use Rattle.rdm_law.proofs.Played.PlayedSteps.{Keeps}
 
--- 1 for a handling
-unfoldable pub is_handling : Act → ℕ
-is_handling (Handle d answer) = 1
-is_handling _ = 0
-
 -- what a port has of the changes
 unfoldable pub measure : World → ℕ → ℕ
-measure w p = length (w.logs p) + count is_handling (w.logs p) + length (w.stashes p)
+measure w p = length (w.logs p) + count handles_by (w.logs p) + length (w.stashes p)
 
 -- the sum over the numbers below n
 unfoldable pub sum_below : (ℕ → ℕ) → ℕ → ℕ
@@ -93,38 +88,38 @@ abbrev pub SomeMoved : World → World → ℕ → Type 0
 SomeMoved w v port = (k : ℕ) × Moved w v port k
 
 -- one more entry that handles nothing
-one_longer : (e : Entry) (log : List Entry) (stash : ℕ) → is_handling e.act ≡ 0 → length (e ∷ log) + count is_handling (e ∷ log) + stash ≡ length log + count is_handling log + stash + 1
+one_longer : (e : Entry) (log : List Entry) (stash : ℕ) → handles_by e.act ≡ 0 → length (e ∷ log) + count handles_by (e ∷ log) + stash ≡ length log + count handles_by log + stash + 1
 unfolding count
 one_longer e log stash none = omega arith
 
 -- an instruction handles nothing
-next_handles_none : (index : ℕ) (op : OpName) (answer : Answer) → is_handling (Next index op answer) ≡ 0
-unfolding is_handling
+next_handles_none : (index : ℕ) (op : OpName) (answer : Answer) → handles_by (Next index op answer) ≡ 0
+unfolding handles_by
 next_handles_none index op answer = refl
 
 -- a push handles nothing
-push_handles_none : (d : Datagram) → is_handling (Push d) ≡ 0
-unfolding is_handling
+push_handles_none : (d : Datagram) → handles_by (Push d) ≡ 0
+unfolding handles_by
 push_handles_none d = refl
 
 -- a poll handles nothing
-poll_handles_none : (c : Completion) → is_handling (Poll c) ≡ 0
-unfolding is_handling
+poll_handles_none : (c : Completion) → handles_by (Poll c) ≡ 0
+unfolding handles_by
 poll_handles_none c = refl
 
 -- a handling handles one
-handle_handles_one : (d : Datagram) (answer : Handled) → is_handling (Handle d answer) ≡ 1
-unfolding is_handling
+handle_handles_one : (d : Datagram) (answer : Handled) → handles_by (Handle d answer) ≡ 1
+unfolding handles_by
 handle_handles_one d answer = refl
 
 -- one more entry and handling, and one datagram fewer
 handled_here : (w : World) (port place : ℕ) (e : Entry) (d : Datagram) → Removed (w.stashes port) place d → (logs : List Entry) (stash : List Datagram) → logs ≡ e ∷ w.logs port
-    → stash ≡ remove (w.stashes port) place → is_handling e.act ≡ 1
-    → length logs + count is_handling logs + length stash ≡ length (w.logs port) + count is_handling (w.logs port) + length (w.stashes port) + 1
+    → stash ≡ remove (w.stashes port) place → handles_by e.act ≡ 1
+    → length logs + count handles_by logs + length stash ≡ length (w.logs port) + count handles_by (w.logs port) + length (w.stashes port) + 1
 unfolding count
 handled_here w port place e d r logs stash is less one =
     let a : length logs ≡ length (w.logs port) + 1 = ap (λ (l : List Entry). length l) is ∙ (let x : suc (length (w.logs port)) ≡ length (w.logs port) + 1 = omega arith in x) in
-    let b : count is_handling logs ≡ count is_handling (w.logs port) + is_handling e.act = ap (λ (l : List Entry). count is_handling l) is in
+    let b : count handles_by logs ≡ count handles_by (w.logs port) + handles_by e.act = ap (λ (l : List Entry). count handles_by l) is in
     let c : length stash ≡ length (r.front ++ r.back) = ap (λ (ds : List Datagram). length ds) (less ∙ r.is) in
     let f : length (w.stashes port) ≡ length (r.front ++ d ∷ r.back) = ap (λ (ds : List Datagram). length ds) r.was in
     let g = length-append r.front r.back in
@@ -132,16 +127,16 @@ handled_here w port place e d r logs stash is less one =
     omega arith
 
 -- an entry
-entry_moved : (job : Job) (w : World) (port : ℕ) (act : Act) → is_handling act ≡ 0 → Moved w (with_entry job w port act) port 1
+entry_moved : (job : Job) (w : World) (port : ℕ) (act : Act) → handles_by act ≡ 0 → Moved w (with_entry job w port act) port 1
 unfolding with_entry measure count
 entry_moved job w port act none =
     let e = entry_of job port (w.logs port) act in
     let log : put_at port (e ∷ w.logs port) w.logs port ≡ e ∷ w.logs port = put_at_here port (e ∷ w.logs port) w.logs in
     record {
       changes = refl;
-      here = (let M : List Entry → Type 0 = λ l. length l + count is_handling l + length (w.stashes port) ≡ length (w.logs port) + count is_handling (w.logs port) + length (w.stashes port) + 1 in
+      here = (let M : List Entry → Type 0 = λ l. length l + count handles_by l + length (w.stashes port) ≡ length (w.logs port) + count handles_by (w.logs port) + length (w.stashes port) + 1 in
           subst M (sym log) (one_longer e (w.logs port) (length (w.stashes port)) none));
-      there = λ p other. ap (λ (l : List Entry). length l + count is_handling l + length (w.stashes p)) (put_at_there port (e ∷ w.logs port) w.logs p other);
+      there = λ p other. ap (λ (l : List Entry). length l + count handles_by l + length (w.stashes p)) (put_at_there port (e ∷ w.logs port) w.logs p other);
     }
 
 -- an instruction
@@ -150,7 +145,7 @@ unfolding step_next next_act
 next_moved job w port None = (0, moved_none w port)
 next_moved job w port (Some instr) =
     chosen (λ (v : World). SomeMoved w v port) (is_entry (answer_of (scene_in job w port) instr) && not (is_worn job (w.logs port))) _ w
-    (λ yes. (1, entry_moved job w port (next_act (w.logs port) instr (answer_of (scene_in job w port) instr)) (next_handles_none (count is_next (w.logs port)) (op_of instr) (answer_of (scene_in job w port) instr)))) (λ no. (0, moved_none w port))
+    (λ yes. (1, entry_moved job w port (next_act (w.logs port) instr (answer_of (scene_in job w port) instr)) (next_handles_none (count nexts_by (w.logs port)) (op_of instr) (answer_of (scene_in job w port) instr)))) (λ no. (0, moved_none w port))
 
 -- a poll
 poll_moved : (job : Job) (w : World) (port : ℕ) (o : Option Completion) → SomeMoved w (with_poll job w port o) port
@@ -163,7 +158,7 @@ poll_moved job w port (Some c) =
 queues_moved : (w v u : World) (port k : ℕ) → Moved w v port k → u.logs ≡ v.logs → u.stashes ≡ v.stashes → u.changes ≡ v.changes → Moved w u port k
 unfolding measure
 queues_moved w v u port k m l s c =
-    let M : (ℕ → List Entry) → (ℕ → List Datagram) → ℕ → ℕ = λ logs stashes p. length (logs p) + count is_handling (logs p) + length (stashes p) in
+    let M : (ℕ → List Entry) → (ℕ → List Datagram) → ℕ → ℕ = λ logs stashes p. length (logs p) + count handles_by (logs p) + length (stashes p) in
     let same : (p : ℕ) → M u.logs u.stashes p ≡ M v.logs v.stashes p = λ p. ap (λ (x : ℕ → List Entry). M x u.stashes p) l ∙ ap (λ (x : ℕ → List Datagram). M v.logs x p) s in
     record { changes = c ∙ m.changes; here = same port ∙ m.here; there = λ p other. same p ∙ m.there p other }
 
@@ -189,7 +184,7 @@ fetch_moved job w port =
     record {
       changes = refl;
       here = omega arith;
-      there = λ p other. ap (λ (ds : List Datagram). length (w.logs p) + count is_handling (w.logs p) + length ds) (put_at_there port stash w.stashes p other);
+      there = λ p other. ap (λ (ds : List Datagram). length (w.logs p) + count handles_by (w.logs p) + length ds) (put_at_there port stash w.stashes p other);
     }
 
 -- a handling
@@ -210,8 +205,8 @@ handle_moved job w port place (Some d) is =
         changes = refl;
         here = handled_here w port place e d r (put_at port (e ∷ w.logs port) w.logs port) (put_at port (remove (w.stashes port) place) w.stashes port) logs stash (handle_handles_one d answer);
         there = λ p other.
-            ap (λ (l : List Entry). length l + count is_handling l + length (put_at port (remove (w.stashes port) place) w.stashes p)) (put_at_there port (e ∷ w.logs port) w.logs p other)
-            ∙ ap (λ (ds : List Datagram). length (w.logs p) + count is_handling (w.logs p) + length ds) (put_at_there port (remove (w.stashes port) place) w.stashes p other);
+            ap (λ (l : List Entry). length l + count handles_by l + length (put_at port (remove (w.stashes port) place) w.stashes p)) (put_at_there port (e ∷ w.logs port) w.logs p other)
+            ∙ ap (λ (ds : List Datagram). length (w.logs p) + count handles_by (w.logs p) + length ds) (put_at_there port (remove (w.stashes port) place) w.stashes p other);
       },
     ))
 

@@ -6,7 +6,7 @@ use Rattle.rdm_model.specs.declared.answer.Handled.{Handled}
 use Rattle.rdm_model.specs.declared.entry.Entry.{Entry}
 use Rattle.rdm_model.specs.declared.entry.Act.{Act}
 use Rattle.rdm_model.specs.declared.entry.Act.TheVariants.{Next, Push, Handle, Poll}
-use Rattle.rdm_model.specs.Steps.{count, is_push}
+use Rattle.rdm_model.specs.Steps.{count, pushes_by}
 use Rattle.rdm_model.specs.Wire.{PushedIn, IsOther, IsUnhandled}
 use Rattle.rdm_model.specs.Worlds.{put_at}
 use Rattle.rdm_law.specs.Worlds.{WasPushed, TookOnce}
@@ -81,11 +81,11 @@ abbrev pub IsNew : (ℕ → List Entry) → Datagram → Type 0
 IsNew logs d = (q : Datagram) → PushedIn q (logs q.src.0) → Differ d q
 
 -- a datagram with the next number is new
-pub next_is_new : (logs : ℕ → List Entry) (d : Datagram) → ((p : ℕ) → AreNumbered p (logs p)) → d.number.0 ≡ count is_push (logs d.src.0) → IsNew logs d
+pub next_is_new : (logs : ℕ → List Entry) (d : Datagram) → ((p : ℕ) → AreNumbered p (logs p)) → d.number.0 ≡ count pushes_by (logs d.src.0) → IsNew logs d
 next_is_new logs d n is q h s e =
     let a = pushed_below q.src.0 (logs q.src.0) q (n q.src.0) h in
-    let P : ℕ → Type 0 = λ x. q.number.0 < count is_push (logs x) in
-    let b : q.number.0 < count is_push (logs d.src.0) = subst P (ap (λ x. x.0) s) a.1 in
+    let P : ℕ → Type 0 = λ x. q.number.0 < count pushes_by (logs x) in
+    let b : q.number.0 < count pushes_by (logs d.src.0) = subst P (ap (λ x. x.0) s) a.1 in
     let f : q.number.0 ≡ d.number.0 = ap (λ x. x.0) e in
     absurd (omega arith)
 
@@ -131,9 +131,9 @@ one_more_has waiting d q is =
 
 -- an entry that pushes a datagram with the next number
 pub push_delivers : (logs : ℕ → List Entry) (waiting : ℕ → List Datagram) (port : ℕ) (e : Entry) (d : Datagram) → e.act ≡ Push d → d.src.0 ≡ port
-    → d.number.0 ≡ count is_push (logs port) → Delivers logs waiting → Delivers (more_logs logs port e) (one_more waiting d)
+    → d.number.0 ≡ count pushes_by (logs port) → Delivers logs waiting → Delivers (more_logs logs port e) (one_more waiting d)
 push_delivers logs waiting port e d is src number i =
-    let num : d.number.0 ≡ count is_push (logs d.src.0) = subst (λ (x : ℕ). d.number.0 ≡ count is_push (logs x)) (sym src) number in
+    let num : d.number.0 ≡ count pushes_by (logs d.src.0) = subst (λ (x : ℕ). d.number.0 ≡ count pushes_by (logs x)) (sym src) number in
     let new : IsNew logs d = next_is_new logs d i.numbered num in
     let other : (q : Datagram) → IsOther q e.act = λ q. (let P : Act → Type 0 = λ act. IsOther q act in subst P (sym is) tt) in
     let now : PushedIn d (more_logs logs port e d.src.0) =

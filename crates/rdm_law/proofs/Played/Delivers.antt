@@ -6,7 +6,7 @@ use Rattle.rdm_model.specs.declared.answer.Handled.TheVariants.{Took as TookAnsw
 use Rattle.rdm_model.specs.declared.entry.Entry.{Entry}
 use Rattle.rdm_model.specs.declared.entry.Act.{Act}
 use Rattle.rdm_model.specs.declared.entry.Act.TheVariants.{Next, Push, Handle, Poll}
-use Rattle.rdm_model.specs.Steps.{count, is_push}
+use Rattle.rdm_model.specs.Steps.{count, pushes_by}
 use Rattle.rdm_model.specs.Wire.{PushedIn, IsOther, IsUnhandled}
 use Rattle.rdm_model.specs.Worlds.{put_at}
 use Rattle.rdm_law.specs.Worlds.{WasPushed, TookOnce}
@@ -15,7 +15,7 @@ use Rattle.rdm_law.proofs.Accounts.Wired.{HandledIn}
 
 -- a push of the port has the next number
 abbrev pub IsNumbered : ℕ → List Entry → Act → Type 0
-IsNumbered port before (Push d) = (d.src.0 ≡ port) × (d.number.0 ≡ count is_push before)
+IsNumbered port before (Push d) = (d.src.0 ≡ port) × (d.number.0 ≡ count pushes_by before)
 IsNumbered port before _ = Unit {0}
 
 -- the pushes of a port have its number, and are numbered from 0
@@ -47,19 +47,19 @@ pub record Delivers (logs : ℕ → List Entry) (waiting : ℕ → List Datagram
   pub arrives : (d : Datagram) → PushedIn d (logs d.src.0) → IsUnhandled d (logs d.dst.0) → Member d (waiting d.dst.0)
 
 -- the count goes on by one with a push
-below_push : (n : ℕ) (d : Datagram) → d.number.0 ≡ n → d.number.0 < n + is_push (Push d)
-unfolding is_push
+below_push : (n : ℕ) (d : Datagram) → d.number.0 ≡ n → d.number.0 < n + pushes_by (Push d)
+unfolding pushes_by
 below_push n d h = omega arith
 
 -- a pushed datagram has the port's number, and a number below the count of pushes
-pub pushed_below : (port : ℕ) (log : List Entry) (d : Datagram) → AreNumbered port log → PushedIn d log → (d.src.0 ≡ port) × (d.number.0 < count is_push log)
+pub pushed_below : (port : ℕ) (log : List Entry) (d : Datagram) → AreNumbered port log → PushedIn d log → (d.src.0 ≡ port) × (d.number.0 < count pushes_by log)
 unfolding count
 pushed_below port [] d n h = elim h [ ]
 pushed_below port (e ∷ before) d n (inl is) =
     let P : Act → Type 0 = λ act. IsNumbered port before act in
-    let Q : Act → Type 0 = λ act. d.number.0 < count is_push before + is_push act in
+    let Q : Act → Type 0 = λ act. d.number.0 < count pushes_by before + pushes_by act in
     let mine : IsNumbered port before (Push d) = subst P is n.1 in
-    let last : d.number.0 < count is_push before + is_push (Push d) = below_push (count is_push before) d mine.1 in
+    let last : d.number.0 < count pushes_by before + pushes_by (Push d) = below_push (count pushes_by before) d mine.1 in
     (mine.0, subst Q (sym is) last)
 pushed_below port (e ∷ before) d n (inr h) =
     let r = pushed_below port before d n.0 h in

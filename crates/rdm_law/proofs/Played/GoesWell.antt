@@ -18,7 +18,7 @@ use Rattle.rdm_model.specs.declared.entry.Entry.{Entry}
 use Rattle.rdm_model.specs.declared.entry.Act.{Act}
 use Rattle.rdm_model.specs.declared.entry.Act.TheVariants.{Next, Push, Handle, Poll}
 use Rattle.rdm_model.specs.Deeds.{Deed, Did, Polled, Item, deed_by_next, deed_by_push, deed_by_handle, deed_of, deeds, open_after, open_life, of_life}
-use Rattle.rdm_model.specs.Owns.{Own, rank_of, no_rank, port_count, own_of}
+use Rattle.rdm_model.specs.Beginnings.{Own, rank_of, no_rank, port_count, own_of}
 use Rattle.rdm_model.specs.Jobs.{is_fair, law_ops, instr_fits}
 use Rattle.rdm_model.specs.Scenes.{Scene, scene, deeds_at}
 use Rattle.rdm_model.specs.Notes.{next_note}

@@ -5,11 +5,10 @@ use Rattle.rdm_wire.specs.declared.Datagram.{Datagram}
 use Rattle.rdm_model.specs.declared.entry.Entry.{Entry}
 use Rattle.rdm_model.specs.declared.entry.Act.{Act}
 use Rattle.rdm_model.specs.declared.entry.Act.TheVariants.{Next, Push, Handle, Poll}
-use Rattle.rdm_model.specs.Steps.{count}
+use Rattle.rdm_model.specs.Steps.{count, handles_by}
 use Rattle.rdm_model.specs.Wire.{PushedIn, IsOther, IsUnhandled}
 use Rattle.rdm_law.specs.Worlds.{WasPushed, TookOnce}
 use Rattle.rdm_law.proofs.Played.Apart.{Differ, AreApart}
-use Rattle.rdm_law.proofs.Played.Counted.{is_handling}
 use Rattle.rdm_lists.proofs.Members.{member-append_cases}
 
 -- the datagram that an act handled
@@ -23,15 +22,15 @@ handled_in [] = []
 handled_in (e ∷ before) = handled_by e.act ++ handled_in before
 
 -- an act handles one, if it is a handling
-one_handled : (act : Act) → length (handled_by act) ≡ is_handling act
-unfolding handled_by is_handling
+one_handled : (act : Act) → length (handled_by act) ≡ handles_by act
+unfolding handled_by handles_by
 one_handled (Handle d answer) = refl
 one_handled (Next index op answer) = refl
 one_handled (Push d) = refl
 one_handled (Poll c) = refl
 
 -- as many were handled as handlings are in the log
-pub handled_count : (log : List Entry) → length (handled_in log) ≡ count is_handling log
+pub handled_count : (log : List Entry) → length (handled_in log) ≡ count handles_by log
 unfolding handled_in count
 handled_count [] = refl
 handled_count (e ∷ before) =

@@ -9,8 +9,8 @@ use Rattle.rdm_model.specs.declared.entry.Entry.{Entry}
 use Rattle.rdm_model.specs.declared.entry.Act.{Act}
 use Rattle.rdm_model.specs.declared.entry.Act.TheVariants.{Next, Push, Handle, Poll}
 use Rattle.rdm_model.specs.Deeds.{log_of}
-use Rattle.rdm_model.specs.Owns.{port_count}
-use Rattle.rdm_model.specs.Steps.{count}
+use Rattle.rdm_model.specs.Beginnings.{port_count}
+use Rattle.rdm_model.specs.Steps.{count, handles_by}
 use Rattle.rdm_model.specs.Wire.{PushedIn}
 use Rattle.rdm_model.specs.Joint.{IsJoint}
 use Rattle.rdm_model.specs.Worlds.{World}
@@ -20,7 +20,7 @@ use Rattle.rdm_law.proofs.Played.Sound.{Sound, waiting_in}
 use Rattle.rdm_law.proofs.Played.Waiting.{apart_length}
 use Rattle.rdm_law.proofs.Lives.Logs.{at_log_of}
 use Rattle.rdm_law.proofs.Played.Outside.{OutsideEmpty}
-use Rattle.rdm_law.proofs.Played.Counted.{is_handling, measure, sum_below, sum_same, sum_change, IsCounted}
+use Rattle.rdm_law.proofs.Played.Counted.{measure, sum_below, sum_same, sum_change, IsCounted}
 use Rattle.rdm_law.proofs.Played.HandledApart.{handled_in, unhandled_differs, handled_count, Came, handled_came, apart_append, handled_apart}
 use Rattle.rdm_lists.proofs.Members.{member-append_left, member-append_right, member-append_cases}
 
@@ -88,7 +88,7 @@ came_below_apart w (suc n) i =
     ports_differ w x y i a.1 b.pushed (λ same. absurd (omega arith)))
 
 -- how much came to some ports
-came_length : (w : World) (n : ℕ) → length (came_below w n) ≡ sum_below (λ p. count is_handling (w.logs p) + length (w.stashes p)) n
+came_length : (w : World) (n : ℕ) → length (came_below w n) ≡ sum_below (λ p. count handles_by (w.logs p) + length (w.stashes p)) n
 unfolding came_below sum_below
 came_length w zero = refl
 came_length w (suc n) =
@@ -196,7 +196,7 @@ entries_sum n (e ∷ before) h =
     omega arith
 
 -- what ports have of the changes: entries, and datagrams that came
-sum_parts : (w : World) (n : ℕ) → sum_below (measure w) n ≡ sum_below (λ p. length (w.logs p)) n + sum_below (λ p. count is_handling (w.logs p) + length (w.stashes p)) n
+sum_parts : (w : World) (n : ℕ) → sum_below (measure w) n ≡ sum_below (λ p. length (w.logs p)) n + sum_below (λ p. count handles_by (w.logs p) + length (w.stashes p)) n
 unfolding sum_below measure
 sum_parts w zero = refl
 sum_parts w (suc n) = let a = sum_parts w n in omega arith

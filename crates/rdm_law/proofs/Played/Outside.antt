@@ -21,7 +21,7 @@ use Rattle.rdm_model.specs.declared.entry.Entry.{Entry}
 use Rattle.rdm_model.specs.declared.entry.Act.{Act}
 use Rattle.rdm_model.specs.declared.entry.Act.TheVariants.{Next, Push, Handle, Poll}
 use Rattle.rdm_model.specs.Deeds.{Deed, Did, Item, deed_by_next, deed_by_push, deed_by_handle, deed_of, deeds, open_life, of_life}
-use Rattle.rdm_model.specs.Owns.{rank_of, own_of, port_count}
+use Rattle.rdm_model.specs.Beginnings.{rank_of, own_of, port_count}
 use Rattle.rdm_model.specs.Jobs.{is_fair, law_ops, instr_fits, is_rank, choice_rank}
 use Rattle.rdm_model.specs.Scenes.{Scene, scene, deeds_at}
 use Rattle.rdm_model.specs.Answers.{answer_of, is_entry}

@@ -5,7 +5,7 @@ use Rattle.std.specs.List.{list_all}
 use Rattle.rdm_lists.specs.Lists.{Member, below}
 use Rattle.rdm_model.specs.declared.job.Job.{Job}
 use Rattle.rdm_model.specs.declared.job.Choice.{Choice}
-use Rattle.rdm_model.specs.Owns.{port_count}
+use Rattle.rdm_model.specs.Beginnings.{port_count}
 use Rattle.rdm_model.specs.Jobs.{is_fair, choices_fit, choice_rank}
 use Rattle.rdm_model.specs.Worlds.{World, new_world, after_choice, after_choices}
 use Rattle.rdm_model.specs.Played.{stop_if, is_last_try, try_then, after_first_handle, handle_any, visit_of, visits_of, round_of, unless_quiet, rounds, round_bound, played_world}

@@ -6,7 +6,7 @@ use Rattle.rdm_model.specs.declared.job.Job.{Job}
 use Rattle.rdm_model.specs.declared.entry.Entry.{Entry}
 use Rattle.rdm_model.specs.declared.report.End.{End}
 use Rattle.rdm_model.specs.declared.report.Report.{Report}
-use Rattle.rdm_model.specs.Owns.{port_count}
+use Rattle.rdm_model.specs.Beginnings.{port_count}
 use Rattle.rdm_model.specs.Jobs.{is_fair, law_ops, is_within, bound}
 use Rattle.rdm_model.specs.Settled.{waiting_datagrams}
 use Rattle.rdm_model.specs.Reports.{end_of, end_in, RightReport}

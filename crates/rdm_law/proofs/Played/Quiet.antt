@@ -2,6 +2,7 @@
 use Rattle.std.proofs.Common.{◌≡◌, ℕ, ◌<◌, true, false, not, ◌&&◌, ◌||◌, nat_le, List, length, slice_get, Option, Some, None, refl, arith, ◌⊎◌, inl, inr, ◌∙◌, subst}
 use Rattle.rdm_num.specs.declared.completion.Completion.{Completion}
 use Rattle.rdm_wire.specs.declared.Datagram.{Datagram}
+use Rattle.rdm_model.specs.Steps.{next_completion}
 use Rattle.rdm_model.specs.declared.job.Job.{Job}
 use Rattle.rdm_model.specs.declared.job.Instr.{Instr}
 use Rattle.rdm_model.specs.declared.job.Choice.{Choice}
@@ -14,7 +15,7 @@ use Rattle.rdm_model.specs.Going.{Going, GoesNote, Goes, going}
 use Rattle.rdm_model.specs.Takes.{is_again_early}
 use Rattle.rdm_model.specs.Settled.{is_worn, is_worn_by, instruction_left}
 use Rattle.rdm_model.specs.Local.{own_scene}
-use Rattle.rdm_model.specs.Worlds.{World, scene_in, with_entry, step_next, datagram_of, with_push, step_push, with_poll, next_completion, after_choice}
+use Rattle.rdm_model.specs.Worlds.{World, scene_in, with_entry, step_next, datagram_of, with_push, step_push, with_poll, after_choice}
 use Rattle.rdm_law.proofs.Played.Sound.{chosen}
 
 -- the worlds have the same logs, queues and stashes, and as many changes

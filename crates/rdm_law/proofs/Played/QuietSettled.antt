@@ -6,23 +6,24 @@ use Rattle.std.proofs.lemmas.Option.{slice_get_within}
 use Rattle.rdm_lists.specs.Lists.{Member, below}
 use Rattle.rdm_num.specs.declared.completion.Completion.{Completion}
 use Rattle.rdm_wire.specs.declared.Datagram.{Datagram}
+use Rattle.rdm_model.specs.Steps.{next_completion}
 use Rattle.rdm_model.specs.declared.job.Job.{Job}
 use Rattle.rdm_model.specs.declared.job.Instr.{Instr}
 use Rattle.rdm_model.specs.declared.answer.Next.{Next as Answer}
 use Rattle.rdm_model.specs.declared.answer.Next.TheVariants.{Worn}
 use Rattle.rdm_model.specs.declared.entry.Entry.{Entry}
 use Rattle.rdm_model.specs.Deeds.{log_of}
-use Rattle.rdm_model.specs.Owns.{port_count}
+use Rattle.rdm_model.specs.Beginnings.{port_count}
 use Rattle.rdm_model.specs.Scenes.{Scene, deeds_at}
 use Rattle.rdm_model.specs.Answers.{answer_of, is_entry}
 use Rattle.rdm_model.specs.Classes.{class_of, lives_class}
 use Rattle.rdm_model.specs.Going.{Going, going}
 use Rattle.rdm_model.specs.Takes.{is_again_early}
-use Rattle.rdm_model.specs.Settled.{is_worn, is_worn_by, instruction_left, answer_or_worn, left_answer, left_at, is_no_entry, next_completion_is_none, waiting_datagrams, is_quiet, is_quiet_in, is_settled}
+use Rattle.rdm_model.specs.Settled.{is_worn, is_worn_by, instruction_left, answer_or_worn, left_answer, left_at, is_no_entry, nothing_to_poll, waiting_datagrams, is_quiet, is_quiet_in, is_settled}
 use Rattle.rdm_model.specs.Local.{own_scene}
 use Rattle.rdm_model.specs.Lawful.{port_deeds, sent_scene}
 use Rattle.rdm_model.specs.Joint.{IsJoint}
-use Rattle.rdm_model.specs.Worlds.{World, next_completion}
+use Rattle.rdm_model.specs.Worlds.{World}
 use Rattle.rdm_law.proofs.Accounts.Wired.{Played}
 use Rattle.rdm_law.proofs.Central.Agreed.{going_agreed, left_agreed, none_agreed, early_agreed}
 use Rattle.rdm_law.proofs.Classes.ClassFree.{all_free}
@@ -74,8 +75,8 @@ quiet_poll job port log None is q = refl
 quiet_poll job port log (Some c) is q = q c is
 
 -- there is no next completion
-next_is_none : (s : Scene) → next_completion_is_none s ≡ is_none (next_completion s)
-unfolding next_completion_is_none next_completion
+next_is_none : (s : Scene) → nothing_to_poll s ≡ is_none (next_completion s)
+unfolding nothing_to_poll
 next_is_none s = refl
 
 -- a test that each element passes
@@ -126,7 +127,7 @@ port_quiet job w history port some s joint played quiet ranks m =
     (quiet (going_to g) (below_member (port_count job) (going_to g) (ranks port g (subst G is goes)))).queue) in
     let goes : (is_none (going (sent_scene job port history)) || is_worn job log) ≡ true =
     subst (λ (o : Option Going). (is_none o || is_worn job log) ≡ true) (going_agreed job port history played) (quiet_push job port log w.queues (going own) some refl empty push) in
-    let polls : (next_completion_is_none (sent_scene job port history) || is_worn job log) ≡ true =
+    let polls : (nothing_to_poll (sent_scene job port history) || is_worn job log) ≡ true =
     subst (λ (b : Bool). (b || is_worn job log) ≡ true) (sym (next_is_none own) ∙ none_agreed job port history played) (quiet_poll job port log (next_completion own) refl poll) in
     let waits = all_from_members (λ d. is_again_early lives_class (sent_scene job port history) d || is_worn_by job log d) (waiting_datagrams port history)
     (λ d k. waits_quiet job w history port d s joint played q k) in

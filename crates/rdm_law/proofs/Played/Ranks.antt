@@ -1,15 +1,16 @@
 -- In a fair job all that goes out goes to a rank.
-use Rattle.std.proofs.Common.{◌≡◌, ℕ, ◌<◌, not, ltb-true, List, [], ◌∷◌, length, Some, inl, inr, sym, subst}
+use Rattle.std.proofs.Common.{◌≡◌, ℕ, ◌<◌, not, ltb-true, List, [], ◌∷◌, length, Option, Some, inl, inr, sym, subst}
 use Rattle.std.specs.Prelude.{filter, ◌==◌}
 use Rattle.std.proofs.lemmas.Bool.{and_parts}
 use Rattle.rdm_lists.specs.Lists.{Member, below}
 use Rattle.rdm_num.specs.declared.numbers.Life.{Life}
+use Rattle.rdm_num.specs.declared.numbers.PortNo.{PortNo}
 use Rattle.rdm_num.specs.declared.request.SendReq.{SendReq}
 use Rattle.rdm_wire.specs.declared.NoteBody.TheVariants.{Opened}
 use Rattle.rdm_match.specs.Matcher.{Pair}
 use Rattle.rdm_model.specs.declared.job.Instr.TheVariants.{OpenLife, Insert, Note}
 use Rattle.rdm_model.specs.Deeds.{Deed, Did, Took, Item, Asks}
-use Rattle.rdm_model.specs.Owns.{Own, Messages, Heads}
+use Rattle.rdm_model.specs.Beginnings.{Own, Messages, Heads}
 use Rattle.rdm_model.specs.Currents.{inserted_by, last_inserted, seen_by, first_seen, current}
 use Rattle.rdm_model.specs.Notes.{OwedNote, note_to, notes_by, notes, next_note}
 use Rattle.rdm_model.specs.Matches.{pairs}
@@ -22,7 +23,7 @@ use Rattle.rdm_model.specs.Jobs.{instr_fits, is_rank}
 use Rattle.rdm_model.proofs.Matches.{pair_heard}
 use Rattle.rdm_model.proofs.Numbers.{sends_keep}
 use Rattle.rdm_model.proofs.Dues.{due_cases}
-use Rattle.rdm_law.proofs.Replies.Owed.{NewReply, OwedIn, owed_in}
+use Rattle.rdm_law.proofs.Replies.Owed.{MetBy, NewReply, OwedIn, owed_in}
 use Rattle.rdm_law.proofs.Replies.Queue.{owed}
 use Rattle.rdm_law.proofs.Replies.Answered.{waits_owed}
 use Rattle.rdm_law.proofs.Accounts.Known.{heard_taken}
@@ -117,13 +118,19 @@ pair_is P first heads log p h m =
     let t = heard_taken log p.message.life p.message.no.0 heard.0 heard.1 in
     took_is P p.message.life _ log h t.took
 
+-- a life that is met
+met_is : (P : Life → Type 0) (own : Own) (d : Deed) (life : Life) (raw : Option PortNo) → LifeIs P d → MetBy own d life raw → P life
+met_is P own d life raw h (inl a) = (let mine : LifeIs P (Took life a.0) = subst (LifeIs P) a.1 h in mine)
+met_is P own d life raw h (inr a) = (let mine : LifeIs P (Did (Insert life)) = subst (LifeIs P) a.0 h in mine)
+
 -- a reply that a deed makes owed
 reply_is : (P : Life → Type 0) (own : Own) (ms : Messages) (d : Deed) (before : List Deed) (r : Reply) → LivesAre P (d ∷ before) → NewReply own ms.head (sends own ms before) d before r → P r.to
-reply_is P own ms d before r h (inl new) = (let mine : LifeIs P (Took r.to new.item) = subst (LifeIs P) new.took h.1 in mine)
+reply_is P own ms d before r h (inl new) = met_is P own d r.to new.raw h.1 new.how
 reply_is P own ms d before r h (inr (inl new)) = subst P new.to_is (pair_is P own.limits.first ms.head (d ∷ before) new.pair h new.member)
 reply_is P own ms d before r h (inr (inr (inl new))) = subst P new.to_is (pair_is P own.limits.first ms.head (d ∷ before) new.pair h new.member)
 reply_is P own ms d before r h (inr (inr (inr (inl new)))) = subst P new.to_is (pair_is P own.limits.first ms.head (d ∷ before) new.pair h new.member)
-reply_is P own ms d before r h (inr (inr (inr (inr new)))) = (let mine : LifeIs P (Took r.to (Asks new.ask)) = subst (LifeIs P) new.took h.1 in mine)
+reply_is P own ms d before r h (inr (inr (inr (inr (inl new))))) = subst P new.to_is (pair_is P own.limits.first ms.head (d ∷ before) new.pair h new.member)
+reply_is P own ms d before r h (inr (inr (inr (inr (inr new))))) = (let mine : LifeIs P (Took r.to (Asks new.ask)) = subst (LifeIs P) new.took h.1 in mine)
 
 -- a reply that was owed
 owed_is : (P : Life → Type 0) (own : Own) (ms : Messages) (log : List Deed) (r : Reply) → LivesAre P log → OwedIn own ms r log → P r.to

@@ -12,10 +12,10 @@ use Rattle.rdm_model.specs.Scenes.{deeds_at}
 use Rattle.rdm_model.specs.Classes.{class_of}
 use Rattle.rdm_model.specs.Going.{going}
 use Rattle.rdm_model.specs.Takes.{handled_answer, is_again_early}
-use Rattle.rdm_model.specs.Steps.{clock, stamp_after, last_stamp}
+use Rattle.rdm_model.specs.Steps.{clock, stamp_after, last_stamp, next_completion}
 use Rattle.rdm_model.specs.Settled.{is_worn, is_worn_by, instruction_left}
 use Rattle.rdm_model.specs.Local.{own_scene}
-use Rattle.rdm_model.specs.Worlds.{World, put_at, scene_in, with_entry, after_fetch, with_handle, after_handle_at, after_pick, step_handle, next_completion, after_choice}
+use Rattle.rdm_model.specs.Worlds.{World, put_at, scene_in, with_entry, after_fetch, with_handle, after_handle_at, after_pick, step_handle, after_choice}
 use Rattle.rdm_law.proofs.Played.Apart.{Removed, removed, member_seam}
 use Rattle.rdm_law.proofs.Played.DeliverSteps.{same_delivers, one_less, one_less_was, handle_delivers}
 use Rattle.rdm_law.proofs.Played.Sound.{Sound, GoesWell, waiting_in, entry_of, local_more, handled_more, chosen}

@@ -13,10 +13,10 @@ use Rattle.rdm_model.specs.Scenes.{deeds_at}
 use Rattle.rdm_model.specs.Answers.{op_of, answer_of, is_entry}
 use Rattle.rdm_model.specs.Classes.{class_of}
 use Rattle.rdm_model.specs.Going.{Going, GoesNote, Goes, going}
-use Rattle.rdm_model.specs.Steps.{clock, stamp_after, last_stamp, count, is_next, Does, DoesPush}
+use Rattle.rdm_model.specs.Steps.{clock, stamp_after, last_stamp, count, nexts_by, Does, DoesPush, next_completion}
 use Rattle.rdm_model.specs.Settled.{is_worn, instruction_left}
 use Rattle.rdm_model.specs.Local.{own_scene}
-use Rattle.rdm_model.specs.Worlds.{World, new_world, put_at, scene_in, with_entry, next_act, step_next, datagram_of, load_of, with_push, step_push, with_poll, next_completion}
+use Rattle.rdm_model.specs.Worlds.{World, new_world, put_at, scene_in, with_entry, next_act, step_next, datagram_of, load_of, with_push, step_push, with_poll}
 use Rattle.rdm_law.proofs.Played.DeliverSteps.{IsQuiet, quiet_delivers, same_delivers, one_more, one_more_cases, push_delivers}
 use Rattle.rdm_law.proofs.Fits.Fitting.{BodyFits, HandledFits, CanGo, load_fits, load_bears}
 use Rattle.rdm_law.proofs.Played.Sound.{Sound, GoesWell, waiting_in, not_worn, entry_of, local_more, handled_more, chosen}
@@ -74,13 +74,13 @@ next_sound job w port (Some instr) is s =
     chosen (Sound job) (is_entry answer && not (is_worn job (w.logs port))) _ w
     (λ yes.
     let both = and_parts (is_entry answer) (not (is_worn job (w.logs port))) yes in
-    quiet_sound job w port (Next (count is_next (w.logs port)) (op_of instr) answer) tt (not-true _ both.1) (refl, (instr, is, refl, refl), both.0) s)
+    quiet_sound job w port (Next (count nexts_by (w.logs port)) (op_of instr) answer) tt (not-true _ both.1) (refl, (instr, is, refl, refl), both.0) s)
     (λ no. s)
 
 -- a poll
 pub poll_sound : (job : Job) (w : World) (port : ℕ) (o : Option Completion) → next_completion (own_scene job port (deeds_at job port (w.logs port))) ≡ o → Sound job w
     → Sound job (with_poll job w port o)
-unfolding with_poll next_completion
+unfolding with_poll
 poll_sound job w port None is s = s
 poll_sound job w port (Some c) is s =
     chosen (Sound job) (is_worn job (w.logs port)) w _ (λ yes. s) (λ no. quiet_sound job w port (Poll c) tt no is s)

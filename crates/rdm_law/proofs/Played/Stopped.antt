@@ -7,14 +7,14 @@ use Rattle.rdm_wire.specs.declared.Datagram.{Datagram}
 use Rattle.rdm_model.specs.declared.job.Job.{Job}
 use Rattle.rdm_model.specs.declared.entry.Entry.{Entry}
 use Rattle.rdm_model.specs.Deeds.{log_of}
-use Rattle.rdm_model.specs.Owns.{port_count}
+use Rattle.rdm_model.specs.Beginnings.{port_count}
 use Rattle.rdm_model.specs.Scenes.{deeds_at}
 use Rattle.rdm_model.specs.Classes.{class_of, lives_class}
 use Rattle.rdm_model.specs.Going.{Going, going}
 use Rattle.rdm_model.specs.Takes.{is_again_early}
 use Rattle.rdm_model.specs.Local.{own_scene}
 use Rattle.rdm_model.specs.Lawful.{port_deeds, sent_scene}
-use Rattle.rdm_model.specs.Settled.{is_worn, is_worn_by, left_at, is_no_entry, next_completion_is_none, waiting_datagrams, is_quiet, is_quiet_in, is_settled}
+use Rattle.rdm_model.specs.Settled.{is_worn, is_worn_by, left_at, is_no_entry, nothing_to_poll, waiting_datagrams, is_quiet, is_quiet_in, is_settled}
 use Rattle.rdm_model.specs.Reports.{end_in}
 use Rattle.rdm_model.specs.Worlds.{World, scene_in}
 use Rattle.rdm_model.specs.Played.{end_at}
@@ -61,7 +61,7 @@ own_quiet job logs history port ds j has quiet =
     let one = and_parts _ _ two.0 in
     let left : is_no_entry (left_at job port sent log) ≡ true = sym (ap is_no_entry (left_agreed job port history log j.played)) ∙ one.0 in
     let goes : (is_none (going sent) || is_worn job log) ≡ true = subst (λ (o : Option Going). (is_none o || is_worn job log) ≡ true) (going_agreed job port history j.played) one.1 in
-    let polls : (next_completion_is_none sent || is_worn job log) ≡ true = subst (λ (b : Bool). (b || is_worn job log) ≡ true) (none_agreed job port history j.played) two.1 in
+    let polls : (nothing_to_poll sent || is_worn job log) ≡ true = subst (λ (b : Bool). (b || is_worn job log) ≡ true) (none_agreed job port history j.played) two.1 in
     and_from _ _ (and_from _ _ (and_from _ _ left goes) polls) (waits_still job logs history port ds j has three.1)
 
 -- a rank of a world that has stopped is quiet in the history

@@ -10,7 +10,7 @@ use Rattle.rdm_model.specs.declared.entry.Entry.{Entry}
 use Rattle.rdm_model.specs.declared.entry.Act.{Act}
 use Rattle.rdm_model.specs.declared.entry.Act.TheVariants.{Next, Push, Handle, Poll}
 use Rattle.rdm_model.specs.Deeds.{log_of}
-use Rattle.rdm_model.specs.Steps.{count, is_push}
+use Rattle.rdm_model.specs.Steps.{count, pushes_by}
 use Rattle.rdm_model.specs.Wire.{PushedIn, IsOther, IsUnhandled, Comes, Wire}
 use Rattle.rdm_model.specs.Joint.{IsJoint}
 use Rattle.rdm_model.specs.Settled.{same_datagram, waiting_after, waiting_datagrams}
@@ -38,11 +38,11 @@ numbered_newest e before n =
     mine.1
 
 -- the newest entry pushes with the next number of its port
-pushes_next : (e : Entry) (before : List Entry) (d : Datagram) → PushesNumbered (e ∷ before) → e.act ≡ Push d → (d.src.0 ≡ e.port.0) × (d.number.0 ≡ count is_push (log_of d.src.0 before))
+pushes_next : (e : Entry) (before : List Entry) (d : Datagram) → PushesNumbered (e ∷ before) → e.act ≡ Push d → (d.src.0 ≡ e.port.0) × (d.number.0 ≡ count pushes_by (log_of d.src.0 before))
 pushes_next e before d n is =
     let P : Act → Type 0 = λ act. IsNumbered e.port.0 (log_of e.port.0 before) act in
     let mine : IsNumbered e.port.0 (log_of e.port.0 before) (Push d) = subst P is (numbered_newest e before n) in
-    (mine.0, subst (λ (x : ℕ). d.number.0 ≡ count is_push (log_of x before)) (sym mine.0) mine.1)
+    (mine.0, subst (λ (x : ℕ). d.number.0 ≡ count pushes_by (log_of x before)) (sym mine.0) mine.1)
 
 -- what was pushed stays pushed in a longer history
 pushed_longer : (e : Entry) (before : List Entry) (d : Datagram) (port : ℕ) → PushedIn d (log_of port before) → PushedIn d (log_of port (e ∷ before))

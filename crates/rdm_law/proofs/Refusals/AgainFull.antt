@@ -31,6 +31,12 @@ unfolding first_case
 past_refusal true why cs last pool h = cc
 past_refusal false why cs last pool h = h
 
+-- what is not yet done is not to be tried again for a pool
+past_yet : (b : Bool) (yet : Yet) (cs : List (Bool × Next)) (last : Next) (pool : PoolName) → first_case ((b, NotYet yet) ∷ cs) last ≡ Again pool → first_case cs last ≡ Again pool
+unfolding first_case
+past_yet true yet cs last pool h = cc
+past_yet false yet cs last pool h = h
+
 -- the pool that is named
 again_is : (a b : PoolName) → Again a ≡ Again b → a ≡ b
 again_is a b h = cc
@@ -51,7 +57,7 @@ send_full : (s : Scene) (req : SendReq) (pool : PoolName) → send_answer s req 
 unfolding send_answer
 send_full s req pool h =
     by_pools s Tx pool _ _ (leb-true s.own.limits.tx (tx_count s.own s.ms s.log))
-    (past_refusal _ Why.Numbers _ _ pool (past_refusal _ Why.Busy _ _ pool (past_refusal _ Why.NoEntry _ _ pool (past_refusal _ Why.Range _ _ pool (past_refusal _ Why.NoRegion _ _ pool h)))))
+    (past_yet _ Yet.Handshake _ _ pool (past_refusal _ Why.NoConfirm _ _ pool (past_refusal _ Why.Numbers _ _ pool (past_refusal _ Why.Busy _ _ pool (past_refusal _ Why.NoEntry _ _ pool (past_refusal _ Why.Range _ _ pool (past_refusal _ Why.NoRegion _ _ pool h)))))))
 
 -- a receive
 recv_full : (s : Scene) (req : RecvReq) (pool : PoolName) → recv_answer s req ≡ Again pool → IsFull s pool

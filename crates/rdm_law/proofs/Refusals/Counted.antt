@@ -22,7 +22,7 @@ use Rattle.rdm_model.specs.declared.entry.Act.TheVariants.{Next, Handle}
 use Rattle.rdm_model.specs.declared.report.End.{End}
 use Rattle.rdm_model.specs.declared.report.Report.{Report}
 use Rattle.rdm_model.specs.Deeds.{Deed, log_of, open_life, is_connid, of_life, of_open_life}
-use Rattle.rdm_model.specs.Owns.{port_count}
+use Rattle.rdm_model.specs.Beginnings.{port_count}
 use Rattle.rdm_model.specs.Currents.{current}
 use Rattle.rdm_model.specs.Sources.{is_other}
 use Rattle.rdm_model.specs.Scenes.{scene}
@@ -33,7 +33,7 @@ use Rattle.rdm_model.specs.Steps.{Does, count}
 use Rattle.rdm_model.specs.Jobs.{is_fair, law_ops}
 use Rattle.rdm_model.specs.Settled.{left_at}
 use Rattle.rdm_model.specs.Lawful.{Lawful, port_deeds, life_deeds, sent_scene}
-use Rattle.rdm_model.specs.Reports.{end_of, end_in, is_to_other, is_from_other, RightReport}
+use Rattle.rdm_model.specs.Reports.{end_of, end_in, drops_to_other, drops_from_other, RightReport}
 use Rattle.rdm_law.specs.Counted.{IsOfOther, DropsAreOther, CountsDrops, AgainWhereFull}
 use Rattle.rdm_law.proofs.Lives.Lives.{is_connid-true, is_connid-from}
 use Rattle.rdm_law.proofs.Refusals.AgainFull.{again_is_full}
@@ -109,7 +109,7 @@ drops_are_other job history fair lawful newer e before d class' split is =
 
 -- what an end of a port says
 end_parts : (job : Job) (history : List Entry) (port : ℕ)
-    → ((end_in job history port).to_other ≡ count is_to_other (log_of port history)) × ((end_in job history port).from_other ≡ count is_from_other (log_of port history))
+    → ((end_in job history port).to_other ≡ count drops_to_other (log_of port history)) × ((end_in job history port).from_other ≡ count drops_from_other (log_of port history))
     × ((end_in job history port).left ≡ left_at job port (sent_scene job port history) (log_of port history))
 unfolding end_in end_of
 end_parts job history port = (refl, refl, refl)

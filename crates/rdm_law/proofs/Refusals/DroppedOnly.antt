@@ -17,7 +17,7 @@ use Rattle.rdm_model.specs.declared.entry.Entry.{Entry}
 use Rattle.rdm_model.specs.declared.entry.Act.{Act}
 use Rattle.rdm_model.specs.declared.entry.Act.TheVariants.{Handle}
 use Rattle.rdm_model.specs.Deeds.{Deed, Nothing, deed_of, deed_by_handle, deeds, log_of, open_life, is_connid}
-use Rattle.rdm_model.specs.Owns.{Own, Messages, rank_of, own_of}
+use Rattle.rdm_model.specs.Beginnings.{Own, Messages, rank_of, own_of}
 use Rattle.rdm_model.specs.Classes.{lives_class, body_lives_class}
 use Rattle.rdm_model.specs.Takes.{handled_answer, class_answer, taken_answer}
 use Rattle.rdm_model.specs.Notes.{notes, notes_by}

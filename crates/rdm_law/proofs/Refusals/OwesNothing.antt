@@ -17,7 +17,7 @@ use Rattle.rdm_match.specs.Matcher.{Pair, run}
 use Rattle.rdm_model.specs.declared.job.Job.{Job}
 use Rattle.rdm_model.specs.declared.entry.Entry.{Entry}
 use Rattle.rdm_model.specs.Deeds.{Deed, Nothing}
-use Rattle.rdm_model.specs.Owns.{Own, Messages, Heads, own_of, rank_of}
+use Rattle.rdm_model.specs.Beginnings.{Own, Messages, Heads, own_of, rank_of}
 use Rattle.rdm_model.specs.Heard.{heard_head, head_by}
 use Rattle.rdm_model.specs.Currents.{forgotten_by}
 use Rattle.rdm_model.specs.Matches.{pairs, matching, events_by}

@@ -3,14 +3,14 @@ use Rattle.std.proofs.Common.{◌≡◌, ℕ, Bool, true, false, not, ◌&&◌, 
 use Rattle.std.specs.Prelude.{◌==◌}
 use Rattle.std.specs.List.{list_any}
 use Rattle.std.proofs.lemmas.List.{append-nil}
-use Rattle.std.proofs.lemmas.Bool.{eq-eqb}
+use Rattle.std.proofs.lemmas.Bool.{not-true}
 use Rattle.rdm_lists.specs.Lists.{Member, or_else}
 use Rattle.rdm_num.specs.Pieces.{Piece, covers}
 use Rattle.rdm_num.specs.declared.numbers.Life.{Life}
 use Rattle.rdm_match.specs.Matcher.{Pair, run, is_pair}
 use Rattle.rdm_pkt.specs.declared.Packet.{Packet}
 use Rattle.rdm_model.specs.Deeds.{Deed, Nothing, deed_count}
-use Rattle.rdm_model.specs.Owns.{Own, Messages, Heads}
+use Rattle.rdm_model.specs.Beginnings.{Own, Messages, Heads}
 use Rattle.rdm_model.specs.Currents.{current, last_inserted, first_seen, is_forgotten, inserted_by, seen_by, forgotten_by}
 use Rattle.rdm_model.specs.Heard.{heard_head, head_by}
 use Rattle.rdm_model.specs.Matches.{receives, with_received, received_by, events_by, matching, pairs}
@@ -18,12 +18,13 @@ use Rattle.rdm_model.specs.Parts.{carried_by, carried_pieces, has_landed}
 use Rattle.rdm_model.specs.Receives.{RecvEnd, is_filled, filled_by, recv_ends, with_recv_ends, recv_ends_by, withdrawn_by}
 use Rattle.rdm_model.specs.Regions.{regions, after_ends, region_by}
 use Rattle.rdm_model.specs.Sends.{Sent, known_by, known_word, sends, with_sent, sent_by}
-use Rattle.rdm_model.specs.Dues.{Progress, progress, after_deed, after_push, is_over, ends_send, live_of}
-use Rattle.rdm_model.specs.Completions.{completions, completions_by, recv_completions, ended_sends, poll_count, is_poll}
+use Rattle.rdm_model.specs.Dues.{Progress, progress, after_deed, after_push, is_complete, is_over, ends_send, confirms, live_of}
+use Rattle.rdm_model.specs.Completions.{completions, completions_by, recv_completions, ended_sends, poll_count, polls_by}
 use Rattle.rdm_law.specs.Clauses.{StandsAs}
 use Rattle.rdm_lists.proofs.Options.{or_else-none}
 use Rattle.rdm_lists.proofs.Same.{filter_same}
 use Rattle.rdm_lists.proofs.Filters.{filter_nothing}
+use Rattle.rdm_lists.proofs.Members.{member-filter}
 
 -- an element passes a test that some element is to pass
 any_member : {A : Type 0} (t : A → Bool) (xs : List A) (x : A) → Member x xs → t x ≡ true → list_any t xs ≡ true
@@ -90,7 +91,7 @@ forgotten_still log life = or_right (is_forgotten log life)
 
 -- a send is over where it was
 pub over_still : (log : List Deed) (pushed : List Packet) (s : Sent) → is_over (Nothing ∷ log) pushed s ≡ is_over log pushed s
-unfolding is_over ends_send
+unfolding is_over is_complete ends_send confirms
 over_still log pushed s = rw (forgotten_still log s.to) refl
 
 -- the same sends are live
@@ -107,14 +108,12 @@ pushed_still own ms log p n = refl
 
 -- no send ends
 none_over : (own : Own) (ms : Messages) (log : List Deed) (p : Progress) → ended_sends own ms Nothing log p ≡ []
-unfolding ended_sends
+unfolding ended_sends live_of
 none_over own ms log p =
     let after : Progress = after_deed own ms log Nothing (after_push own ms log Nothing p) in
-    let was = live_of log p (sends own ms log) in
-    let still = live_still log p after (sends own ms log) (pushed_still own ms log p) in
-    filter_nothing (λ (s : Sent). not (list_any (λ (t : Sent). t.number == s.number) (live_of (Nothing ∷ log) after (sends own ms log)))) was
-    (λ s m. ap (λ ss. not (list_any (λ (t : Sent). t.number == s.number) ss)) still
-    ∙ ap not (any_member (λ (t : Sent). t.number == s.number) was s m (eq-eqb s.number s.number refl)))
+    filter_nothing (λ (s : Sent). is_over (Nothing ∷ log) (after.packets s.number) s) (live_of log p (sends own ms log))
+    (λ s m. ap (λ ps. is_over (Nothing ∷ log) ps s) (pushed_still own ms log p s.number) ∙ over_still log (p.packets s.number) s
+    ∙ not-true (is_over log (p.packets s.number) s) (member-filter (λ (s : Sent). not (is_over log (p.packets s.number) s)) s (sends own ms log) m).1)
 
 -- nothing completes
 completions_still : (own : Own) (ms : Messages) (log : List Deed) → completions own ms (Nothing ∷ log) ≡ completions own ms log
@@ -124,7 +123,7 @@ completions_still own ms log =
 
 -- a life after what did nothing
 pub nothing_stands : (own : Own) (ms : Messages) (log : List Deed) → StandsAs own ms (Nothing ∷ log) log
-unfolding current last_inserted first_seen inserted_by seen_by or_else known_word known_by heard_head head_by progress poll_count deed_count is_poll
+unfolding current last_inserted first_seen inserted_by seen_by or_else known_word known_by heard_head head_by progress poll_count deed_count polls_by
 nothing_stands own ms log = record {
   currents = λ port. ap (or_else (last_inserted log port)) (or_else-none (first_seen log port));
   forgotten = forgotten_still log;

@@ -10,7 +10,7 @@ use Rattle.rdm_num.specs.declared.head.Shape.TheVariants.{Eager, Medium, LongCts
 use Rattle.rdm_wire.specs.declared.ReadAsk.{ReadAsk}
 use Rattle.rdm_model.specs.Reads.{ask_room, asks_in, asks_from}
 use Rattle.rdm_model.specs.Replies.{asks_for}
-use Rattle.rdm_model.specs.Named.{is_in_entry, is_in_iov}
+use Rattle.rdm_model.specs.Targets.{is_in_entry, is_in_iov}
 use Rattle.rdm_law.proofs.Replies.Unique.{Unique, unique_none, unique_cons, unique_append}
 use Rattle.rdm_lists.proofs.Members.{member-append_left, member-append_right, member-append_cases}
 

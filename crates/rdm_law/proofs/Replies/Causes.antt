@@ -1,5 +1,7 @@
 -- What a reply of each kind says of the life that owes it.
-use Rattle.std.proofs.Common.{◌≡◌, ℕ, ◌<◌, true, List, [], ◌∷◌, take, drop, Option, Some, inl, inr, ◌∙◌, ap, subst}
+use Rattle.std.proofs.Common.{◌≡◌, ℕ, ◌<◌, true, false, List, [], ◌∷◌, take, drop, Option, Some, inl, inr, ◌∙◌, ap, subst}
+use Rattle.std.specs.List.{list_any}
+use Rattle.std.proofs.lemmas.Bool.{or_left, or_right}
 use Rattle.rdm_lists.specs.Lists.{Member}
 use Rattle.rdm_num.specs.declared.numbers.Life.{Life}
 use Rattle.rdm_num.specs.declared.numbers.Connid.{Connid}
@@ -12,14 +14,15 @@ use Rattle.rdm_wire.specs.declared.ReadAsk.{ReadAsk}
 use Rattle.rdm_wire.specs.declared.ReadData.{ReadData}
 use Rattle.rdm_match.specs.Matcher.{Pair}
 use Rattle.rdm_model.specs.Deeds.{Deed, Took, Item, Spelled, Asks, Gives}
-use Rattle.rdm_model.specs.Owns.{Own, Messages, Heads}
+use Rattle.rdm_model.specs.Beginnings.{Own, Messages, Heads}
 use Rattle.rdm_model.specs.Matches.{pairs}
 use Rattle.rdm_model.specs.Receives.{is_filled}
 use Rattle.rdm_model.specs.Sends.{Sent, sends, with_sent}
-use Rattle.rdm_model.specs.Replies.{Reply, asks_for, end_for}
+use Rattle.rdm_model.specs.Targets.{is_read_shape}
+use Rattle.rdm_model.specs.Replies.{Reply, meets, greeting, asks_for}
 use Rattle.rdm_model.proofs.Matches.{pair_still}
 use Rattle.rdm_model.proofs.SameReceives.{filled_still}
-use Rattle.rdm_law.proofs.Replies.Owed.{shape_in, recv_in, OwedIn}
+use Rattle.rdm_law.proofs.Replies.Owed.{shape_in, recv_in, confirm_in, ends_in, OwedIn}
 use Rattle.rdm_lists.proofs.Members.{member-append_left}
 
 -- an ask is of a pair
@@ -46,14 +49,24 @@ pub record OfEnd (own : Own) (heads : Heads) (log : List Deed) (to : Life) (send
   pub member : Member pair (pairs own.limits.first heads log)
   pub to_is : pair.message.life ≡ to
   pub filled : is_filled own.limits.first heads log pair ≡ true
-  pub shape_is : end_for own (shape_in heads pair) (recv_in pair) ≡ Spelled (Eor send recv connid) ∷ []
+  pub shape_is : ends_in own heads pair ≡ Spelled (Eor send recv connid) ∷ []
   pub recv_is : recv ≡ recv_in pair
   pub connid_is : connid ≡ own.life.connid
 
--- the answer to a handshake's life is the own features
+-- a receipt is of a pair that is filled, whose sender waits for it
+pub record OfReceipt (own : Own) (heads : Heads) (log : List Deed) (to : Life) (number : MsgNo) (connid : Connid) : Type 0 where
+  pub pair : Pair
+  pub member : Member pair (pairs own.limits.first heads log)
+  pub to_is : pair.message.life ≡ to
+  pub filled : is_filled own.limits.first heads log pair ≡ true
+  pub confirm : confirm_in heads pair ≡ true
+  pub unread : is_read_shape (shape_in heads pair) ≡ false
+  pub number_is : number ≡ pair.message.no
+  pub connid_is : connid ≡ own.life.connid
+
+-- a greeting tells the own features, to a life that was met
 pub record OfShake (own : Own) (log : List Deed) (to : Life) (words : List ℕ) (connid : Connid) : Type 0 where
-  pub item : Item
-  pub took : Member (Took to item) log
+  pub met : list_any (meets own to) log ≡ true
   pub words_are : words ≡ own.features ∷ []
   pub connid_is : connid ≡ own.life.connid
 
@@ -81,7 +94,8 @@ owed_ask own ms (d ∷ before) r a (inl (inr (inl n))) is =
     record { pair = n.pair; member = n.member; to_is = n.to_is; of = subst (λ (x : ReadAsk). Member x (asks_for (shape_in ms.head n.pair) (recv_in n.pair))) e n.of }
 owed_ask own ms (d ∷ before) r a (inl (inr (inr (inl n)))) is = (let e = n.is in cc)
 owed_ask own ms (d ∷ before) r a (inl (inr (inr (inr (inl n))))) is = (let e = n.is in cc)
-owed_ask own ms (d ∷ before) r a (inl (inr (inr (inr (inr n))))) is = (let e = n.is in cc)
+owed_ask own ms (d ∷ before) r a (inl (inr (inr (inr (inr (inl n)))))) is = (let e = n.is in cc)
+owed_ask own ms (d ∷ before) r a (inl (inr (inr (inr (inr (inr n)))))) is = (let e = n.is in cc)
 
 -- a grant that is owed is of a pair
 pub owed_cts : (own : Own) (ms : Messages) (log : List Deed) (r : Reply) (send recv : OpId) (size : ℕ) (connid : Connid) → OwedIn own ms r log
@@ -116,7 +130,8 @@ owed_cts own ms (d ∷ before) r send recv size connid (inl (inr (inr (inl n))))
       connid_is = cc;
     }
 owed_cts own ms (d ∷ before) r send recv size connid (inl (inr (inr (inr (inl n))))) is = (let e = n.is in cc)
-owed_cts own ms (d ∷ before) r send recv size connid (inl (inr (inr (inr (inr n))))) is = (let e = n.is in cc)
+owed_cts own ms (d ∷ before) r send recv size connid (inl (inr (inr (inr (inr (inl n)))))) is = (let e = n.is in cc)
+owed_cts own ms (d ∷ before) r send recv size connid (inl (inr (inr (inr (inr (inr n)))))) is = (let e = n.is in cc)
 
 -- an end that is owed is of a filled pair
 pub owed_end : (own : Own) (ms : Messages) (log : List Deed) (r : Reply) (send recv : OpId) (connid : Connid) → OwedIn own ms r log
@@ -148,31 +163,57 @@ owed_end own ms (d ∷ before) r send recv connid (inl (inr (inr (inr (inl n))))
       recv_is = cc;
       connid_is = cc;
     }
-owed_end own ms (d ∷ before) r send recv connid (inl (inr (inr (inr (inr n))))) is = (let e = n.is in cc)
+owed_end own ms (d ∷ before) r send recv connid (inl (inr (inr (inr (inr (inl n)))))) is = (let e = n.is in cc)
+owed_end own ms (d ∷ before) r send recv connid (inl (inr (inr (inr (inr (inr n)))))) is = (let e = n.is in cc)
 
--- a handshake that is owed is for a datagram that was taken
+-- a handshake that is owed is for a life that was met
 pub owed_shake : (own : Own) (ms : Messages) (log : List Deed) (r : Reply) (words : List ℕ) (connid : Connid) (raw : Option PortNo) → OwedIn own ms r log
     → r.item ≡ Spelled (Handshake words connid raw) → OfShake own log r.to words connid
 owed_shake own ms [] r words connid raw h is = elim h [ ]
 owed_shake own ms (d ∷ before) r words connid raw (inr h) is =
-    let o = owed_shake own ms before r words connid raw h is in record { item = o.item; took = inr o.took; words_are = o.words_are; connid_is = o.connid_is }
+    let o = owed_shake own ms before r words connid raw h is in
+    record { met = or_right (meets own r.to d) (list_any (meets own r.to) before) o.met; words_are = o.words_are; connid_is = o.connid_is }
 owed_shake own ms (d ∷ before) r words connid raw (inl (inl n)) is =
-    let f = n.is in record { item = n.item; took = inl n.took; words_are = cc; connid_is = cc }
+    let f = n.is in record { met = or_left (meets own r.to d) (list_any (meets own r.to) before) n.met; words_are = cc; connid_is = cc }
 owed_shake own ms (d ∷ before) r words connid raw (inl (inr (inl n))) is = (let e = n.is in cc)
 owed_shake own ms (d ∷ before) r words connid raw (inl (inr (inr (inl n)))) is = (let e = n.is in cc)
 owed_shake own ms (d ∷ before) r words connid raw (inl (inr (inr (inr (inl n))))) is = (let e = n.is in cc)
-owed_shake own ms (d ∷ before) r words connid raw (inl (inr (inr (inr (inr n))))) is = (let e = n.is in cc)
+owed_shake own ms (d ∷ before) r words connid raw (inl (inr (inr (inr (inr (inl n)))))) is = (let e = n.is in cc)
+owed_shake own ms (d ∷ before) r words connid raw (inl (inr (inr (inr (inr (inr n)))))) is = (let e = n.is in cc)
 
--- no receipt is owed
+-- a receipt that is owed is of a filled pair, whose sender waits for it
 pub owed_receipt : (own : Own) (ms : Messages) (log : List Deed) (r : Reply) (number : MsgNo) (connid : Connid) → OwedIn own ms r log
-    → r.item ≡ Spelled (Receipt number connid) → ⊥
+    → r.item ≡ Spelled (Receipt number connid) → OfReceipt own ms.head log r.to number connid
 owed_receipt own ms [] r number connid h is = elim h [ ]
-owed_receipt own ms (d ∷ before) r number connid (inr h) is = owed_receipt own ms before r number connid h is
+owed_receipt own ms (d ∷ before) r number connid (inr h) is =
+    let o = owed_receipt own ms before r number connid h is in
+    record {
+      pair = o.pair;
+      member = pair_still own.limits.first ms.head d before o.pair o.member;
+      to_is = o.to_is;
+      filled = filled_still own.limits.first ms.head d before o.pair o.filled;
+      confirm = o.confirm;
+      unread = o.unread;
+      number_is = o.number_is;
+      connid_is = o.connid_is;
+    }
 owed_receipt own ms (d ∷ before) r number connid (inl (inl n)) is = (let e = n.is in cc)
 owed_receipt own ms (d ∷ before) r number connid (inl (inr (inl n))) is = (let e = n.is in cc)
 owed_receipt own ms (d ∷ before) r number connid (inl (inr (inr (inl n)))) is = (let e = n.is in cc)
 owed_receipt own ms (d ∷ before) r number connid (inl (inr (inr (inr (inl n))))) is = (let e = n.is in cc)
-owed_receipt own ms (d ∷ before) r number connid (inl (inr (inr (inr (inr n))))) is = (let e = n.is in cc)
+owed_receipt own ms (d ∷ before) r number connid (inl (inr (inr (inr (inr (inl n)))))) is =
+    let f = n.is in
+    record {
+      pair = n.pair;
+      member = n.member;
+      to_is = n.to_is;
+      filled = n.filled;
+      confirm = n.confirm;
+      unread = n.unread;
+      number_is = cc;
+      connid_is = cc;
+    }
+owed_receipt own ms (d ∷ before) r number connid (inl (inr (inr (inr (inr (inr n)))))) is = (let e = n.is in cc)
 
 -- a send stays one of the sends
 sent_still : (own : Own) (ms : Messages) (d : Deed) (before : List Deed) (s : Sent) → Member s (sends own ms before) → Member s (sends own ms (d ∷ before))
@@ -198,7 +239,8 @@ owed_given own ms (d ∷ before) r g (inl (inl n)) is = (let e = n.is in cc)
 owed_given own ms (d ∷ before) r g (inl (inr (inl n))) is = (let e = n.is in cc)
 owed_given own ms (d ∷ before) r g (inl (inr (inr (inl n)))) is = (let e = n.is in cc)
 owed_given own ms (d ∷ before) r g (inl (inr (inr (inr (inl n))))) is = (let e = n.is in cc)
-owed_given own ms (d ∷ before) r g (inl (inr (inr (inr (inr n))))) is =
+owed_given own ms (d ∷ before) r g (inl (inr (inr (inr (inr (inl n)))))) is = (let e = n.is in cc)
+owed_given own ms (d ∷ before) r g (inl (inr (inr (inr (inr (inr n)))))) is =
     let f = n.is in
     record {
       sent = n.sent;

@@ -5,23 +5,25 @@ use Rattle.std.proofs.lemmas.List.{length-take}
 use Rattle.rdm_lists.specs.Lists.{Member}
 use Rattle.rdm_num.specs.declared.numbers.Life.{Life}
 use Rattle.rdm_num.specs.declared.numbers.OpId.{OpId}
+use Rattle.rdm_num.specs.declared.numbers.MsgNo.{MsgNo}
 use Rattle.rdm_wire.specs.declared.ReadAsk.{ReadAsk}
 use Rattle.rdm_wire.specs.declared.ReadData.{ReadData}
 use Rattle.rdm_match.specs.Matcher.{Pair, is_pair}
 use Rattle.rdm_model.specs.Deeds.{Deed, Took, Item, Asks}
-use Rattle.rdm_model.specs.Owns.{Own, Messages, Heads}
+use Rattle.rdm_model.specs.Beginnings.{Own, Messages, Heads}
 use Rattle.rdm_model.specs.Matches.{pairs}
 use Rattle.rdm_model.specs.Receives.{is_filled}
 use Rattle.rdm_model.specs.Sends.{sends}
-use Rattle.rdm_model.specs.Replies.{Reply, reply, is_from, replies_by}
+use Rattle.rdm_model.specs.Replies.{Reply, reply, meets, replies_by}
 use Rattle.rdm_model.proofs.Matches.{member_is_pair, pair_still}
 use Rattle.rdm_law.proofs.Matching.Numbered.{matching_numbered}
+use Rattle.rdm_law.proofs.Matching.Distinct.{matching_distinct}
 use Rattle.rdm_law.proofs.Replies.Unique.{Unique, unique_none, unique_append}
 use Rattle.rdm_law.proofs.Replies.Asks.{AsksShare, asks_for_recv}
 use Rattle.rdm_law.proofs.Replies.Queue.{owed}
 use Rattle.rdm_law.proofs.Replies.Owed.{shape_in, recv_in, NewReply, OwedIn, new_from, owed_in}
-use Rattle.rdm_law.proofs.Replies.Clashes.{ClashShake, ClashAsk, ClashEnd, ClashGiven, Clash, clash_back, clash_kind, clash_recv}
-use Rattle.rdm_law.proofs.Replies.Causes.{owed_ask, owed_end, owed_shake, owed_given}
+use Rattle.rdm_law.proofs.Replies.Clashes.{ClashShake, ClashAsk, ClashEnd, ClashGiven, ClashReceipt, Clash, clash_back, clash_kind, clash_recv, clash_receipt}
+use Rattle.rdm_law.proofs.Replies.Causes.{owed_ask, owed_end, owed_receipt, owed_shake, owed_given}
 use Rattle.rdm_law.proofs.Replies.NewReplies.{Telling, new_unique}
 use Rattle.rdm_lists.proofs.Members.{member_list_any}
 use Rattle.rdm_num.proofs.Lives.{same_life-refl}
@@ -34,7 +36,8 @@ asks_share to a b (inr (inl c)) =
     let g : c.ask' ≡ b = (let f = c.is' in cc) in
     subst (λ (x : ReadAsk). AsksShare x b) e (subst (λ (x : ReadAsk). AsksShare c.ask x) g c.share)
 asks_share to a b (inr (inr (inl c))) = (let e = c.is in cc)
-asks_share to a b (inr (inr (inr c))) = (let e = c.is in cc)
+asks_share to a b (inr (inr (inr (inl c)))) = (let e = c.is in cc)
+asks_share to a b (inr (inr (inr (inr c)))) = (let e = c.is in cc)
 
 -- clashes are such a relation
 clash_tells : Telling Clash
@@ -44,6 +47,7 @@ clash_tells =
       kinds = λ r s c. (clash_kind r s c).0;
       recvs = λ r s c k. clash_recv r s c (elim k [ inl x ↦ inl x | inr x ↦ elim x [ inl y ↦ absurd ((clash_kind r s c).1 y) | inr y ↦ inr y ] ]);
       asks = asks_share;
+      receipts = clash_receipt;
     }
 
 -- no two asks that were taken from a life for one send share a byte
@@ -56,11 +60,6 @@ AsksApart (d ∷ before) =
 -- the bytes that are given lie in what was asked for
 given_within : (ask : ReadAsk) (bytes : List ℕ) → length (take ask.length (drop ask.at bytes)) ≤ ask.length
 given_within ask bytes = let e = length-take ask.length (drop ask.at bytes) in omega arith
-
--- a life from which a datagram was taken is known
-took_again : (from : Life) (item : Item) (before : List Deed) → Member (Took from item) before → list_any (is_from from) before ≡ true
-unfolding is_from
-took_again from item before h = member_list_any (is_from from) (Took from item) before h (same_life-refl from)
 
 -- an ask that was taken, by an equal life
 asks_at : (from to : Life) (a : ReadAsk) (before : List Deed) → from ≡ to → Member (Took from (Asks a)) before → Member (Took to (Asks a)) before
@@ -76,17 +75,18 @@ abbrev Fresh : Own → Messages → Deed → List Deed → Type 0
 Fresh own ms d before =
     (r s : Reply) → OwedIn own ms r before → NewReply own ms.head (sends own ms before) d before s → Clash r s → ⊥
 
--- a handshake is owed for the first datagram alone
+-- a life is greeted when it is met, and not again
 fresh_shake : (own : Own) (ms : Messages) (d : Deed) (before : List Deed) (r s : Reply) → OwedIn own ms r before → NewReply own ms.head (sends own ms before) d before s → ClashShake r s → ⊥
 fresh_shake own ms d before r s h (inl n) c =
     let o = owed_shake own ms before r c.words c.connid c.raw h c.is in
-    let t = took_again r.to o.item before o.took in
-    let f : list_any (is_from r.to) before ≡ false = subst (λ (x : Life). list_any (is_from x) before ≡ false) (sym c.to_is) n.first in
+    let t = o.met in
+    let f : list_any (meets own r.to) before ≡ false = subst (λ (x : Life). list_any (meets own x) before ≡ false) (sym c.to_is) n.first in
     cc
 fresh_shake own ms d before r s h (inr (inl n)) c = (let e = n.is in let f = c.is' in cc)
 fresh_shake own ms d before r s h (inr (inr (inl n))) c = (let e = n.is in let f = c.is' in cc)
 fresh_shake own ms d before r s h (inr (inr (inr (inl n)))) c = (let e = n.is in let f = c.is' in cc)
-fresh_shake own ms d before r s h (inr (inr (inr (inr n)))) c = (let e = n.is in let f = c.is' in cc)
+fresh_shake own ms d before r s h (inr (inr (inr (inr (inl n))))) c = (let e = n.is in let f = c.is' in cc)
+fresh_shake own ms d before r s h (inr (inr (inr (inr (inr n))))) c = (let e = n.is in let f = c.is' in cc)
 
 -- asks are owed for a new pair alone
 fresh_ask : (own : Own) (ms : Messages) (d : Deed) (before : List Deed) (r s : Reply) → OwedIn own ms r before → NewReply own ms.head (sends own ms before) d before s → ClashAsk r s → ⊥
@@ -104,7 +104,8 @@ fresh_ask own ms d before r s h (inr (inl n)) c =
     cc
 fresh_ask own ms d before r s h (inr (inr (inl n))) c = (let e = n.is in let f = c.is' in cc)
 fresh_ask own ms d before r s h (inr (inr (inr (inl n)))) c = (let e = n.is in let f = c.is' in cc)
-fresh_ask own ms d before r s h (inr (inr (inr (inr n)))) c = (let e = n.is in let f = c.is' in cc)
+fresh_ask own ms d before r s h (inr (inr (inr (inr (inl n))))) c = (let e = n.is in let f = c.is' in cc)
+fresh_ask own ms d before r s h (inr (inr (inr (inr (inr n))))) c = (let e = n.is in let f = c.is' in cc)
 
 -- an end is owed when the pair is filled, and not again
 fresh_end : (own : Own) (ms : Messages) (d : Deed) (before : List Deed) (r s : Reply) → OwedIn own ms r before → NewReply own ms.head (sends own ms before) d before s → ClashEnd r s → ⊥
@@ -121,7 +122,27 @@ fresh_end own ms d before r s h (inr (inr (inr (inl n)))) c =
     let t : is_filled own.limits.first ms.head before n.pair ≡ true = subst (λ (x : Pair). is_filled own.limits.first ms.head before x ≡ true) same o.filled in
     let f = n.new in
     cc
-fresh_end own ms d before r s h (inr (inr (inr (inr n)))) c = (let e = n.is in let f = c.is' in cc)
+fresh_end own ms d before r s h (inr (inr (inr (inr (inl n))))) c = (let e = n.is in let f = c.is' in cc)
+fresh_end own ms d before r s h (inr (inr (inr (inr (inr n))))) c = (let e = n.is in let f = c.is' in cc)
+
+-- a receipt is owed when the pair is filled, and not again
+fresh_receipt : (own : Own) (ms : Messages) (d : Deed) (before : List Deed) (r s : Reply) → OwedIn own ms r before → NewReply own ms.head (sends own ms before) d before s → ClashReceipt r s → ⊥
+fresh_receipt own ms d before r s h (inl n) c = (let e = n.is in let f = c.is' in cc)
+fresh_receipt own ms d before r s h (inr (inl n)) c = (let e = n.is in let f = c.is' in cc)
+fresh_receipt own ms d before r s h (inr (inr (inl n))) c = (let e = n.is in let f = c.is' in cc)
+fresh_receipt own ms d before r s h (inr (inr (inr (inl n)))) c = (let e = n.is in let f = c.is' in cc)
+fresh_receipt own ms d before r s h (inr (inr (inr (inr (inl n))))) c =
+    let o = owed_receipt own ms before r c.number c.connid h c.is in
+    let x = n.is in
+    let y = c.is' in
+    let e : n.pair.message.no ≡ c.number = cc in
+    let still = pair_still own.limits.first ms.head d before o.pair o.member in
+    let same : o.pair ≡ n.pair = (matching_distinct own.limits.first ms.head (d ∷ before)).once o.pair n.pair still n.member (o.to_is ∙ c.to_is ∙ sym n.to_is)
+    (ap (λ (z : MsgNo). z.0) (sym o.number_is ∙ sym e)) in
+    let t : is_filled own.limits.first ms.head before n.pair ≡ true = subst (λ (x : Pair). is_filled own.limits.first ms.head before x ≡ true) same o.filled in
+    let f = n.new in
+    cc
+fresh_receipt own ms d before r s h (inr (inr (inr (inr (inr n))))) c = (let e = n.is in let f = c.is' in cc)
 
 -- bytes are given to asks that are apart
 fresh_given : (own : Own) (ms : Messages) (d : Deed) (before : List Deed) (r s : Reply) → AsksApart (d ∷ before) → OwedIn own ms r before
@@ -130,7 +151,8 @@ fresh_given own ms d before r s apart h (inl n) c = (let e = n.is in let f = c.i
 fresh_given own ms d before r s apart h (inr (inl n)) c = (let e = n.is in let f = c.is' in cc)
 fresh_given own ms d before r s apart h (inr (inr (inl n))) c = (let e = n.is in let f = c.is' in cc)
 fresh_given own ms d before r s apart h (inr (inr (inr (inl n)))) c = (let e = n.is in let f = c.is' in cc)
-fresh_given own ms d before r s apart h (inr (inr (inr (inr n)))) c =
+fresh_given own ms d before r s apart h (inr (inr (inr (inr (inl n))))) c = (let e = n.is in let f = c.is' in cc)
+fresh_given own ms d before r s apart h (inr (inr (inr (inr (inr n))))) c =
     let o = owed_given own ms before r c.data' h c.is in
     let x = n.is in
     let y = c.is' in
@@ -164,6 +186,9 @@ owed_unique own ms (d ∷ before) apart =
       | inl a ↦ fresh_shake own ms d before r s o n a
       | inr a ↦ elim a [
         | inl b ↦ fresh_ask own ms d before r s o n b
-        | inr b ↦ elim b [ inl z ↦ fresh_end own ms d before r s o n z | inr z ↦ fresh_given own ms d before r s apart o n z ]
+        | inr b ↦ elim b [
+          | inl z ↦ fresh_end own ms d before r s o n z
+          | inr z ↦ elim z [ inl y ↦ fresh_given own ms d before r s apart o n y | inr y ↦ fresh_receipt own ms d before r s o n y ]
+        ]
       ]
     ])

@@ -9,13 +9,13 @@ use Rattle.rdm_num.specs.Pieces.{overlaps}
 use Rattle.rdm_num.specs.declared.numbers.Life.{Life}
 use Rattle.rdm_wire.specs.declared.ReadAsk.{ReadAsk}
 use Rattle.rdm_model.specs.Deeds.{Deed, Took, Asks}
-use Rattle.rdm_model.specs.Owns.{Own, Messages}
+use Rattle.rdm_model.specs.Beginnings.{Own, Messages}
 use Rattle.rdm_model.specs.Reads.{asked_by, asks_of}
 use Rattle.rdm_model.specs.Sends.{Sent, sends}
 use Rattle.rdm_model.specs.Replies.{Reply}
 use Rattle.rdm_model.specs.Dues.{Replies, progress}
 use Rattle.rdm_model.specs.Scenes.{Scene}
-use Rattle.rdm_model.specs.Named.{live_send, is_good_ask, is_bad_key}
+use Rattle.rdm_model.specs.Targets.{live_send, is_good_ask, is_bad_key}
 use Rattle.rdm_model.specs.Local.{heard_by}
 use Rattle.rdm_model.proofs.Rows.{overlaps_from}
 use Rattle.rdm_model.proofs.SameRegions.{Agree, agree_before, sends_same}

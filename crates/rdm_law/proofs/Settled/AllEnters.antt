@@ -20,7 +20,7 @@ use Rattle.rdm_wire.specs.declared.Datagram.{Datagram}
 use Rattle.rdm_model.specs.declared.job.Job.{Job}
 use Rattle.rdm_model.specs.declared.entry.Entry.{Entry}
 use Rattle.rdm_model.specs.Deeds.{Deed, Took, Item, Spelled}
-use Rattle.rdm_model.specs.Owns.{Own, Messages, own_of}
+use Rattle.rdm_model.specs.Beginnings.{Own, Messages, own_of}
 use Rattle.rdm_model.specs.Heard.{head_by, heard_head, is_heard, heard_below, has_entered}
 use Rattle.rdm_model.specs.Sends.{Sent, sends_to, sends}
 use Rattle.rdm_model.specs.Dues.{Sends, is_over, is_read, is_pushed, ends_send, next_packet}
@@ -33,9 +33,12 @@ use Rattle.rdm_model.specs.Standing.{goes, NoneWaits, AllEnter}
 use Rattle.rdm_model.proofs.Matches.{pair_heard}
 use Rattle.rdm_model.proofs.Opens.{opening_is, some_opening}
 use Rattle.rdm_model.proofs.Numbers.{NewSent, sends_step, new_placed, placed, sends_one, sends_to_append}
+use Rattle.rdm_model.specs.Local.{heard_by}
 use Rattle.rdm_model.proofs.Dues.{Underway}
 use Rattle.rdm_model.proofs.Pushes.{pushed_of, underway}
-use Rattle.rdm_law.proofs.Lives.Lives.{WasDueAt}
+use Rattle.rdm_law.proofs.Lives.Lives.{LifeLocal, WasDueAt}
+use Rattle.rdm_law.proofs.Ends.Overs.{over_by}
+use Rattle.rdm_law.proofs.Ends.Receipts.{confirmed_pushed}
 use Rattle.rdm_law.proofs.Accounts.Wired.{own_life}
 use Rattle.rdm_law.proofs.Accounts.Known.{account, sends_of}
 use Rattle.rdm_law.proofs.Accounts.SendsAre.{sends_are}
@@ -147,17 +150,20 @@ pushed_some t [] h = cc
 pushed_some t (p ∷ ps) h = omega arith
 
 -- a send that is over has an opening pushed, or its end was taken
-over_pushed : (own : Own) (ms : Messages) (log : List Deed) (t : Sent) (pushed : List Packet) → Underway own t pushed → is_forgotten log t.to ≡ false → is_over log pushed t ≡ true
-    → ((p : Packet) × Member p pushed × Member p (openings own.limits t.message t.kind)) ⊎ ((is_read t.kind ≡ true) × (list_any (ends_send t.to t.number) log ≡ true))
-unfolding is_over
-over_pushed own ms log t pushed u f h =
-    elim (or_cases (is_forgotten log t.to) (cond (is_read t.kind) (list_any (ends_send t.to t.number) log) (is_pushed t pushed)) h) [
-      | inl a ↦ absurd (cc)
-      | inr a ↦ (elim (is_read t.kind) as (λ b. is_read t.kind ≡ b → cond b (list_any (ends_send t.to t.number) log) (is_pushed t pushed) ≡ true
-          → ((p : Packet) × Member p pushed × Member p (openings own.limits t.message t.kind)) ⊎ ((is_read t.kind ≡ true) × (list_any (ends_send t.to t.number) log ≡ true))) [
-            | true ↦ λ is k. inr (is, k)
-            | false ↦ λ is k. inl (under_both own t pushed u (pushed_some t pushed k))
-          ]) refl a
+over_pushed : (own : Own) (log : List Deed) (t : Sent) → LifeLocal own log → Member t (sends own (heard_by own.limits.first log) log) → is_forgotten log t.to ≡ false
+    → is_over log (pushed_of own (heard_by own.limits.first log) log t.number) t ≡ true
+    → ((p : Packet) × Member p (pushed_of own (heard_by own.limits.first log) log t.number) × Member p (openings own.limits t.message t.kind))
+    ⊎ ((is_read t.kind ≡ true) × (list_any (ends_send t.to t.number) log ≡ true))
+over_pushed own log t l m f h =
+    let ms = heard_by own.limits.first log in
+    let pushed = pushed_of own ms log t.number in
+    let u = underway own ms log t m in
+    elim (over_by log pushed t h f) [
+      | inl a ↦ inr a
+      | inr a ↦ elim a [
+        | inl b ↦ inl (under_both own t pushed u (pushed_some t pushed (confirmed_pushed own log t l m b.2)))
+        | inr b ↦ inl (under_both own t pushed u (pushed_some t pushed b.2))
+      ]
     ]
 
 -- a send with nothing next has an opening pushed
@@ -170,11 +176,14 @@ none_pushed' own log t pushed u h =
     under_both own t pushed u (omega arith)
 
 -- a send that is at rest has pushed something, or its end was taken
-pub rest_pushed : (own : Own) (ms : Messages) (log : List Deed) (t : Sent) → Member t (sends own ms log) → is_forgotten log t.to ≡ false
-    → (is_over log (pushed_of own ms log t.number) t ≡ true) ⊎ (next_packet own log t (pushed_of own ms log t.number) ≡ None)
-    → ((p : Packet) × Member p (pushed_of own ms log t.number) × Member p (openings own.limits t.message t.kind)) ⊎ ((is_read t.kind ≡ true) × (list_any (ends_send t.to t.number) log ≡ true))
-rest_pushed own ms log t m f (inl over) = over_pushed own ms log t (pushed_of own ms log t.number) (underway own ms log t m) f over
-rest_pushed own ms log t m f (inr none) = inl (none_pushed' own log t (pushed_of own ms log t.number) (underway own ms log t m) none)
+pub rest_pushed : (own : Own) (log : List Deed) (t : Sent) → LifeLocal own log → Member t (sends own (heard_by own.limits.first log) log) → is_forgotten log t.to ≡ false
+    → (is_over log (pushed_of own (heard_by own.limits.first log) log t.number) t ≡ true) ⊎ (next_packet own log t (pushed_of own (heard_by own.limits.first log) log t.number) ≡ None)
+    → ((p : Packet) × Member p (pushed_of own (heard_by own.limits.first log) log t.number) × Member p (openings own.limits t.message t.kind))
+    ⊎ ((is_read t.kind ≡ true) × (list_any (ends_send t.to t.number) log ≡ true))
+rest_pushed own log t l m f (inl over) = over_pushed own log t l m f over
+rest_pushed own log t l m f (inr none) =
+    let ms = heard_by own.limits.first log in
+    inl (none_pushed' own log t (pushed_of own ms log t.number) (underway own ms log t m) none)
 
 -- an opening as an item
 rtm_item : (p : Packet) (t : Sent) (form : Form) → p ≡ Rtm t.message.no t.message.tag (says_confirm t.kind t.message.confirm) t.message.opt form → ◌≡◌ {A = Item} (Spelled p) (Spelled (Rtm t.message.no t.message.tag (says_confirm t.kind t.message.confirm) t.message.opt form))
@@ -219,7 +228,7 @@ each_heard job history i j t m none mem to =
     let still = settled_still job history j m.played m.settled m.standing.open_j m.standing.clock_j in
     let rest = at_rest own ms log still in
     let kept = subst (λ (l : Life). is_forgotten log l ≡ false) (sym to) (stands job history i j m) in
-    elim (rest_pushed own ms log t mem kept (rest.each t mem)) [
+    elim (rest_pushed own log t (own_life job history m.played j) mem kept (rest.each t mem)) [
       | inl a ↦ (
           let was_due = send_was_due job history j t a.0 mem a.1 in
           let o = opening_is own.limits t.message t.kind a.0 a.2 in

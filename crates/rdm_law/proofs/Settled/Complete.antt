@@ -2,7 +2,7 @@
 use Rattle.std.proofs.Common.{◌≡◌, ℕ, ◌+◌, ◌-◌, ◌≤◌, Bool, true, false, cond, ◌||◌, List, [], ◌∷◌, length, min, take, drop, Option, Some, None, refl, arith, ◌⊎◌, inl, inr, sym, ◌∙◌, ap, subst}
 use Rattle.std.specs.Prelude.{nat_lt}
 use Rattle.std.specs.List.{list_any}
-use Rattle.std.proofs.lemmas.Bool.{or_cases, ltb-false}
+use Rattle.std.proofs.lemmas.Bool.{or_cases, cases_lt, ltb-false}
 use Rattle.rdm_lists.specs.Lists.{Member}
 use Rattle.rdm_num.specs.Pieces.{covers, piece_bytes}
 use Rattle.rdm_num.specs.declared.numbers.Life.{Life}
@@ -18,7 +18,7 @@ use Rattle.rdm_model.specs.declared.job.Job.{Job}
 use Rattle.rdm_model.specs.declared.entry.Entry.{Entry}
 use Rattle.rdm_model.specs.declared.entry.Act.{Act}
 use Rattle.rdm_model.specs.Deeds.{Deed, log_of}
-use Rattle.rdm_model.specs.Owns.{Own, own_of}
+use Rattle.rdm_model.specs.Beginnings.{Own, own_of}
 use Rattle.rdm_model.specs.Heard.{heard_head}
 use Rattle.rdm_model.specs.Parts.{carried_pieces}
 use Rattle.rdm_model.specs.Receives.{RecvEnd, Filled}
@@ -28,7 +28,7 @@ use Rattle.rdm_pkt.specs.declared.Packet.TheVariants.{CtsData}
 use Rattle.rdm_model.specs.Sends.{Sent, sends_to}
 use Rattle.rdm_model.specs.Currents.{is_forgotten}
 use Rattle.rdm_model.specs.Dues.{pieces_in, data_packet, granted_packet, next_packet, is_read}
-use Rattle.rdm_model.specs.Settled.{is_settled, next_completion_is_none, is_worn}
+use Rattle.rdm_model.specs.Settled.{is_settled, nothing_to_poll, is_worn}
 use Rattle.rdm_model.specs.Lawful.{life_deeds, sent_to, sent_scene}
 use Rattle.rdm_model.specs.Standing.{goes, drops_between, is_between, Standing, pairs_in, MatchedIsComplete, AllPolled}
 use Rattle.rdm_law.specs.Law.{Completes}
@@ -65,20 +65,20 @@ use Rattle.rdm_law.proofs.Settled.WholePushed.{none_left, IsAtOnce, opened_done,
 use Rattle.rdm_law.proofs.Settled.ReadLands.{Matched, rest_of}
 use Rattle.rdm_law.proofs.Settled.CompletesMatched.{Finished, read_finished, pushed_finished, at_once_finished}
 
--- no granted bytes are next: there is no grant, or all that is allowed was pushed
-data_none : (own : Own) (s : Sent) (allowed done : ℕ) (gs : List Grant) → data_packet own s allowed done gs ≡ None → (gs ≡ []) ⊎ (allowed ≤ done)
+-- no granted bytes are next: there is no grant, or all that is allowed and there was pushed
+data_none : (own : Own) (s : Sent) (allowed done : ℕ) (gs : List Grant) → data_packet own s allowed done gs ≡ None → (gs ≡ []) ⊎ (min allowed (length s.message.bytes) ≤ done)
 unfolding data_packet
 data_none own s allowed done [] h = inl refl
 data_none own s allowed done (g ∷ gs) h =
     let packet : Packet = CtsData (op_id g.recv) done own.life.connid (take (min (allowed - done) (data_room own.limits)) (drop done s.message.bytes)) in
-    (elim (nat_lt done allowed) as (λ b. nat_lt done allowed ≡ b → ◌≡◌ {A = Option Packet} (cond b (Some packet) None) None → (g ∷ gs ≡ []) ⊎ (allowed ≤ done)) [
+    (elim (nat_lt done (min allowed (length s.message.bytes))) as (λ b. nat_lt done (min allowed (length s.message.bytes)) ≡ b → ◌≡◌ {A = Option Packet} (cond b (Some packet) None) None → (g ∷ gs ≡ []) ⊎ (min allowed (length s.message.bytes) ≤ done)) [
       | true ↦ λ is k. cc
-      | false ↦ λ is k. inr (ltb-false done allowed is)
+      | false ↦ λ is k. inr (ltb-false done (min allowed (length s.message.bytes)) is)
     ]) refl h
 
 -- the same of a long send
 granted_none : (own : Own) (gs : List Grant) (s : Sent) (pushed : List Packet) (kind : Kind) → kind ≡ LongCts → s.kind ≡ kind → granted_packet own gs s pushed kind ≡ None
-    → (gs ≡ []) ⊎ (piece_bytes (pieces_in (openings own.limits s.message s.kind)) + grant_bytes gs ≤ piece_bytes (pieces_in pushed))
+    → (gs ≡ []) ⊎ (min (piece_bytes (pieces_in (openings own.limits s.message s.kind)) + grant_bytes gs) (length s.message.bytes) ≤ piece_bytes (pieces_in pushed))
 unfolding granted_packet
 granted_none own gs s pushed LongCts k e h = data_none own s (piece_bytes (pieces_in (openings own.limits s.message s.kind)) + grant_bytes gs) (piece_bytes (pieces_in pushed)) gs h
 granted_none own gs s pushed Eager k e h = cc
@@ -93,7 +93,7 @@ no_grants gs e = ap (λ (x : List Grant). grant_bytes x) e
 
 -- a long send with nothing next has pushed all that is allowed
 allowed_done : (own : Own) (log : List Deed) (s : Sent) (pushed : List Packet) → Underway own s pushed → s.kind ≡ LongCts → next_packet own log s pushed ≡ None
-    → allowed_of own log s ≤ piece_bytes (pieces_in pushed)
+    → min (allowed_of own log s) (length s.message.bytes) ≤ piece_bytes (pieces_in pushed)
 unfolding next_packet
 allowed_done own log s pushed u k h =
     let o = opened_done own log s pushed u h in
@@ -120,14 +120,17 @@ long_done job history i j p s m k taken =
     let kept = subst (λ (l : Life). is_forgotten log l ≡ false) (sym m.to_is) (stands job history i j m.here) in
     let unread : is_read s.kind ≡ false = long_unread s.kind k in
     elim ((rest_of job history i j m.here).each s m.sent) [
-      | inl over ↦ over_whole own log s (pushed_of own ms log s.number) u kept unread over
-      | inr none ↦ (
-          let a = allowed_done own log s (pushed_of own ms log s.number) u k none in
-          let r = reach_allowed job history i j p s m.here.played g taken in
-          let c = pushed_covers job history i j s (reach (own_of job i).limits (account job history i).head (life_deeds job history i) p) m.here m.sent m.to_is m.heard (omega arith) in
-          let c' = subst (λ (n : ℕ). covers (carried_pieces (own_of job i).limits.first (account job history i).head (life_deeds job history i) j n) (reach (own_of job i).limits (account job history i).head (life_deeds job history i) p) ≡ true) m.number_is c in
-          let whole = granted_all job history i j p s m.here.played g c' in
-          omega arith)
+      | inl over ↦ over_whole own log s (own_life job history m.here.played j) m.sent kept unread over
+      | inr none ↦ elim (cases_lt (done_bytes own ms log s.number) (length s.message.bytes)) [
+        | inr whole ↦ whole
+        | inl less ↦ (
+            let a = allowed_done own log s (pushed_of own ms log s.number) u k none in
+            let r = reach_allowed job history i j p s m.here.played g taken in
+            let c = pushed_covers job history i j s (reach (own_of job i).limits (account job history i).head (life_deeds job history i) p) m.here m.sent m.to_is m.heard (omega arith) in
+            let c' = subst (λ (n : ℕ). covers (carried_pieces (own_of job i).limits.first (account job history i).head (life_deeds job history i) j n) (reach (own_of job i).limits (account job history i).head (life_deeds job history i) p) ≡ true) m.number_is c in
+            let whole = granted_all job history i j p s m.here.played g c' in
+            omega arith)
+      ]
     ]
 
 -- a matched message is finished
@@ -217,7 +220,7 @@ stands_back job history i j s =
 all_polled : (job : Job) (history : List Entry) → is_settled job history ≡ true → AllPolled job history
 all_polled job history h port l low =
     let q = quiet job history port h l in
-    elim (or_cases (next_completion_is_none (sent_scene job port history)) (is_worn job (log_of port history)) q.polled) [
+    elim (or_cases (nothing_to_poll (sent_scene job port history)) (is_worn job (log_of port history)) q.polled) [
       | inl a ↦ a
       | inr a ↦ (let w = not_worn job (log_of port history) low in absurd (cc))
     ]

@@ -19,9 +19,9 @@ use Rattle.rdm_model.specs.declared.answer.Next.TheVariants.{Did as DidAnswer}
 use Rattle.rdm_model.specs.declared.answer.Handled.{Handled}
 use Rattle.rdm_model.specs.declared.answer.Handled.TheVariants.{Took as TookAnswer}
 use Rattle.rdm_model.specs.Deeds.{Pushed, Item, deed_of, deed_by_next, deed_by_push, deed_by_handle, deeds, of_life}
-use Rattle.rdm_model.specs.Owns.{rank_of, port_count, own_of}
+use Rattle.rdm_model.specs.Beginnings.{rank_of, port_count, own_of}
 use Rattle.rdm_model.specs.Dues.{Due, due}
-use Rattle.rdm_model.specs.Going.{Goes, due_going, Bears, IsNext}
+use Rattle.rdm_model.specs.Going.{Goes, due_going, Bears, GoesNext}
 use Rattle.rdm_model.specs.Classes.{class_of}
 use Rattle.rdm_model.specs.Scenes.{Scene, deeds_at}
 use Rattle.rdm_model.specs.Steps.{clock, stamp_after, Does}
@@ -127,8 +127,8 @@ was_due_carried job port c to item t k (e ∷ before) l h g =
       | inl a ↦ (
           let p = act_pushed (rank_of job port).ops e.act a.0 in
           let does : Does job class_of (own_scene job port (deeds_at job port before)) before e (Push p.0) = (let P : Act → Type 0 = λ x. Does job class_of (own_scene job port (deeds_at job port before)) before e x in subst P p.4 l.2.2) in
-          let next : IsNext (life_scene (port_count job) (own_of job (life_of port c)) (deeds_at job port before) (of_life c (deeds_at job port before))) p.0 =
-          subst (λ (s : Scene). IsNext s p.0) (opened_scene job port c (deeds_at job port before) now) does.3 in
+          let next : GoesNext (life_scene (port_count job) (own_of job (life_of port c)) (deeds_at job port before) (of_life c (deeds_at job port before))) p.0 =
+          subst (λ (s : Scene). GoesNext s p.0) (opened_scene job port c (deeds_at job port before) now) does.3 in
           let is = push_is (port_count job) (own_of job (life_of port c)) (deeds_at job port before) (of_life c (deeds_at job port before)) p.0 p.1 p.2 p.3 p.5 next in
           carrying_now job port c to item t e before p.1 p.2 p.3 p.0 p.4 l.1 p.5 does.0 does.2 is a.1 g)
       | inr a ↦ carrying_later job port c to item e before l.2.0 (was_due_carried job port c to item t k before l.0 a g)

@@ -3,7 +3,7 @@ use Rattle.std.proofs.Common.{◌≡◌, ℕ, List, [], ◌∷◌, length, Some,
 use Rattle.rdm_lists.specs.Lists.{Member}
 use Rattle.rdm_pkt.specs.declared.Packet.{Packet}
 use Rattle.rdm_model.specs.Deeds.{Deed}
-use Rattle.rdm_model.specs.Owns.{Own, Messages}
+use Rattle.rdm_model.specs.Beginnings.{Own, Messages}
 use Rattle.rdm_model.specs.Sends.{Sent}
 use Rattle.rdm_model.specs.Dues.{Due, Sends, progress}
 use Rattle.rdm_model.specs.Local.{heard_by}

@@ -22,7 +22,7 @@ use Rattle.rdm_model.specs.declared.answer.Class.{Class}
 use Rattle.rdm_model.specs.declared.answer.Entered.{Entered}
 use Rattle.rdm_model.specs.declared.answer.Handled.TheVariants.{Took as TookAnswer, Dropped}
 use Rattle.rdm_model.specs.Deeds.{Deed, Took, Item, Spelled, item_of, deed_of, deed_by_handle, log_of, of_open_life, open_life}
-use Rattle.rdm_model.specs.Owns.{rank_of, own_of}
+use Rattle.rdm_model.specs.Beginnings.{rank_of, own_of}
 use Rattle.rdm_model.specs.Heard.{is_heard}
 use Rattle.rdm_model.specs.Dues.{Due}
 use Rattle.rdm_model.specs.Going.{Goes, due_going}

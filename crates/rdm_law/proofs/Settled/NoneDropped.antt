@@ -24,7 +24,7 @@ use Rattle.rdm_model.specs.declared.entry.Entry.{Entry}
 use Rattle.rdm_model.specs.declared.entry.Act.{Act}
 use Rattle.rdm_model.specs.declared.entry.Act.TheVariants.{Handle}
 use Rattle.rdm_model.specs.Deeds.{Deed, Item, item_of, log_of, open_life, is_connid}
-use Rattle.rdm_model.specs.Owns.{own_of, rank_of, no_rank, port_count}
+use Rattle.rdm_model.specs.Beginnings.{own_of, rank_of, no_rank, port_count}
 use Rattle.rdm_model.specs.Currents.{current}
 use Rattle.rdm_model.specs.Sources.{is_other}
 use Rattle.rdm_model.specs.Sends.{Sent, sends}
@@ -119,7 +119,7 @@ dest_opened job history i j item d played t =
           met_opened job history j i played (subst (λ (l : Life). HasMet (life_deeds job history j) l) s.to_is (sent_met job history j s.sent m))
       | inr r ↦
           let seen = owed_seen (own_of job j) (account job history j) r.reply (life_deeds job history j) r.owed in
-          met_opened job history j i played (subst (λ (l : Life). HasMet (life_deeds job history j) l) r.to_is (inr seen))
+          met_opened job history j i played (subst (λ (l : Life). HasMet (life_deeds job history j) l) r.to_is (elim seen [ inl a ↦ inr a | inr a ↦ inl a.0 ]))
     ]
 
 -- another life is current

@@ -9,12 +9,12 @@ use Rattle.rdm_num.specs.declared.numbers.Life.{Life}
 use Rattle.rdm_match.specs.Matcher.{Pair, is_pair}
 use Rattle.rdm_wire.specs.declared.ReadAsk.{ReadAsk}
 use Rattle.rdm_model.specs.Deeds.{Deed, Took, Item, Asks, Gives}
-use Rattle.rdm_model.specs.Owns.{Own, Heads, Messages}
+use Rattle.rdm_model.specs.Beginnings.{Own, Heads, Messages}
 use Rattle.rdm_model.specs.Matches.{matching, pairs}
 use Rattle.rdm_model.specs.Receives.{is_filled}
 use Rattle.rdm_model.specs.Replies.{Reply, reply, handshake_by, asks_for, end_for, pair_items, pair_replies, given_of, given_by, replies_by}
 use Rattle.rdm_model.specs.Sends.{Sent, sends}
-use Rattle.rdm_model.specs.Named.{live_send, is_good_ask, is_bad_key}
+use Rattle.rdm_model.specs.Targets.{live_send, is_good_ask, is_bad_key}
 use Rattle.rdm_model.specs.Scenes.{Scene}
 use Rattle.rdm_model.specs.Local.{heard_by}
 use Rattle.rdm_model.proofs.Matches.{is_pair_member}
@@ -26,7 +26,7 @@ use Rattle.rdm_law.proofs.Lives.Lives.{life_scene, LifeStep, LifeLocal}
 use Rattle.rdm_law.proofs.Matching.Numbered.{matching_numbered}
 use Rattle.rdm_model.proofs.Matches.{pair_still}
 use Rattle.rdm_law.proofs.Replies.Queue.{owed}
-use Rattle.rdm_law.proofs.Replies.Owed.{shape_in, recv_in}
+use Rattle.rdm_law.proofs.Replies.Owed.{shape_in, recv_in, ends_in}
 use Rattle.rdm_law.proofs.Classes.Classed.{taken_parts}
 use Rattle.rdm_law.proofs.Ends.LiveSends.{live_parts}
 use Rattle.rdm_lists.proofs.Members.{member-append_left, member-append_right, map-member, find_member, member_find, flat_map-member}
@@ -81,11 +81,11 @@ asks_owed own ms (d ∷ before) p a m h =
 
 -- a pair that is filled now makes its end owed
 end_new : (own : Own) (heads : Heads) (d : Deed) (before : List Deed) (p : Pair) (x : Item) → is_filled own.limits.first heads (d ∷ before) p ≡ true → is_filled own.limits.first heads before p ≡ false
-    → Member x (end_for own (shape_in heads p) (recv_in p)) → Member x (pair_items own heads d before p)
+    → Member x (ends_in own heads p) → Member x (pair_items own heads d before p)
 unfolding pair_items
 end_new own heads d before p x now was h =
-    let here : Member x (cond (is_filled own.limits.first heads (d ∷ before) p && not (is_filled own.limits.first heads before p)) (end_for own (shape_in heads p) (recv_in p)) []) =
-    subst (λ (b : Bool). Member x (cond b (end_for own (shape_in heads p) (recv_in p)) [])) (sym (and_from _ _ now (not_from_false _ was))) h in
+    let here : Member x (cond (is_filled own.limits.first heads (d ∷ before) p && not (is_filled own.limits.first heads before p)) (ends_in own heads p) []) =
+    subst (λ (b : Bool). Member x (cond b (ends_in own heads p) [])) (sym (and_from _ _ now (not_from_false _ was))) h in
     member-append_right x _ _ here
 
 -- a filled pair is a pair
@@ -95,7 +95,7 @@ filled_pair first heads log p h = (and_parts _ _ h).0
 
 -- the end of a filled pair is owed
 pub end_owed : (own : Own) (ms : Messages) (log : List Deed) (p : Pair) (x : Item) → Member p (pairs own.limits.first ms.head log) → is_filled own.limits.first ms.head log p ≡ true
-    → Member x (end_for own (shape_in ms.head p) (recv_in p)) → Member (reply p.message.life x) (owed own ms log)
+    → Member x (ends_in own ms.head p) → Member (reply p.message.life x) (owed own ms log)
 unfolding matching
 end_owed own ms [] p x m f h = elim m [ ]
 end_owed own ms (d ∷ before) p x m f h =

@@ -15,13 +15,13 @@ use Rattle.rdm_model.specs.declared.entry.Entry.{Entry}
 use Rattle.rdm_model.specs.declared.entry.Act.{Act}
 use Rattle.rdm_model.specs.declared.entry.Act.TheVariants.{Push}
 use Rattle.rdm_model.specs.Deeds.{Deed, Did, PushedNote, Pushed, TookNote, Took, Polled, Nothing, Item, deed_of, deeds, of_life, open_life}
-use Rattle.rdm_model.specs.Owns.{Own, Messages, own_of, rank_of, port_count}
+use Rattle.rdm_model.specs.Beginnings.{Own, Messages, own_of, rank_of, port_count}
 use Rattle.rdm_model.specs.Currents.{forgotten_by, is_forgotten}
 use Rattle.rdm_model.specs.Sends.{sends}
 use Rattle.rdm_model.specs.Replies.{Reply, replies_by}
 use Rattle.rdm_model.specs.Dues.{Due, Replies, progress, due}
 use Rattle.rdm_model.specs.Scenes.{Scene, deeds_at}
-use Rattle.rdm_model.specs.Going.{Goes, due_going, IsNext}
+use Rattle.rdm_model.specs.Going.{Goes, due_going, GoesNext}
 use Rattle.rdm_model.specs.Classes.{class_of}
 use Rattle.rdm_model.specs.Steps.{Does}
 use Rattle.rdm_model.specs.Local.{heard_by, own_scene, Local}
@@ -159,8 +159,8 @@ was_due_placed job port c to item t k (e ∷ before) l h g =
           let S = own_scene job port (deeds_at job port before) in
           let P : Act → Type 0 = λ x. Does job class_of S before e x in
           let does : Does job class_of S before e (Push p.0) = subst P p.4 l.2.2 in
-          let next : IsNext (life_scene (port_count job) (own_of job (life_of port c)) (deeds_at job port before) (of_life c (deeds_at job port before))) p.0 =
-          subst (λ (s : Scene). IsNext s p.0) (opened_scene job port c (deeds_at job port before) now) does.3 in
+          let next : GoesNext (life_scene (port_count job) (own_of job (life_of port c)) (deeds_at job port before) (of_life c (deeds_at job port before))) p.0 =
+          subst (λ (s : Scene). GoesNext s p.0) (opened_scene job port c (deeds_at job port before) now) does.3 in
           let is = push_is (port_count job) (own_of job (life_of port c)) (deeds_at job port before) (of_life c (deeds_at job port before)) p.0 p.1 p.2 p.3 p.5 next in
           placed_now job port c to item t k e before p.1 p.2 p.3 p.0 p.4 now a.2 l.1 p.5 does.0 is a.1 g)
       | inr a ↦ placed_later job port c to item k e before (was_due_placed job port c to item t k before l.0 a g)

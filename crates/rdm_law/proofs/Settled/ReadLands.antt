@@ -9,7 +9,7 @@ use Rattle.rdm_num.specs.declared.numbers.OpId.{OpId}
 use Rattle.rdm_num.specs.declared.limits.EpLimits.{EpLimits}
 use Rattle.rdm_num.specs.declared.head.Head.{Head}
 use Rattle.rdm_num.specs.declared.head.Shape.{Shape}
-use Rattle.rdm_pkt.specs.declared.Packet.TheVariants.{Eor}
+use Rattle.rdm_pkt.specs.declared.Packet.TheVariants.{Eor, Receipt}
 use Rattle.rdm_pkt.specs.declared.Kind.{Kind}
 use Rattle.rdm_pkt.specs.declared.Kind.TheVariants.{Eager, Medium, LongCts, LongRead, Runt}
 use Rattle.rdm_pkt.specs.Openings.{Message, message_head, shape_by}
@@ -19,12 +19,12 @@ use Rattle.rdm_wire.specs.declared.ReadData.{ReadData}
 use Rattle.rdm_model.specs.declared.job.Job.{Job}
 use Rattle.rdm_model.specs.declared.entry.Entry.{Entry}
 use Rattle.rdm_model.specs.Deeds.{Deed, Took, Item, Spelled, Asks, Gives}
-use Rattle.rdm_model.specs.Owns.{Messages, own_of}
+use Rattle.rdm_model.specs.Beginnings.{Messages, own_of}
 use Rattle.rdm_model.specs.Heard.{is_heard}
 use Rattle.rdm_model.specs.Parts.{carried_pieces}
 use Rattle.rdm_model.specs.Replies.{Reply, reply, asks_for}
 use Rattle.rdm_model.specs.Sends.{Sent}
-use Rattle.rdm_model.specs.Named.{read_from}
+use Rattle.rdm_model.specs.Targets.{read_from}
 use Rattle.rdm_model.specs.Currents.{is_forgotten}
 use Rattle.rdm_model.specs.Dues.{Replies, is_read}
 use Rattle.rdm_model.specs.Going.{Goes, due_going}
@@ -62,6 +62,7 @@ abbrev pub IsReplied : Item → Type 0
 IsReplied (Asks a) = Unit {0}
 IsReplied (Gives g) = Unit {0}
 IsReplied (Spelled (Eor send recv connid)) = Unit {0}
+IsReplied (Spelled (Receipt number connid)) = Unit {0}
 IsReplied _ = ⊥
 
 -- what is no opening is of no unheard message
@@ -69,6 +70,7 @@ replied_heard : (log : List Deed) (from : Life) (item : Item) → IsReplied item
 replied_heard log from (Asks a) r u = u
 replied_heard log from (Gives g) r u = u
 replied_heard log from (Spelled (Eor send recv connid)) r u = u
+replied_heard log from (Spelled (Receipt number connid)) r u = u
 replied_heard log from _ r u = r
 
 -- a reply that one standing life owed the other was taken

@@ -21,7 +21,7 @@ use Rattle.rdm_wire.specs.declared.Body.TheVariants.{Note, Between}
 use Rattle.rdm_wire.specs.declared.Body.{Body}
 use Rattle.rdm_num.specs.declared.numbers.PortNo.{PortNo}
 use Rattle.rdm_model.specs.Deeds.{Deed, Did, deed_by_next, deed_by_push, deed_by_handle, deed_of, deeds, open_after, open_life, log_of}
-use Rattle.rdm_model.specs.Owns.{Own, Messages, no_rank, rank_of, port_count, own_of}
+use Rattle.rdm_model.specs.Beginnings.{Own, Messages, no_rank, rank_of, port_count, own_of}
 use Rattle.rdm_model.specs.Notes.{OwedNote, next_note}
 use Rattle.rdm_model.specs.Scenes.{Scene, deeds_at}
 use Rattle.rdm_model.specs.Going.{Going, due_going, life_going, note_going, going}
@@ -32,7 +32,7 @@ use Rattle.rdm_model.specs.Lawful.{port_deeds, life_deeds, sent_scene}
 use Rattle.rdm_model.specs.Replies.{Reply}
 use Rattle.rdm_model.specs.Sends.{Sent, sends}
 use Rattle.rdm_model.specs.Dues.{Due, Replies, Sends, next_packet, is_over, send_due, next_send, reply_due, next_due, progress, due}
-use Rattle.rdm_model.specs.Settled.{waiting_datagrams, is_worn, is_worn_by, left_at, is_no_entry, next_completion_is_none, is_quiet, is_quiet_in, is_settled}
+use Rattle.rdm_model.specs.Settled.{waiting_datagrams, is_worn, is_worn_by, left_at, is_no_entry, nothing_to_poll, is_quiet, is_quiet_in, is_settled}
 use Rattle.rdm_model.specs.Takes.{is_again_early}
 use Rattle.rdm_law.proofs.Lives.Lives.{life_scene, opened_scene}
 use Rattle.rdm_law.proofs.Accounts.Wired.{Played}
@@ -45,7 +45,7 @@ use Rattle.rdm_lists.proofs.Below.{all_below}
 pub record Quiet (job : Job) (history : List Entry) (port : ℕ) : Type 0 where
   pub left : is_no_entry (left_at job port (sent_scene job port history) (log_of port history)) ≡ true
   pub going_none : (is_none (going (sent_scene job port history)) || is_worn job (log_of port history)) ≡ true
-  pub polled : (next_completion_is_none (sent_scene job port history) || is_worn job (log_of port history)) ≡ true
+  pub polled : (nothing_to_poll (sent_scene job port history) || is_worn job (log_of port history)) ≡ true
   pub waits : list_all (λ (d : Datagram). is_again_early lives_class (sent_scene job port history) d || is_worn_by job (log_of port history) d) (waiting_datagrams port history) ≡ true
 
 -- at a settled end each port is quiet

@@ -11,14 +11,18 @@ use Rattle.rdm_pkt.specs.declared.Kind.{Kind}
 use Rattle.rdm_pkt.specs.declared.Kind.TheVariants.{Eager, Medium, LongCts, LongRead, Runt}
 use Rattle.rdm_pkt.specs.Openings.{openings}
 use Rattle.rdm_model.specs.Deeds.{Deed}
-use Rattle.rdm_model.specs.Owns.{Own, Messages}
+use Rattle.rdm_model.specs.Beginnings.{Own, Messages}
 use Rattle.rdm_model.specs.Currents.{is_forgotten}
 use Rattle.rdm_model.specs.Sends.{Sent, sends}
 use Rattle.rdm_model.specs.Dues.{pieces_in, next_packet, is_read, is_pushed, is_over, ends_send}
 use Rattle.rdm_model.proofs.Cuts.{InRow, piece_bytes-append}
 use Rattle.rdm_model.proofs.Rows.{row_covers, row_covered}
 use Rattle.rdm_model.proofs.Opens.{pieces_in-append, opened_bytes, openings_bytes}
+use Rattle.rdm_model.specs.Local.{heard_by}
 use Rattle.rdm_model.proofs.Dues.{Underway}
+use Rattle.rdm_law.proofs.Lives.Lives.{LifeLocal}
+use Rattle.rdm_law.proofs.Ends.Overs.{over_by, over_from}
+use Rattle.rdm_law.proofs.Ends.Receipts.{confirmed_pushed}
 use Rattle.rdm_model.proofs.Pushes.{pushed_of, underway}
 use Rattle.rdm_model.proofs.Served.{done_bytes}
 
@@ -93,22 +97,27 @@ pushed_row s [] r h = cc
 pushed_row s (p ∷ ps) r h = row_covered s.message.bytes (pieces_in (p ∷ ps)) (length s.message.bytes) r h
 
 -- a send that is over and not read, of a life that was not forgotten, was pushed whole
-pub over_whole : (own : Own) (log : List Deed) (s : Sent) (pushed : List Packet) → Underway own s pushed → is_forgotten log s.to ≡ false → is_read s.kind ≡ false → is_over log pushed s ≡ true
-    → length s.message.bytes ≤ piece_bytes (pieces_in pushed)
-unfolding is_over
-over_whole own log s pushed u f r h =
-    let P : Bool → Type 0 = λ b. (is_forgotten log s.to || cond b (list_any (ends_send s.to s.number) log) (is_pushed s pushed)) ≡ true in
-    elim (or_cases (is_forgotten log s.to) (is_pushed s pushed) (subst P r h)) [
-      | inl a ↦ absurd (cc)
-      | inr a ↦ pushed_row s pushed u.row a
+pub over_whole : (own : Own) (log : List Deed) (s : Sent) → LifeLocal own log → Member s (sends own (heard_by own.limits.first log) log) → is_forgotten log s.to ≡ false → is_read s.kind ≡ false
+    → is_over log (pushed_of own (heard_by own.limits.first log) log s.number) s ≡ true → length s.message.bytes ≤ done_bytes own (heard_by own.limits.first log) log s.number
+over_whole own log s l m f r h =
+    let ms = heard_by own.limits.first log in
+    let pushed = pushed_of own ms log s.number in
+    let u = underway own ms log s m in
+    elim (over_by log pushed s h f) [
+      | inl a ↦ (let x = a.0 in absurd (cc))
+      | inr a ↦ elim a [
+        | inl b ↦ pushed_row s pushed u.row (confirmed_pushed own log s l m b.2)
+        | inr b ↦ pushed_row s pushed u.row b.2
+      ]
     ]
 
 -- a message that goes at once was pushed whole, where its send is at rest
-pub at_once_done : (own : Own) (ms : Messages) (log : List Deed) (s : Sent) → Member s (sends own ms log) → is_forgotten log s.to ≡ false → IsAtOnce s.kind
-    → (is_over log (pushed_of own ms log s.number) s ≡ true) ⊎ (next_packet own log s (pushed_of own ms log s.number) ≡ None)
-    → length s.message.bytes ≤ done_bytes own ms log s.number
-at_once_done own ms log s m f k (inl over) = over_whole own log s (pushed_of own ms log s.number) (underway own ms log s m) f (at_once_unread s.kind k) over
-at_once_done own ms log s m f k (inr none) =
+pub at_once_done : (own : Own) (log : List Deed) (s : Sent) → LifeLocal own log → Member s (sends own (heard_by own.limits.first log) log) → is_forgotten log s.to ≡ false → IsAtOnce s.kind
+    → (is_over log (pushed_of own (heard_by own.limits.first log) log s.number) s ≡ true) ⊎ (next_packet own log s (pushed_of own (heard_by own.limits.first log) log s.number) ≡ None)
+    → length s.message.bytes ≤ done_bytes own (heard_by own.limits.first log) log s.number
+at_once_done own log s l m f k (inl over) = over_whole own log s l m f (at_once_unread s.kind k) over
+at_once_done own log s l m f k (inr none) =
+    let ms = heard_by own.limits.first log in
     let d = opened_done own log s (pushed_of own ms log s.number) (underway own ms log s m) none in
     let e = at_once_bytes own s s.kind k in
     omega arith
@@ -119,10 +128,8 @@ unfolding is_pushed
 pushed_from s [] r some h = absurd (omega arith)
 pushed_from s (p ∷ ps) r some h = row_covers s.message.bytes (pieces_in (p ∷ ps)) (length s.message.bytes) r h
 
--- a send that is not read, of which the whole message was pushed, is over
-pub whole_over : (own : Own) (ms : Messages) (log : List Deed) (s : Sent) → Member s (sends own ms log) → is_read s.kind ≡ false
+-- a send that is neither read nor confirmed, of which the whole message was pushed, is over
+pub whole_over : (own : Own) (ms : Messages) (log : List Deed) (s : Sent) → Member s (sends own ms log) → is_read s.kind ≡ false → s.message.confirm ≡ false
     → 0 < length (pushed_of own ms log s.number) → length s.message.bytes ≤ done_bytes own ms log s.number → is_over log (pushed_of own ms log s.number) s ≡ true
-unfolding is_over
-whole_over own ms log s m r some le =
-    let P : Bool → Type 0 = λ b. (is_forgotten log s.to || cond b (list_any (ends_send s.to s.number) log) (is_pushed s (pushed_of own ms log s.number))) ≡ true in
-    subst P (sym r) (or_right (is_forgotten log s.to) (is_pushed s (pushed_of own ms log s.number)) (pushed_from s (pushed_of own ms log s.number) (underway own ms log s m).row some le))
+whole_over own ms log s m r c some le =
+    over_from log (pushed_of own ms log s.number) s (inr (inr (r, c, pushed_from s (pushed_of own ms log s.number) (underway own ms log s m).row some le)))

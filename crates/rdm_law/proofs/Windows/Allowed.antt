@@ -13,10 +13,10 @@ use Rattle.rdm_num.specs.declared.numbers.Connid.{Connid}
 use Rattle.rdm_pkt.specs.declared.Packet.TheVariants.{Cts}
 use Rattle.rdm_pkt.specs.Openings.{openings}
 use Rattle.rdm_model.specs.Deeds.{Deed, Took, Spelled}
-use Rattle.rdm_model.specs.Owns.{Own, Messages}
+use Rattle.rdm_model.specs.Beginnings.{Own, Messages}
 use Rattle.rdm_model.specs.Sends.{Sent, sends}
 use Rattle.rdm_model.specs.Grants.{Grant, grants_by, grants, grant_bytes}
-use Rattle.rdm_model.specs.Named.{live_send, is_long_send, is_no_op}
+use Rattle.rdm_model.specs.Targets.{live_send, is_long_send, is_no_op}
 use Rattle.rdm_model.specs.Classes.{allowed_bytes, is_wrong_grant, is_mismatch}
 use Rattle.rdm_model.specs.Scenes.{Scene}
 use Rattle.rdm_model.specs.Dues.{pieces_in, live_sends}

@@ -24,7 +24,7 @@ use Rattle.rdm_match.specs.Matcher.{Pair}
 use Rattle.rdm_model.specs.declared.job.Job.{Job}
 use Rattle.rdm_model.specs.declared.entry.Entry.{Entry}
 use Rattle.rdm_model.specs.Deeds.{Deed, Took, Spelled}
-use Rattle.rdm_model.specs.Owns.{own_of}
+use Rattle.rdm_model.specs.Beginnings.{own_of}
 use Rattle.rdm_model.specs.Grants.{first_part, first_part_in, first_part_by, first_part_taken}
 use Rattle.rdm_model.specs.Sends.{Sent}
 use Rattle.rdm_model.specs.Dues.{Sends, packet_piece, pieces_in}

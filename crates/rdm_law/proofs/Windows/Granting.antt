@@ -16,7 +16,7 @@ use Rattle.rdm_wire.specs.declared.Datagram.{Datagram}
 use Rattle.rdm_model.specs.declared.job.Job.{Job}
 use Rattle.rdm_model.specs.declared.entry.Entry.{Entry}
 use Rattle.rdm_model.specs.Deeds.{Deed, Took, Spelled, deed_of, log_of}
-use Rattle.rdm_model.specs.Owns.{own_of, rank_of}
+use Rattle.rdm_model.specs.Beginnings.{own_of, rank_of}
 use Rattle.rdm_model.specs.Matches.{pairs}
 use Rattle.rdm_model.specs.Grants.{grants_by}
 use Rattle.rdm_model.specs.Sends.{Sent, sends}

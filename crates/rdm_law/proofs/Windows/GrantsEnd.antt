@@ -12,14 +12,14 @@ use Rattle.rdm_num.specs.declared.head.Shape.TheVariants as S
 use Rattle.rdm_pkt.specs.declared.Packet.TheVariants.{Cts}
 use Rattle.rdm_match.specs.Matcher.{Pair, is_pair}
 use Rattle.rdm_model.specs.Deeds.{Deed, Spelled, Asks}
-use Rattle.rdm_model.specs.Owns.{Own, Messages, Heads}
+use Rattle.rdm_model.specs.Beginnings.{Own, Messages, Heads}
 use Rattle.rdm_model.specs.Matches.{pairs, matching}
 use Rattle.rdm_model.specs.Receives.{is_filled}
 use Rattle.rdm_model.specs.Grants.{first_part, window, granted_bytes}
 use Rattle.rdm_model.specs.Sends.{Sent, sends}
 use Rattle.rdm_model.specs.Replies.{Reply, reply, handshake_by, asks_for, grant_for, end_for, pair_items, pair_replies, given_by, replies_by}
 use Rattle.rdm_law.proofs.Replies.Queue.{owed}
-use Rattle.rdm_law.proofs.Replies.Owed.{shape_in, recv_in}
+use Rattle.rdm_law.proofs.Replies.Owed.{shape_in, recv_in, ends_in}
 use Rattle.rdm_law.proofs.Windows.Windows.{reach}
 use Rattle.rdm_law.proofs.Windows.WindowsAt.{NewWindow, WindowAt, windows_in_order}
 use Rattle.rdm_num.specs.Pieces.{covers, piece_bytes}
@@ -28,7 +28,7 @@ use Rattle.rdm_num.specs.declared.head.Head.{Head}
 use Rattle.rdm_pkt.specs.Openings.{openings}
 use Rattle.rdm_model.specs.declared.job.Job.{Job}
 use Rattle.rdm_model.specs.declared.entry.Entry.{Entry}
-use Rattle.rdm_model.specs.Owns.{own_of}
+use Rattle.rdm_model.specs.Beginnings.{own_of}
 use Rattle.rdm_model.specs.Parts.{carried_pieces}
 use Rattle.rdm_model.specs.Grants.{data_room, window_of, with_window}
 use Rattle.rdm_model.specs.Dues.{pieces_in}
@@ -72,7 +72,7 @@ items_grant own heads d before p send credits shape h =
     let is_over : Bool = is_filled own.limits.first heads (d ∷ before) p && not (is_filled own.limits.first heads before p) in
     let asks = cond is_new (map Asks (asks_for (shape_in heads p) (recv_in p))) [] in
     let grants = grant_for own (shape_in heads p) (recv_in p) size in
-    let ends = cond is_over (end_for own (shape_in heads p) (recv_in p)) [] in
+    let ends = cond is_over (ends_in own heads p) [] in
     let x = Spelled (Cts send (recv_in p) size own.life.connid) in
     member-append_left x (asks ++ grants) ends (member-append_right x asks grants (grant_member own (shape_in heads p) (recv_in p) send credits size shape h))
 

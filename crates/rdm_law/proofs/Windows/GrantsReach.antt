@@ -11,7 +11,7 @@ use Rattle.rdm_wire.specs.declared.Datagram.{Datagram}
 use Rattle.rdm_model.specs.declared.job.Job.{Job}
 use Rattle.rdm_model.specs.declared.entry.Entry.{Entry}
 use Rattle.rdm_model.specs.Deeds.{Deed, Spelled, log_of}
-use Rattle.rdm_model.specs.Owns.{Own, own_of}
+use Rattle.rdm_model.specs.Beginnings.{Own, own_of}
 use Rattle.rdm_model.specs.Sends.{Sent}
 use Rattle.rdm_model.specs.Lawful.{life_deeds}
 use Rattle.rdm_law.proofs.Accounts.Pushed.{PlacedAt}
@@ -22,14 +22,14 @@ use Rattle.rdm_law.proofs.Windows.WindowsAt.{WindowAt, windows_in_order}
 use Rattle.rdm_law.proofs.Windows.Granted.{Granting, allowed_of, own_tells}
 use Rattle.rdm_law.proofs.Windows.FirstPart.{first_part_opened}
 use Rattle.rdm_law.proofs.Windows.WindowsAt.{window_in}
-use Rattle.rdm_model.specs.Owns.{Messages}
+use Rattle.rdm_model.specs.Beginnings.{Messages}
 use Rattle.rdm_law.proofs.Settled.Delivered.{numbered}
 use Rattle.std.specs.Prelude.{slice_get}
 use Rattle.rdm_num.specs.declared.head.Head.{Head}
 use Rattle.rdm_num.specs.declared.head.Shape.TheVariants as S
 use Rattle.std.proofs.lemmas.Bool.{cases_lt}
 use Rattle.rdm_match.specs.Matcher.{is_pair}
-use Rattle.rdm_model.specs.Owns.{Heads}
+use Rattle.rdm_model.specs.Beginnings.{Heads}
 use Rattle.rdm_model.specs.Matches.{pairs}
 use Rattle.rdm_model.specs.Grants.{first_part, window, with_window, granted_bytes}
 use Rattle.rdm_model.proofs.Matches.{is_pair_member, pair_still}

@@ -10,7 +10,7 @@ use Rattle.rdm_model.specs.declared.job.Job.{Job}
 use Rattle.rdm_model.specs.declared.job.Instr.{Instr}
 use Rattle.rdm_model.specs.declared.entry.Entry.{Entry}
 use Rattle.rdm_model.specs.Deeds.{Deed, Took, Item, Spelled, deed_of, log_of}
-use Rattle.rdm_model.specs.Owns.{Own, own_of, rank_of}
+use Rattle.rdm_model.specs.Beginnings.{Own, own_of, rank_of}
 use Rattle.rdm_model.specs.Scenes.{deeds_at}
 use Rattle.rdm_model.specs.Grants.{grants_by, grant_bytes}
 use Rattle.rdm_model.specs.Sends.{Sent}
@@ -32,7 +32,7 @@ use Rattle.rdm_model.specs.declared.entry.Act.TheVariants.{Push, Handle}
 use Rattle.rdm_model.specs.declared.answer.Entered.{Entered}
 use Rattle.rdm_model.specs.declared.answer.Handled.TheVariants.{Took as TookAnswer}
 use Rattle.rdm_model.specs.Deeds.{item_of, deed_by_handle, open_life}
-use Rattle.rdm_model.specs.Owns.{Messages}
+use Rattle.rdm_model.specs.Beginnings.{Messages}
 use Rattle.rdm_model.specs.Steps.{Does}
 use Rattle.rdm_model.specs.Classes.{class_of}
 use Rattle.rdm_model.specs.Local.{own_scene}

@@ -1,13 +1,15 @@
 -- What was pushed of a long send ends within what is allowed, so it is not over while a grant is on its way.
-use Rattle.std.proofs.Common.{◌≡◌, ℕ, ◌+◌, ◌<◌, ◌≤◌, true, false, List, [], ◌∷◌, length, Some, None, refl, arith, inl, inr, ◌∙◌, ap, subst}
+use Rattle.std.proofs.Common.{◌≡◌, ℕ, ◌+◌, ◌<◌, ◌≤◌, true, false, List, [], ◌∷◌, length, Some, None, refl, arith, true≢false, inl, inr, sym, ◌∙◌, ap, subst}
 use Rattle.std.specs.Prelude.{is_some, filter_map}
 use Rattle.std.specs.List.{cons_option}
+use Rattle.std.proofs.lemmas.Bool.{false_from_ne_true}
 use Rattle.rdm_lists.specs.Lists.{Member}
 use Rattle.rdm_num.specs.Pieces.{Piece, byte_at, covers}
 use Rattle.rdm_pkt.specs.declared.Packet.{Packet}
+use Rattle.rdm_pkt.specs.declared.Kind.{Kind}
 use Rattle.rdm_pkt.specs.declared.Kind.TheVariants.{LongCts}
 use Rattle.rdm_model.specs.Deeds.{Deed}
-use Rattle.rdm_model.specs.Owns.{Own, Messages}
+use Rattle.rdm_model.specs.Beginnings.{Own, Messages}
 use Rattle.rdm_model.specs.Currents.{is_forgotten}
 use Rattle.rdm_model.specs.Sends.{Sent, sends}
 use Rattle.rdm_model.specs.Dues.{packet_piece, pieces_in, is_read, is_pushed, is_over}
@@ -17,6 +19,10 @@ use Rattle.rdm_model.proofs.Numbers.{sends_one}
 use Rattle.rdm_model.proofs.Served.{push_member}
 use Rattle.rdm_law.proofs.Settled.DuesPushed.{packet_push}
 use Rattle.rdm_law.proofs.Accounts.Whole.{byte_of_piece}
+use Rattle.rdm_model.specs.Local.{heard_by}
+use Rattle.rdm_law.proofs.Lives.Lives.{LifeLocal}
+use Rattle.rdm_law.proofs.Ends.Overs.{over_by}
+use Rattle.rdm_law.proofs.Ends.Receipts.{confirmed_pushed}
 use Rattle.rdm_law.proofs.Windows.Granted.{allowed_of, part_within_allowed, byte_ends}
 use Rattle.rdm_lists.proofs.Options.{some_of}
 use Rattle.rdm_lists.proofs.Below.{each_below_at}
@@ -67,13 +73,22 @@ unfolding is_pushed
 not_pushed s [] h = refl
 not_pushed s (p ∷ ps) h = h
 
--- and its send is not over, while its life is not forgotten
-long_over : (log : List Deed) (ps : List Packet) (s : Sent) → s.kind ≡ LongCts → is_forgotten log s.to ≡ false → is_pushed s ps ≡ false → is_over log ps s ≡ false
-unfolding is_over is_read
-long_over log ps s k f h = rw (h, f, k) refl
+-- a long message is not read
+long_unread : (kind : Kind) → kind ≡ LongCts → is_read kind ≡ true → ⊥
+unfolding is_read
+long_unread kind e h = let f : is_read LongCts ≡ true = subst (λ (k : Kind). is_read k ≡ true) e h in cc
 
--- a long send is not over while less is allowed than its message has
-pub long_live : (own : Own) (ms : Messages) (log : List Deed) (s : Sent) → Member s (sends own ms log) → s.kind ≡ LongCts → is_forgotten log s.to ≡ false
-    → allowed_of own log s < length s.message.bytes → is_over log (pushed_of own ms log s.number) s ≡ false
-long_live own ms log s m k f less =
-    long_over log (pushed_of own ms log s.number) s k f (not_pushed s (pushed_of own ms log s.number) (not_covered own ms log s (length s.message.bytes) m less))
+-- a long send is not over while less is allowed than its message has, and its life is not forgotten
+pub long_live : (own : Own) (log : List Deed) (s : Sent) → LifeLocal own log → Member s (sends own (heard_by own.limits.first log) log) → s.kind ≡ LongCts → is_forgotten log s.to ≡ false
+    → allowed_of own log s < length s.message.bytes → is_over log (pushed_of own (heard_by own.limits.first log) log s.number) s ≡ false
+long_live own log s l m k f less =
+    let ms = heard_by own.limits.first log in
+    let pushed = pushed_of own ms log s.number in
+    let not' : is_pushed s pushed ≡ false = not_pushed s pushed (not_covered own ms log s (length s.message.bytes) m less) in
+    false_from_ne_true (is_over log pushed s) (λ over. elim (over_by log pushed s over f) [
+      | inl a ↦ long_unread s.kind k a.0
+      | inr a ↦ elim a [
+        | inl b ↦ true≢false (sym (confirmed_pushed own log s l m b.2) ∙ not')
+        | inr b ↦ true≢false (sym b.2 ∙ not')
+      ]
+    ])

@@ -14,7 +14,7 @@ use Rattle.rdm_wire.specs.declared.Datagram.{Datagram}
 use Rattle.rdm_model.specs.declared.job.Job.{Job}
 use Rattle.rdm_model.specs.declared.entry.Entry.{Entry}
 use Rattle.rdm_model.specs.Deeds.{Deed, Took, Item, Spelled, deed_of, deeds, log_of, of_life}
-use Rattle.rdm_model.specs.Owns.{Own, own_of, rank_of}
+use Rattle.rdm_model.specs.Beginnings.{Own, own_of, rank_of}
 use Rattle.rdm_model.specs.Matches.{matching}
 use Rattle.rdm_model.specs.Scenes.{deeds_at}
 use Rattle.rdm_model.specs.Wire.{IsUnhandled}

@@ -17,7 +17,7 @@ use Rattle.rdm_pkt.specs.declared.Packet.TheVariants.{Rtm}
 use Rattle.rdm_pkt.specs.Heads.{shape_of, head_of}
 use Rattle.rdm_match.specs.Matcher.{Pair, is_pair}
 use Rattle.rdm_model.specs.Deeds.{Deed, Took, Spelled}
-use Rattle.rdm_model.specs.Owns.{Heads}
+use Rattle.rdm_model.specs.Beginnings.{Heads}
 use Rattle.rdm_model.specs.Heard.{head_by, heard_head}
 use Rattle.rdm_model.specs.Matches.{pairs}
 use Rattle.rdm_model.specs.Parts.{carried_pieces}

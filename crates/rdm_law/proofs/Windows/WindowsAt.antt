@@ -9,7 +9,7 @@ use Rattle.rdm_num.specs.declared.head.Shape.TheVariants as S
 use Rattle.rdm_pkt.specs.declared.Packet.TheVariants.{Cts}
 use Rattle.rdm_match.specs.Matcher.{Pair, is_pair}
 use Rattle.rdm_model.specs.Deeds.{Deed, Spelled}
-use Rattle.rdm_model.specs.Owns.{Own, Messages}
+use Rattle.rdm_model.specs.Beginnings.{Own, Messages}
 use Rattle.rdm_model.specs.Matches.{pairs}
 use Rattle.rdm_model.specs.Grants.{first_part, window, with_window, granted_bytes}
 use Rattle.rdm_model.specs.Sends.{sends}
@@ -58,6 +58,7 @@ grant_tells =
       kinds = λ r s c. ap kind_of c.is ∙ sym (ap kind_of c.is');
       recvs = λ r s c k. ap recv_of c.is ∙ c.recv_is ∙ sym (ap recv_of c.is');
       asks = λ to a b c. (let e = c.is in cc);
+      receipts = λ r s c k. (let f = ap kind_of c.is in absurd (cc));
     }
 
 -- the grant of a window that a deed opens, at its place among all that is owed
@@ -126,7 +127,8 @@ new_window own ms d before place index r send recv size connid at stands is (inr
       shape_is = n.shape_is ∙ ap (λ x. S.LongCts x n.credits) s;
     }
 new_window own ms d before place index r send recv size connid at stands is (inr (inr (inr (inl n)))) = (let e = n.is in cc)
-new_window own ms d before place index r send recv size connid at stands is (inr (inr (inr (inr n)))) = (let e = n.is in cc)
+new_window own ms d before place index r send recv size connid at stands is (inr (inr (inr (inr (inl n))))) = (let e = n.is in cc)
+new_window own ms d before place index r send recv size connid at stands is (inr (inr (inr (inr (inr n))))) = (let e = n.is in cc)
 
 -- each grant that is owed is of a window
 pub owed_window : (own : Own) (ms : Messages) (log : List Deed) (place : ℕ) (r : Reply) (send recv : OpId) (size : ℕ) (connid : Connid)

@@ -1,7 +1,7 @@
 use Rattle.std.proofs.Common.{◌≡◌, ◌<◌, List, length, get_or, map, subst, arith, ◌∙◌, ap}
 use Rattle.rdm_lists.specs.Lists.{below}
 use Rattle.rdm_port.specs.Views.{PortView}
-use Rattle.rdm_model.specs.Owns.{port_count}
+use Rattle.rdm_model.specs.Beginnings.{port_count}
 use Rattle.rdm_model.specs.Played.{end_at}
 use Rattle.rdm_world.specs.Views.{WorldView}
 use Rattle.rdm_world.proofs.Playing.{end_shown, ends_more, ends_none}

@@ -2,7 +2,7 @@ use Rattle.std.proofs.Common.{◌≡◌, ◌<◌, not, List, length, get_or, ari
 use Rattle.std.specs.Prelude.{is_some}
 use Rattle.std.specs.List.{list_any}
 use Rattle.rdm_lists.specs.Lists.{below}
-use Rattle.rdm_model.specs.Owns.{port_count}
+use Rattle.rdm_model.specs.Beginnings.{port_count}
 use Rattle.rdm_model.specs.Settled.{instruction_left}
 use Rattle.rdm_port.specs.Views.{PortView}
 use Rattle.rdm_world.specs.Views.{WorldView}
