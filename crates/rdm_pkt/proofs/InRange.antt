@@ -106,7 +106,7 @@ unfolding head_fields base_fields fields_fit field_fits
 fit_head kind flags a b = rw (le-leb (suc kind) 256 (omega arith), le-leb (suc flags) 65536 (omega arith)) refl
 
 -- types of packets that open messages have one more type after them
-type_small : (confirm : Bool) (form : Form) → type_of confirm form < 255
+pub type_small : (confirm : Bool) (form : Form) → type_of confirm form < 255
 unfolding type_of
 type_small true (Eager bytes) = omega arith
 type_small false (Eager bytes) = omega arith

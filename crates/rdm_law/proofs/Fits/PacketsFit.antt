@@ -13,6 +13,8 @@ use Rattle.rdm_pkt.specs.declared.Packet.{Packet}
 use Rattle.rdm_pkt.specs.declared.Packet.TheVariants.{Rtm, Cts, CtsData, Eor, Handshake, Receipt}
 use Rattle.rdm_pkt.specs.declared.Form.{Form}
 use Rattle.rdm_pkt.specs.declared.Form.TheVariants.{Eager, Medium, LongCts, LongRead, Runt}
+use Rattle.rdm_pkt.proofs.Openers.{flags-small}
+use Rattle.rdm_pkt.proofs.InRange.{type_small}
 use Rattle.rdm_pkt.specs.Grammar.{sender_opt, head_fields, type_of, rtm_flags, form_fields, tag_fields, last_fields, layout, form_fits, opt_fits, confirm_fits, packet_fits, fits}
 use Rattle.rdm_model.specs.Jobs.{option_fits}
 use Rattle.rdm_model.specs.Sends.{opt_for}
@@ -112,32 +114,10 @@ receipt_fits number connid a b =
     (all_append field_fits (head_fields 10 32768) (Number 4 number.0 ∷ Number 4 connid.0 ∷ []) (head_fits 10 32768 (omega arith) (omega arith))
     (all_fields (Number 4 number.0 ∷ Number 4 connid.0 ∷ []) (word_field number.0 a, (word_field connid.0 b, tt))))
 
--- a packet type is small
-kind_small : (confirm : Bool) (form : Form) → type_of confirm form ≤ 204
-unfolding type_of
-kind_small true (Eager bytes) = omega arith
-kind_small false (Eager bytes) = omega arith
-kind_small true (Medium size offset bytes) = omega arith
-kind_small false (Medium size offset bytes) = omega arith
-kind_small true (LongCts size send credits bytes) = omega arith
-kind_small false (LongCts size send credits bytes) = omega arith
-kind_small confirm (LongRead size send iov) = omega arith
-kind_small confirm (Runt size send iov runt offset bytes) = omega arith
-
 -- either of two numbers is within what both are within
 pub cond_below : (b : Bool) (m n top : ℕ) → m ≤ top → n ≤ top → cond b m n ≤ top
 cond_below true m n top h k = h
 cond_below false m n top h k = k
-
--- flags have two bytes
-flags_small : (tag : Option ℕ) (opt : Opt) → rtm_flags tag opt < 65536
-unfolding rtm_flags opt_flags
-flags_small tag opt =
-    let a = cond_below (is_some tag) 8 4 8 (omega arith) (omega arith) in
-    let b = cond_below (is_some opt.raw) 1 0 1 (omega arith) (omega arith) in
-    let c = cond_below (is_some opt.cq_data) 2 0 2 (omega arith) (omega arith) in
-    let d = cond_below (is_some opt.connid) 32768 0 32768 (omega arith) (omega arith) in
-    omega arith
 
 -- a tag
 tag_fits : (tag : Option ℕ) → option_fits tag ≡ true → list_all field_fits (tag_fields tag) ≡ true
@@ -193,12 +173,12 @@ rtm_from number tag confirm opt form a t o c f h l =
     let kind = type_of confirm form + cond (is_some tag) 1 0 in
     let head : List Field = head_fields kind (rtm_flags tag opt) in
     let front : List Field = head ++ Number 4 number.0 ∷ form_fields form in
-    let small : kind < 256 = (let x = kind_small confirm form in let y = cond_below (is_some tag) 1 0 1 (omega arith) (omega arith) in omega arith) in
+    let small : kind < 256 = (let x = type_small confirm form in let y = cond_below (is_some tag) 1 0 1 (omega arith) (omega arith) in omega arith) in
     fits_from (Rtm number tag confirm opt form) (and_from _ _ (and_from (confirm_fits confirm form) (opt_fits opt) c o.one) f)
     (all_append field_fits (front ++ tag_fields tag ++ opt_fields opt) (last_fields form)
     (all_append field_fits (front ++ tag_fields tag) (opt_fields opt)
     (all_append field_fits front (tag_fields tag)
-    (all_append field_fits head (Number 4 number.0 ∷ form_fields form) (head_fits kind (rtm_flags tag opt) small (flags_small tag opt))
+    (all_append field_fits head (Number 4 number.0 ∷ form_fields form) (head_fits kind (rtm_flags tag opt) small (flags-small tag opt))
     (and_from (field_fits (Number 4 number.0)) (list_all field_fits (form_fields form)) (word_field number.0 a) h))
     (tag_fits tag t))
     o.fields) l)
