@@ -18,8 +18,6 @@ mod sending;
 mod state;
 mod taking;
 mod telling;
-#[cfg(test)]
-mod tests;
 mod twin;
 mod verdict;
 

@@ -7,8 +7,6 @@ mod entry;
 mod push;
 mod report;
 mod shown;
-#[cfg(test)]
-mod tests;
 mod words;
 
 pub use report::text;

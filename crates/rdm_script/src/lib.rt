@@ -12,8 +12,6 @@ mod program;
 mod ranges;
 mod ranks;
 mod script;
-#[cfg(test)]
-mod tests;
 mod totals;
 
 pub use laws::read_jobs;

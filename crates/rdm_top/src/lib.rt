@@ -3,8 +3,6 @@
 
 mod reading;
 mod status;
-#[cfg(test)]
-mod tests;
 mod top;
 mod writing;
 

@@ -17,9 +17,6 @@ pub use spans::Span;
 use std::alloc::Global;
 use std::marker::Model;
 
-#[cfg(test)]
-mod tests;
-
 /// How many packets of a message were given.
 #[derive(Clone, Copy, Debug, PartialEq, Eq)]
 pub struct Cursor {

@@ -1,4 +1,4 @@
-use crate::{BadScript, Place, Reason, ScriptRefused, job_of, read_jobs};
+use rdm_script::{BadScript, Place, Reason, ScriptRefused, job_of, read_jobs};
 use std::alloc::Global;
 use std::test::Fail;
 

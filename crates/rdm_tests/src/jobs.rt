@@ -1,6 +1,6 @@
 ghost use Rattle.std.specs.Prelude.{◌≤◌};
 
-use crate::{Status, job};
+use rdm_top::{Status, job};
 use rdm_io::{MemSink, MemSource};
 use std::alloc::{AllocError, Global};
 use std::test::Fail;

@@ -1,4 +1,4 @@
-use crate::text;
+use rdm_report::text;
 use rdm_model::{
     Act, Class, DidWhat, End, Ends, Entered, Entry, Handled, History, Next, OpName, PoolName,
     Report, Why, Yet,

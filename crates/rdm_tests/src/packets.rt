@@ -1,6 +1,6 @@
 mod table;
 
-use crate::{Kind, Packet, choose};
+use rdm_pkt::{Kind, Packet, choose};
 use rdm_num::EpLimits;
 use std::alloc::Global;
 

@@ -1,4 +1,4 @@
-use crate::{CancelAnswer, HandleAnswer, Inserted, RecvAnswer, SendAnswer};
+use rdm_ep::{CancelAnswer, HandleAnswer, Inserted, RecvAnswer, SendAnswer};
 use rdm_model::{Class, Entered, RecvWhy, SendWhy};
 use rdm_num::{
     Connid, EpLimits, Life, MsgNo, PortNo, RecvNo, RecvReq, RegionNo, SendNo, Span, Want,

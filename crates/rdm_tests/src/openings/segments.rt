@@ -1,6 +1,6 @@
 //! Messages in several packets, and first parts.
 use super::{CONNID, RAW, content, limits, message};
-use crate::{Cursor, Message, Span};
+use rdm_tx::{Cursor, Message, Span};
 use rdm_hdr::Opt;
 use rdm_num::{EpLimits, NoMemory};
 use rdm_pkt::{Form, Kind, Packet};

@@ -4,7 +4,7 @@ mod openings;
 mod others;
 mod reads;
 
-use crate::Packet;
+use rdm_pkt::Packet;
 use combinations::COMBINATIONS;
 use openings::OPENINGS;
 use others::OTHERS;

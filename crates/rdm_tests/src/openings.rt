@@ -1,6 +1,6 @@
 mod segments;
 
-use crate::{Cursor, Message};
+use rdm_tx::{Cursor, Message};
 use arrayvec::ArrayVec;
 use rdm_hdr::Opt;
 use rdm_num::{EpLimits, Iov, IovEntry, MsgNo, NoMemory, OpId};

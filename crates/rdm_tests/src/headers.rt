@@ -1,4 +1,4 @@
-use crate::{
+use rdm_hdr::{
     Base, Opt, append_base, append_bytes, append_opt, append_u16, has_bit, opt_size, read_base,
     read_opt, u16_at, u32_at, u64_at, write_base, write_opt,
 };
