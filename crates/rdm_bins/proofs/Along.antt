@@ -2,9 +2,8 @@
 use Rattle.std.proofs.Common.{◌≡◌, refl, ap, subst, ◌∙◌, ℕ, ◌+◌, ◌-◌, ◌<◌, ◌≤◌, Bool, true, false, Option, Some, None, arith}
 use Rattle.std.specs.Prelude.{◌&&◌}
 use Rattle.rdm_bins.specs.Chains.{IsFirstFrom}
-use Rattle.rdm_bins.specs.Shelf.{is_in}
+use Rattle.rdm_bins.specs.Shelf.{is_in, passes}
 use Rattle.rdm_bins.proofs.Places.{by_order}
-use Rattle.rdm_bins.proofs.Items.{passes}
 
 -- the place, if there is one, is in the chain
 abbrev pub IsThere : (ℕ → Bool) → Option ℕ → Type 0

@@ -9,7 +9,7 @@ use Rattle.std.specs.declared.cmp.Ordering.TheVariants.{Less}
 use Rattle.std.specs.Cmp.{unsigned_tied, nat_cmp_is}
 use Rattle.std.specs.Map.{keys_of, values_of, remove_entry}
 use Rattle.std.specs.BTreeMap.{is_at}
-use Rattle.rdm_bins.specs.Shelf.{item_at, without_at, entries_from, first_passing}
+use Rattle.rdm_bins.specs.Shelf.{item_at, without_at, entries_from, passes, first_passing}
 use Rattle.rdm_bins.proofs.Places.{not_both_ways, itself, apart, apart_turned, both_suc}
 
 -- nothing is both there and not
@@ -90,11 +90,6 @@ module _ {X : Type 0} where
   item_past [] k h = refl
   item_past (p ∷ items) zero h = absurd (omega arith)
   item_past (p ∷ items) (suc k) h = item_past items k (omega arith)
-
-  -- the place holds an item that passes
-  abbrev pub passes : (X → Bool) → Option X → Bool
-  passes p None = false
-  passes p (Some x) = p x
 
   -- where no place holds one that passes, none is found
   pub none_found : (n : ℕ) (p : X → Bool) (items : List (Option X)) → ((k : ℕ) → passes p (item_at items k) ≡ false) → first_passing p (entries_from n items) ≡ None

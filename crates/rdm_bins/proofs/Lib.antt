@@ -7,5 +7,8 @@ mod Gathered
 mod Along
 mod Linked
 mod Unlinked
+mod Roomy
+mod Dropped
+mod Below
 mod Taken
 mod Candidates

@@ -1,7 +1,8 @@
 -- Chains of places: each place of a chain is linked to the next one and to the one before.
 use Rattle.std.specs.Prelude.{◌≡◌, ℕ, ◌+◌, ◌<◌, ◌≤◌, Bool, true, false, List, [], ◌∷◌, zero, suc, Option, Some, None, nat_eq, option_map, length}
 use Rattle.std.specs.List.{slice_get}
-use Rattle.std.specs.HashMap.{get}
+use Rattle.std.specs.HashMap.{get, spare}
+use Rattle.std.specs.Vec.{vec_len, vec_capacity}
 use Rattle.rdm_bins.specs.declared.chains.Ends.{Ends}
 use Rattle.rdm_bins.specs.declared.chains.Link.{Link}
 use Rattle.rdm_bins.specs.declared.chains.Chains.{Chains}
@@ -94,3 +95,8 @@ ends_without (Some e) (Some b) (Some a) = Some e
 pub record AreChains (here : Option ℕ → ℕ → Bool) (size : ℕ) (c : Chains) : Type 0 where
   pub length : length c.links.items ≡ size
   pub chain : (b : Option ℕ) → IsChain (here b) size (ends_at c b) (after_at c.links.items) (before_at c.links.items)
+
+-- there is memory for so many more places, each in a bin that has no chain yet
+pub record HasRoom (room : ℕ) (c : Chains) : Type 0 where
+  pub links : vec_len c.links + room ≤ vec_capacity c.links
+  pub ends : room ≤ spare c.tagged

@@ -1,9 +1,35 @@
 -- A shelf: items at rising places, and two kinds of chains that link the places of the items of each bin and each group.
-use Rattle.std.specs.Prelude.{◌≡◌, ℕ, zero, suc, Bool, false, if◌then◌else◌, List, [], ◌∷◌, length, Option, Some, None, nat_eq, nat_lt, find}
+use Rattle.std.specs.Prelude.{◌≡◌, refl, ℕ, zero, suc, ◌+◌, ◌≤◌, Bool, true, false, if◌then◌else◌, List, [], ◌∷◌, length, Option, Some, None, nat_eq, nat_lt, find}
+use Rattle.std.specs.Coded.{Coded, code_by, coded×, coded_list, coded_option, coded_ℕ}
+use Rattle.std.specs.Map.{values_of}
 use Rattle.std.specs.Option.{option_eq}
 use Rattle.std.specs.List.{slice_get}
 use Rattle.rdm_bins.specs.declared.chains.Chains.{Chains}
-use Rattle.rdm_bins.specs.Chains.{AreChains}
+use Rattle.rdm_bins.specs.Chains.{AreChains, HasRoom}
+
+-- there is memory for so many more items
+pub record HasPlaces (room len capacity : ℕ) (bins groups : Chains) : Type 0 where
+  pub places : len + room ≤ capacity
+  pub by_bin : HasRoom room bins
+  pub by_group : HasRoom room groups
+
+-- the place comes before the end, if one is set
+abbrev pub is_within : Option ℕ → ℕ → Bool
+is_within None n = true
+is_within (Some end) n = nat_lt n end
+
+-- the items at their places, and for how many more there is room
+pub record Places (X : Type 0) : Type 0 where
+  pub items : List (Option X)
+  pub room : ℕ
+
+-- places are stored as the pair of their fields
+abbrev pub places_code : {X : Type 0} → Coded X → Coded (Places X)
+places_code {X} code = code_by (List (Option X) × ℕ) (coded× (coded_list (coded_option code)) coded_ℕ) (λ s. (s.items, s.room)) (λ p. record { items = p.0; room = p.1 }) (λ _. refl)
+
+-- before anything came
+abbrev pub no_places : {X : Type 0} → Places X
+no_places = record { items = []; room = 0 }
 
 module _ {X : Type 0} where
   -- what a place holds, if there is such a place
@@ -26,6 +52,23 @@ module _ {X : Type 0} where
   entries_from n [] = []
   entries_from n (None ∷ items) = entries_from (suc n) items
   entries_from n (Some x ∷ items) = (n, x) ∷ entries_from (suc n) items
+
+  -- the items on a shelf with their places
+  abbrev pub entries_on : Places X → List (ℕ × X)
+  entries_on s = entries_from 0 s.items
+
+  -- the items on a shelf, in order
+  abbrev pub values_on : Places X → List X
+  values_on s = values_of (entries_on s)
+
+  -- the item is there and passes
+  abbrev pub passes : (X → Bool) → Option X → Bool
+  passes p None = false
+  passes p (Some x) = p x
+
+  -- the items with none at a place, where what it holds passes
+  abbrev pub without_passing : (X → Bool) → List (Option X) → ℕ → List (Option X)
+  without_passing p items n = if passes p (item_at items n) then without_at items n else items
 
   -- the item is there and stands in that bin
   unfoldable pub is_in : (X → Option ℕ) → Option ℕ → Option X → Bool
@@ -51,3 +94,9 @@ module _ {X : Type 0} where
   earlier None other = other
   earlier (Some a) None = Some a
   earlier (Some a) (Some b) = if nat_lt b.0 a.0 then Some b else Some a
+
+  -- the entry that was found, if its place comes before an end that is set
+  abbrev pub below : Option ℕ → Option (ℕ × X) → Option (ℕ × X)
+  below None found = found
+  below (Some end) None = None
+  below (Some end) (Some e) = if nat_lt e.0 end then Some e else None

@@ -1,9 +1,9 @@
 //! Places in chains: those of a bin follow one another in rising order.
-ghost use Rattle.std.specs.Prelude.{◌≡◌, ℕ, ◌<◌, ◌++◌, [], ◌∷◌, Option, Some, None, cond, nat_eq, length, OnOk};
+ghost use Rattle.std.specs.Prelude.{◌≡◌, ℕ, ◌+◌, ◌≤◌, ◌++◌, [], ◌∷◌, Option, Some, None, cond, nat_eq, length, OnOk, IsSome};
 ghost use Rattle.std.specs.Option.{option_eq};
 ghost use Rattle.std.specs.HashMap.{spare};
 ghost use Rattle.std.specs.Vec.{vec_len, vec_capacity};
-ghost use Rattle.rdm_bins.specs.Chains.{first_of, last_of, after_at, before_at, ends_at, with_after, with_before, ends_with, ends_without};
+ghost use Rattle.rdm_bins.specs.Chains.{first_of, last_of, after_at, before_at, ends_at, with_after, with_before, ends_with, ends_without, HasRoom};
 
 use rdm_num::NoMemory;
 use std::alloc::Global;
@@ -35,6 +35,7 @@ impl Chains {
     pub fn new(alloc: Global) -> Chains
         ensures ends { (b : Option ℕ) → ends_at result b ≡ None }
         ensures links { result.links.items ≡ [] }
+        ensures room { HasRoom 0 result }
     {
         Chains {
             tagged: HashMap::new(alloc),
@@ -43,15 +44,15 @@ impl Chains {
         }
     }
 
-    /// Makes room for one more place.
-    pub fn reserve(&mut self) -> Result<(), NoMemory>
+    /// Makes room for so many more places.
+    pub fn reserve(&mut self, room: usize) -> Result<(), NoMemory>
         ensures ends { (b : Option ℕ) → ends_at self.new b ≡ ends_at self.old b }
         ensures links { self.new.links.items ≡ self.old.links.items }
-        ensures link_room { OnOk result (vec_len self.new.links < vec_capacity self.new.links) }
-        ensures tag_room { OnOk result (0 < spare self.new.tagged) }
+        ensures room { OnOk result (HasRoom room self.new) }
+        ensures kept { (n : ℕ) → HasRoom n self.old → HasRoom n self.new }
     {
-        self.links.reserve(1)?;
-        self.tagged.reserve(1)?;
+        self.links.reserve(room)?;
+        self.tagged.reserve(room)?;
         Ok(())
     }
 
@@ -99,10 +100,11 @@ impl Chains {
     /// Sets the ends of a bin's chain, and gives those that it had.
     #[tactic(auto, unfolding(crate::specs::Chains::ends_at))]
     fn set_ends(&mut self, bin: Option<u64>, ends: Ends) -> Option<Ends>
-        requires { ends_at self.old bin ≡ None → 0 < spare self.old.tagged }
+        requires { 1 ≤ spare self.old.tagged }
         ensures answer { result ≡ ends_at self.old bin }
         ensures ends { (b : Option ℕ) → ends_at self.new b ≡ cond (option_eq nat_eq bin b) (Some ends) (ends_at self.old b) }
         ensures links { self.new.links ≡ self.old.links }
+        ensures spare { spare self.old.tagged ≤ spare self.new.tagged + 1 }
     {
         match bin {
             None => self.other.replace(ends),
@@ -115,10 +117,29 @@ impl Chains {
         }
     }
 
+    /// Sets the ends of a bin's chain that is there.
+    #[tactic(auto, unfolding(crate::specs::Chains::ends_at))]
+    fn change_ends(&mut self, bin: Option<u64>, ends: Ends)
+        requires { IsSome (ends_at self.old bin) }
+        ensures ends { (b : Option ℕ) → ends_at self.new b ≡ cond (option_eq nat_eq bin b) (Some ends) (ends_at self.old b) }
+        ensures links { self.new.links ≡ self.old.links }
+        ensures spare { spare self.new.tagged ≡ spare self.old.tagged }
+    {
+        match bin {
+            None => self.other = Some(ends),
+            Some(tag) => {
+                if let Some(old) = self.tagged.get_mut(&tag) {
+                    *old = ends;
+                }
+            }
+        }
+    }
+
     /// Takes a bin's chain away.
     fn drop_ends(&mut self, bin: Option<u64>)
         ensures ends { (b : Option ℕ) → ends_at self.new b ≡ cond (option_eq nat_eq bin b) None (ends_at self.old b) }
         ensures links { self.new.links ≡ self.old.links }
+        ensures spare { spare self.old.tagged ≤ spare self.new.tagged }
     {
         match bin {
             None => self.other = None,
@@ -130,10 +151,10 @@ impl Chains {
 
     /// Puts the next place at the end of a bin's chain.
     pub fn append(&mut self, bin: Option<u64>)
-        requires link_room { vec_len self.old.links < vec_capacity self.old.links }
-        requires tag_room { 0 < spare self.old.tagged }
+        requires { HasRoom 1 self.old }
         ensures ends { (b : Option ℕ) → ends_at self.new b ≡ cond (option_eq nat_eq bin b) (Some (ends_with (ends_at self.old bin) (length self.old.links.items))) (ends_at self.old b) }
         ensures links { self.new.links.items ≡ with_after self.old.links.items (last_of (ends_at self.old bin)) (Some (length self.old.links.items)) ++ record { before = last_of (ends_at self.old bin); after = None } ∷ [] }
+        ensures room { (n : ℕ) → HasRoom (n + 1) self.old → HasRoom n self.new }
     {
         let place = self.links.len();
         let before = last_place(self.end_with(bin, place));
@@ -147,10 +168,11 @@ impl Chains {
     /// Makes a place the last one of a bin's chain, and gives the ends that the chain had. A chain of
     /// no places, the usual case, costs one step of hashing.
     fn end_with(&mut self, bin: Option<u64>, place: usize) -> Option<Ends>
-        requires { 0 < spare self.old.tagged }
+        requires { 1 ≤ spare self.old.tagged }
         ensures answer { result ≡ ends_at self.old bin }
         ensures ends { (b : Option ℕ) → ends_at self.new b ≡ cond (option_eq nat_eq bin b) (Some (ends_with (ends_at self.old bin) place)) (ends_at self.old b) }
         ensures links { self.new.links ≡ self.old.links }
+        ensures spare { spare self.old.tagged ≤ spare self.new.tagged + 1 }
     {
         let old = self.set_ends(
             bin,
@@ -160,7 +182,7 @@ impl Chains {
             },
         );
         if let Some(ends) = old {
-            self.set_ends(
+            self.change_ends(
                 bin,
                 Ends {
                     last: place,
@@ -175,6 +197,7 @@ impl Chains {
     pub fn remove(&mut self, bin: Option<u64>, place: usize)
         ensures ends { (b : Option ℕ) → ends_at self.new b ≡ cond (option_eq nat_eq bin b) (ends_without (ends_at self.old bin) (before_at self.old.links.items place) (after_at self.old.links.items place)) (ends_at self.old b) }
         ensures links { self.new.links.items ≡ with_before (with_after self.old.links.items (before_at self.old.links.items place) (after_at self.old.links.items place)) (after_at self.old.links.items place) (before_at self.old.links.items place) }
+        ensures room { (n : ℕ) → HasRoom n self.old → HasRoom n self.new }
     {
         let before = self.before(place);
         let after = self.after(place);
@@ -188,6 +211,7 @@ impl Chains {
     fn close_ends(&mut self, bin: Option<u64>, before: Option<usize>, after: Option<usize>)
         ensures ends { (b : Option ℕ) → ends_at self.new b ≡ cond (option_eq nat_eq bin b) (ends_without (ends_at self.old bin) before after) (ends_at self.old b) }
         ensures links { self.new.links ≡ self.old.links }
+        ensures spare { spare self.old.tagged ≤ spare self.new.tagged }
     {
         match (before, after) {
             (None, None) => self.drop_ends(bin),
@@ -201,9 +225,10 @@ impl Chains {
     fn set_first(&mut self, bin: Option<u64>, first: usize)
         ensures ends { (b : Option ℕ) → ends_at self.new b ≡ cond (option_eq nat_eq bin b) (ends_without (ends_at self.old bin) None (Some first)) (ends_at self.old b) }
         ensures links { self.new.links ≡ self.old.links }
+        ensures spare { spare self.old.tagged ≤ spare self.new.tagged }
     {
         if let Some(ends) = self.ends(bin) {
-            self.set_ends(bin, Ends { first, ..ends });
+            self.change_ends(bin, Ends { first, ..ends });
         }
     }
 
@@ -211,9 +236,10 @@ impl Chains {
     fn set_last(&mut self, bin: Option<u64>, last: usize)
         ensures ends { (b : Option ℕ) → ends_at self.new b ≡ cond (option_eq nat_eq bin b) (ends_without (ends_at self.old bin) (Some last) None) (ends_at self.old b) }
         ensures links { self.new.links ≡ self.old.links }
+        ensures spare { spare self.old.tagged ≤ spare self.new.tagged }
     {
         if let Some(ends) = self.ends(bin) {
-            self.set_ends(bin, Ends { last, ..ends });
+            self.change_ends(bin, Ends { last, ..ends });
         }
     }
 }
@@ -243,7 +269,9 @@ fn set_after(links: &mut Vec<Link>, place: Option<usize>, after: Option<usize>)
 
 /// Links the place before another one, if there is one.
 fn set_before(links: &mut Vec<Link>, place: Option<usize>, before: Option<usize>)
-    ensures { links.new.items ≡ with_before links.old.items place before }
+    ensures links { links.new.items ≡ with_before links.old.items place before }
+    ensures len { vec_len links.new ≡ vec_len links.old }
+    ensures capacity { vec_capacity links.new ≡ vec_capacity links.old }
 {
     if let Some(place) = place {
         if let Some(link) = links.get_mut(place) {

@@ -1,16 +1,13 @@
 //! Items that wait in order, and that are found by their bin or their group.
-ghost use Rattle.std.specs.Prelude.{◌≡◌, ℕ, Bool, List, [], ◌∷◌, ◌++◌, Option, Some, None, not, ◌&&◌, find, filter, length, IfNone, IfOk, OnOk, OnErr};
-ghost use Rattle.std.specs.List.Sorted.{IsStrictlySortedBy};
-ghost use Rattle.std.specs.Ordering.{nat_cmp};
-ghost use Rattle.std.specs.Map.{keys_of, values_of, remove_entry};
-ghost use Rattle.std.specs.BTreeMap.{is_at};
+ghost use Rattle.std.specs.Prelude.{◌≡◌, ℕ, ◌+◌, ◌-◌, ◌<◌, Bool, [], ◌∷◌, ◌++◌, Option, Some, not, ◌&&◌, find, filter, length, IfNone, IfOk, OnOk, OnErr};
+ghost use Rattle.std.specs.Map.{values_of};
 ghost use Rattle.rdm_lists.specs.Lists.{without_first};
-ghost use Rattle.rdm_bins.specs.Chains.{AreChains};
-ghost use Rattle.rdm_bins.specs.Shelf.{item_at, without_at, entries_from, is_in, is_in_at, first_passing};
+ghost use Rattle.rdm_bins.specs.Shelf.{no_places, item_at, without_at, entries_from, entries_on, values_on, passes, without_passing, is_in, first_passing, below};
 
 use crate::chains::Chains;
+use crate::walks::{copies, first_chained, first_item, item_of, take_item};
 use rdm_num::NoMemory;
-use std::alloc::Global;
+use std::alloc::{AllocError, Global};
 use std::marker::Model;
 
 /// What can wait on a shelf: it has a bin, and it has a group.
@@ -35,7 +32,8 @@ pub trait Criterion<T> {
 }
 
 /// Items at rising places. The place of an item that went stays empty; the items move up once most
-/// places are empty. Chains link the places of the items of each bin and of each group.
+/// places are empty and memory is asked for. Chains link the places of the items of each bin and of
+/// each group.
 #[derive(Drop)]
 pub struct Shelf<T: Shelved> {
     alloc: Global,
@@ -43,25 +41,25 @@ pub struct Shelf<T: Shelved> {
     bins: Chains,
     groups: Chains,
     waiting: usize,
+    room: usize,
 }
 
 impl<T: Shelved> Model for Shelf<T> {
-    ghost use Rattle.std.specs.Prelude.{ℕ, List};
-    ghost use Rattle.std.specs.Coded.{coded_list, coded×, coded_ℕ};
-    ghost use Rattle.rdm_bins.specs.Shelf.{IsShelf, entries_from};
+    ghost use Rattle.std.specs.Vec.{vec_len, vec_capacity};
+    ghost use Rattle.rdm_bins.specs.Shelf.{Places, places_code, IsShelf, HasPlaces};
 
-    ghost Value = { List (ℕ × T) };
+    ghost Value = { Places T };
 
-    ghost coded = { coded_list (coded× coded_ℕ T.code) };
+    ghost coded = { places_code T.code };
 
-    ghost view = { λ s. entries_from 0 s.items.items };
+    ghost view = { λ s. record { items = s.items.items; room = s.room } };
 
-    ghost invariant = { λ s. IsShelf T.bin_of T.group_of s.items.items s.bins s.groups s.waiting };
+    ghost invariant = { λ s. IsShelf T.bin_of T.group_of s.items.items s.bins s.groups s.waiting × HasPlaces s.room (vec_len s.items) (vec_capacity s.items) s.bins s.groups };
 }
 
 impl<T: Shelved> Shelf<T> {
     pub fn new(alloc: Global) -> Shelf<T>
-        ensures { result ≡ [] }
+        ensures { result ≡ no_places }
     {
         Shelf {
             alloc,
@@ -69,37 +67,80 @@ impl<T: Shelved> Shelf<T> {
             bins: Chains::new(alloc),
             groups: Chains::new(alloc),
             waiting: 0,
+            room: 0,
         }
     }
 
-    /// Puts an item at the next place, behind all others.
-    pub fn push(&mut self, item: T) -> Result<(), NoMemory>
-        ensures ok { OnOk result (values_of self.new ≡ values_of self.old ++ item ∷ []) }
-        ensures err { OnErr result (self.new ≡ self.old) }
+    /// Makes room for one item more.
+    pub fn reserve(&mut self) -> Result<(), NoMemory>
+        ensures values { values_on self.new ≡ values_on self.old }
+        ensures ok { OnOk result (self.new.room ≡ self.old.room + 1) }
+        ensures err { OnErr result (self.new.room ≡ self.old.room) }
     {
-        self.items.reserve(1)?;
-        self.bins.reserve()?;
-        self.groups.reserve()?;
+        self.move_up();
+        let more = self.room.checked_add(1).ok_or(AllocError)?;
+        self.set_room(more)
+    }
+
+    /// Makes room for so many more items.
+    fn set_room(&mut self, room: usize) -> Result<(), NoMemory>
+        ensures items { self.new.items ≡ self.old.items }
+        ensures ok { OnOk result (self.new.room ≡ room) }
+        ensures err { OnErr result (self.new.room ≡ self.old.room) }
+    {
+        self.items.reserve(room)?;
+        self.bins.reserve(room)?;
+        self.groups.reserve(room)?;
+        self.room = room;
+        Ok(())
+    }
+
+    /// Gives back room for one item.
+    pub fn give_back(&mut self)
+        requires { 0 < self.old.room }
+        ensures items { self.new.items ≡ self.old.items }
+        ensures room { self.new.room ≡ self.old.room - 1 }
+    {
+        self.room -= 1;
+    }
+
+    /// Puts an item at the next place, behind all others.
+    pub fn push_reserved(&mut self, item: T)
+        requires { 0 < self.old.room }
+        ensures values { values_on self.new ≡ values_on self.old ++ item ∷ [] }
+        ensures room { self.new.room ≡ self.old.room - 1 }
+    {
         self.bins.append(item.bin());
         self.groups.append(item.group());
         self.items.push_reserved(Some(item));
         self.waiting = self.waiting.saturating_add(1);
-        Ok(())
+        self.room -= 1;
     }
 
     /// The first item that passes.
     pub fn first<P: Criterion<T>>(&self, test: &P) -> Option<(usize, T)>
-        ensures { result ≡ first_passing (P.test test.now) self.now }
+        ensures { result ≡ first_passing (P.test test.now) (entries_on self.now) }
     {
         first_item(&self.items, test)
     }
 
     /// The first item of a bin that passes.
     pub fn first_in_bin<P: Criterion<T>>(&self, bin: Option<u64>, test: &P) -> Option<(usize, T)>
-        ensures answer { result ≡ first_passing (λ x. is_in T.bin_of bin (Some x) && P.test test.now x) self.now }
-        ensures rising { IsStrictlySortedBy nat_cmp (keys_of self.now) }
+        ensures { result ≡ first_passing (λ x. is_in T.bin_of bin (Some x) && P.test test.now x) (entries_on self.now) }
     {
-        first_chained(&self.items, &self.bins, bin, test)
+        first_chained(&self.items, &self.bins, bin, test, None)
+    }
+
+    /// The first item of a bin that passes, if it stands before an end that is set.
+    pub fn first_in_bin_before<P: Criterion<T>>(
+        &self,
+        bin: Option<u64>,
+        test: &P,
+        end: Option<usize>,
+    ) -> Option<(usize, T)>
+        ensures { result ≡ below end (first_passing (λ x. is_in T.bin_of bin (Some x) && P.test test.now x) (entries_on self.now)) }
+    {
+        first_chained(&self.items, &self.bins, bin, test, end)
     }
 
     /// The first item of a group that passes.
@@ -108,15 +149,15 @@ impl<T: Shelved> Shelf<T> {
         group: Option<u64>,
         test: &P,
     ) -> Option<(usize, T)>
-        ensures { result ≡ first_passing (λ x. is_in T.group_of group (Some x) && P.test test.now x) self.now }
+        ensures { result ≡ first_passing (λ x. is_in T.group_of group (Some x) && P.test test.now x) (entries_on self.now) }
     {
-        first_chained(&self.items, &self.groups, group, test)
+        first_chained(&self.items, &self.groups, group, test, None)
     }
 
     /// Takes out the item at a place.
     fn remove(&mut self, place: usize)
-        ensures after { self.new ≡ remove_entry (is_at (nat_cmp place)) self.old }
-        ensures rising { IsStrictlySortedBy nat_cmp (keys_of self.old) }
+        ensures items { self.new.items ≡ without_at self.old.items place }
+        ensures room { self.new.room ≡ self.old.room }
     {
         if let Some(item) = take_item(&mut self.items, place) {
             self.bins.remove(item.bin(), place);
@@ -127,10 +168,11 @@ impl<T: Shelved> Shelf<T> {
 
     /// Moves the items up where most places are empty. For want of memory they stay where they are.
     fn move_up(&mut self)
-        ensures { values_of self.new ≡ values_of self.old }
+        ensures values { values_on self.new ≡ values_on self.old }
+        ensures room { self.new.room ≡ self.old.room }
     {
         if self.is_sparse() {
-            if let Ok(renewed) = self.without(&Nothing) {
+            if let Ok(renewed) = renewed(self.alloc, &self.items, self.room) {
                 *self = renewed;
             }
         }
@@ -143,15 +185,15 @@ impl<T: Shelved> Shelf<T> {
 
     /// Takes out an item that was found, if one was. Of what passes a test it was the first one.
     pub fn take(&mut self, found: Option<(usize, T)>) -> Option<T>
-        ensures answer { (p : T → Bool) → found ≡ first_passing p self.old → result ≡ find p (values_of self.old) }
-        ensures after { (p : T → Bool) → found ≡ first_passing p self.old → values_of self.new ≡ without_first p (values_of self.old) }
+        ensures answer { (p : T → Bool) → found ≡ first_passing p (entries_on self.old) → result ≡ find p (values_on self.old) }
+        ensures after { (p : T → Bool) → found ≡ first_passing p (entries_on self.old) → values_on self.new ≡ without_first p (values_on self.old) }
         ensures none { IfNone result (self.new ≡ self.old) }
+        ensures room { self.new.room ≡ self.old.room }
     {
         match found {
             None => None,
             Some(entry) => {
                 self.remove(entry.0);
-                self.move_up();
                 Some(entry.1)
             }
         }
@@ -159,124 +201,65 @@ impl<T: Shelved> Shelf<T> {
 
     /// The items that pass, in order.
     pub fn passing<P: Criterion<T>>(&self, alloc: Global, test: &P) -> Result<Vec<T>, NoMemory>
-        ensures { IfOk result (λ v. v.items ≡ filter (P.test test.now) (values_of self.now)) }
+        ensures { IfOk result (λ v. v.items ≡ filter (P.test test.now) (values_on self.now)) }
     {
         copies(alloc, &self.items, test)
     }
 
-    /// A shelf of the items that do not pass.
-    pub fn without<P: Criterion<T>>(&self, test: &P) -> Result<Shelf<T>, NoMemory>
-        ensures { IfOk result (λ s. values_of s ≡ filter (λ x. not (P.test test.now x)) (values_of self.now)) }
+    /// Takes out the items that pass.
+    pub fn drop_passing<P: Criterion<T>>(&mut self, test: &P)
+        ensures values { values_on self.new ≡ filter (λ x. not (P.test test.now x)) (values_on self.old) }
+        ensures room { self.new.room ≡ self.old.room }
     {
-        shelf_without(self.alloc, &self.items, test)
-    }
-}
-
-/// Nothing passes.
-struct Nothing;
-
-impl<T> Criterion<T> for Nothing {
-    ghost use Rattle.std.specs.Prelude.{false};
-
-    ghost test = { λ t x. false };
-
-    fn passes(&self, _item: &T) -> bool {
-        false
-    }
-}
-
-/// Takes out what a place holds.
-fn take_item<T: Shelved>(items: &mut Vec<Option<T>>, place: usize) -> Option<T>
-    ensures answer { result ≡ item_at items.old.items place }
-    ensures after { items.new.items ≡ without_at items.old.items place }
-{
-    match items.get_mut(place) {
-        None => None,
-        Some(item) => item.take(),
-    }
-}
-
-/// The first item that passes.
-fn first_item<T: Shelved, P: Criterion<T>>(items: &Vec<Option<T>>, test: &P) -> Option<(usize, T)>
-    ensures { result ≡ first_passing (P.test test.now) (entries_from 0 items.now.items) }
-{
-    for place in 0..items.len() {
-        if let Some(item) = items[place] {
-            if test.passes(&item) {
-                return Some((place, item));
-            }
+        for place in 0..self.places() {
+            self.remove_passing(place, test);
         }
     }
-    None
-}
 
-/// The first item of a chain that passes.
-fn first_chained<T: Shelved, P: Criterion<T>>(
-    items: &Vec<Option<T>>,
-    chains: &Chains,
-    bin: Option<u64>,
-    test: &P,
-) -> Option<(usize, T)>
-    ghost bin_of: { T → Option ℕ }
-    requires { AreChains (is_in_at bin_of items.now.items) (length items.now.items) chains.now }
-    ensures { result ≡ first_passing (λ x. is_in bin_of bin (Some x) && P.test test.now x) (entries_from 0 items.now.items) }
-{
-    let mut next = chains.first(bin);
-    while let Some(place) = next {
-        if let Some(item) = item_of(items, place) {
-            if test.passes(&item) {
-                return Some((place, item));
-            }
+    /// Takes out the item at a place if it passes.
+    fn remove_passing<P: Criterion<T>>(&mut self, place: usize, test: &P)
+        ensures items { self.new.items ≡ without_passing (P.test test.now) self.old.items place }
+        ensures room { self.new.room ≡ self.old.room }
+    {
+        if self.passes_at(place, test) {
+            self.remove(place);
         }
-        next = chains.after(place);
     }
-    None
+
+    /// How many places there are, empty ones among them.
+    fn places(&self) -> usize
+        ensures { result ≡ length self.now.items }
+    {
+        self.items.len()
+    }
+
+    /// A place holds an item that passes.
+    fn passes_at<P: Criterion<T>>(&self, place: usize, test: &P) -> bool
+        ensures { result ≡ passes (P.test test.now) (item_at self.now.items place) }
+    {
+        match item_of(&self.items, place) {
+            None => false,
+            Some(item) => test.passes(&item),
+        }
+    }
 }
 
-/// What a place holds.
-fn item_of<T: Shelved>(items: &Vec<Option<T>>, place: usize) -> Option<T>
-    ensures { result ≡ item_at items.now.items place }
-{
-    match items.get(place) {
-        None => None,
-        Some(item) => *item,
-    }
-}
-
-/// Copies of the items that pass, in order.
-fn copies<T: Shelved, P: Criterion<T>>(
+/// A shelf of the items with no empty places, and with room for so many more.
+fn renewed<T: Shelved>(
     alloc: Global,
     items: &Vec<Option<T>>,
-    test: &P,
-) -> Result<Vec<T>, NoMemory>
-    ensures { IfOk result (λ v. v.items ≡ filter (P.test test.now) (values_of (entries_from 0 items.now.items))) }
-{
-    let mut copies = Vec::new(alloc);
-    for place in 0..items.len() {
-        if let Some(item) = items[place] {
-            if test.passes(&item) {
-                copies.push(item)?;
-            }
-        }
-    }
-    Ok(copies)
-}
-
-/// A shelf of the items that do not pass.
-fn shelf_without<T: Shelved, P: Criterion<T>>(
-    alloc: Global,
-    items: &Vec<Option<T>>,
-    test: &P,
+    room: usize,
 ) -> Result<Shelf<T>, NoMemory>
-    ensures { IfOk result (λ s. values_of s ≡ filter (λ x. not (P.test test.now x)) (values_of (entries_from 0 items.now.items))) }
+    ensures values { IfOk result (λ s. values_on s ≡ values_of (entries_from 0 items.now.items)) }
+    ensures room { IfOk result (λ s. s.room ≡ room) }
 {
     let mut shelf = Shelf::new(alloc);
     for place in 0..items.len() {
         if let Some(item) = items[place] {
-            if !test.passes(&item) {
-                shelf.push(item)?;
-            }
+            shelf.set_room(1)?;
+            shelf.push_reserved(item);
         }
     }
+    shelf.set_room(room)?;
     Ok(shelf)
 }

@@ -1,6 +1,9 @@
+ghost use Rattle.std.specs.Prelude.{◌≡◌, ◌<◌, ◌≤◌, ◌-◌};
+
 use crate::Bins;
-use rdm_match::{Arrived, PostedRecv};
+use rdm_match::{Arrived, Matcher, PostedRecv, TagMatcher};
 use rdm_num::{Connid, Life, MsgNo, NoMemory, PortNo, RecvNo, Want};
+use std::alloc::Global;
 use std::process::Abort;
 use std::test::Fail;
 
@@ -22,7 +25,7 @@ const LATER: Life = Life {
     connid: Connid(8),
 };
 
-/// What comes to the bins, and what they answer.
+/// What comes to a matcher, and what it answers.
 #[derive(Clone, Copy)]
 enum Step {
     Post(PostedRecv, Option<Arrived>),
@@ -62,28 +65,94 @@ fn message(life: Life, no: u32, tag: Option<u64>) -> Arrived {
 
 /// Posts a receive whose number is not posted: a cancel of it finds nothing and changes nothing.
 #[tactic(auto, using(rdm_match::proofs::Cancelled::vain_cancel))]
-fn post(rt: &impl Abort, bins: &mut Bins, r: PostedRecv) -> Result<Option<Arrived>, NoMemory> {
-    let was_posted = bins.cancel(r.id);
+fn post<M: TagMatcher>(
+    rt: &impl Abort,
+    matcher: &mut M,
+    r: PostedRecv,
+) -> Result<Option<Arrived>, NoMemory> {
+    let was_posted = matcher.cancel(r.id);
     assert!(rt; !was_posted);
-    bins.post(r)
+    matcher.post(r)
 }
 
-/// The bins answer each step as it says.
-fn run(rt: &impl Abort, bins: &mut Bins, steps: &[Step]) -> Result<(), NoMemory> {
+/// The matcher answers each step as it says.
+fn run<M: TagMatcher>(rt: &impl Abort, matcher: &mut M, steps: &[Step]) -> Result<(), NoMemory> {
     for step in steps {
         match step {
-            Post(r, taken) => assert!(rt; post(rt, bins, *r)? == *taken),
-            Arrive(a, taker) => assert!(rt; bins.arrive(*a)? == *taker),
-            WouldTake(a, taker) => assert!(rt; bins.would_take(a) == *taker),
-            Cancel(id, was_posted) => assert!(rt; bins.cancel(*id) == *was_posted),
+            Post(r, taken) => {
+                assert!(rt; matcher.would_meet(r) == *taken);
+                assert!(rt; post(rt, matcher, *r)? == *taken);
+            }
+            Arrive(a, taker) => assert!(rt; matcher.arrive(*a)? == *taker),
+            WouldTake(a, taker) => assert!(rt; matcher.would_take(a) == *taker),
+            Cancel(id, was_posted) => assert!(rt; matcher.cancel(*id) == *was_posted),
         }
     }
     Ok(())
 }
 
+/// The bins and the plain matcher answer each step as it says.
+fn run_both(rt: &impl Abort, alloc: Global, steps: &[Step]) -> Result<(), NoMemory> {
+    run(rt, &mut Bins::new(alloc), steps)?;
+    run(rt, &mut Matcher::new(alloc), steps)
+}
+
+/// Asks for more room. That it is refused changes nothing.
+fn ask_for_more<M: TagMatcher>(matcher: &mut M)
+    ensures waiting { (M.kept matcher.new).waiting ≡ (M.kept matcher.old).waiting }
+    ensures posts { (M.kept matcher.old).posts ≤ (M.kept matcher.new).posts }
+    ensures arrivals { (M.kept matcher.old).arrivals ≤ (M.kept matcher.new).arrivals }
+{
+    let _post = matcher.reserve_post().is_ok();
+    let _arrival = matcher.reserve_arrival().is_ok();
+}
+
+/// Posts a receive in room that was made before.
+#[tactic(auto, using(rdm_match::proofs::Cancelled::vain_cancel))]
+fn post_reserved<M: TagMatcher>(rt: &impl Abort, matcher: &mut M, r: PostedRecv) -> Option<Arrived>
+    requires { 0 < (M.kept matcher.old).posts }
+    ensures posts { (M.kept matcher.old).posts - 1 ≤ (M.kept matcher.new).posts }
+    ensures arrivals { (M.kept matcher.old).arrivals ≤ (M.kept matcher.new).arrivals }
+{
+    ask_for_more(matcher);
+    let was_posted = matcher.cancel(r.id);
+    assert!(rt; !was_posted);
+    matcher.post_reserved(r)
+}
+
+/// Lets a message arrive in room that was made before.
+fn arrive_reserved<M: TagMatcher>(matcher: &mut M, a: Arrived) -> Option<PostedRecv>
+    requires { 0 < (M.kept matcher.old).arrivals }
+    ensures posts { (M.kept matcher.old).posts ≤ (M.kept matcher.new).posts }
+    ensures arrivals { (M.kept matcher.old).arrivals - 1 ≤ (M.kept matcher.new).arrivals }
+{
+    ask_for_more(matcher);
+    matcher.arrive_reserved(a)
+}
+
+/// Receives and messages meet in room that was made before, whether memory is given in between or
+/// refused.
+fn meet_in_room<M: TagMatcher>(rt: &impl Abort, matcher: &mut M) -> Result<(), NoMemory> {
+    matcher.reserve_post()?;
+    matcher.reserve_post()?;
+    matcher.reserve_arrival()?;
+    matcher.reserve_arrival()?;
+    let exact = tagged(0, 1, 0);
+    let any = tagged(1, 0, u64::MAX);
+    let first = message(ONE, 0, Some(1));
+    let second = message(ONE, 1, Some(1));
+    assert!(rt; post_reserved(rt, matcher, exact) == None);
+    assert!(rt; matcher.cancel(exact.id));
+    assert!(rt; post_reserved(rt, matcher, any) == None);
+    assert!(rt; arrive_reserved(matcher, first) == Some(any));
+    assert!(rt; arrive_reserved(matcher, second) == None);
+    matcher.forget_life(OTHER);
+    assert!(rt; matcher.would_meet(&exact) == Some(second));
+    Ok(())
+}
+
 #[test]
 fn the_earlier_receive_takes_whichever_bin_it_waits_in(rt: HostRuntime) -> Result<(), Fail> {
-    let mut bins = Bins::new(rt.alloc());
     let steps = [
         Post(tagged(0, 0, u64::MAX), None),
         Post(tagged(1, 7, 0), None),
@@ -102,13 +171,12 @@ fn the_earlier_receive_takes_whichever_bin_it_waits_in(rt: HostRuntime) -> Resul
         Arrive(message(ONE, 5, Some(257)), Some(tagged(4, 256, 255))),
         Post(tagged(5, 513, 0), Some(message(ONE, 4, Some(513)))),
     ];
-    run(&rt, &mut bins, &steps)?;
+    run_both(&rt, rt.alloc(), &steps)?;
     Ok(())
 }
 
 #[test]
 fn the_first_message_that_fits_is_taken(rt: HostRuntime) -> Result<(), Fail> {
-    let mut bins = Bins::new(rt.alloc());
     let named = PostedRecv {
         from: Some(ONE),
         ..tagged(0, 1, 1)
@@ -126,7 +194,7 @@ fn the_first_message_that_fits_is_taken(rt: HostRuntime) -> Result<(), Fail> {
         Post(untagged(3, None), Some(message(ONE, 2, None))),
         Post(tagged(4, 1, 0), Some(message(OTHER, 0, Some(1)))),
     ];
-    run(&rt, &mut bins, &steps)?;
+    run_both(&rt, rt.alloc(), &steps)?;
     Ok(())
 }
 
@@ -154,5 +222,12 @@ fn a_forgotten_life_goes_from_both_lists(rt: HostRuntime) -> Result<(), Fail> {
         Post(tagged(4, 0, u64::MAX), None),
     ];
     run(&rt, &mut bins, &after)?;
+    Ok(())
+}
+
+#[test]
+fn what_was_reserved_for_needs_no_memory(rt: HostRuntime) -> Result<(), Fail> {
+    let mut bins = Bins::new(rt.alloc());
+    meet_in_room(&rt, &mut bins)?;
     Ok(())
 }

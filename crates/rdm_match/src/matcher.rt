@@ -1,107 +1,129 @@
 //! The plain matcher: two lists, of receives and of messages that wait for each other.
-ghost use Rattle.std.specs.Prelude.{◌≡◌, false, not, find, filter, option_map, IfNone, IfOk, OnOk, OnErr};
+ghost use Rattle.std.specs.Prelude.{◌≡◌, ◌+◌, ◌≤◌, not, find, filter, IfNone, IfOk};
 ghost use Rattle.std.specs.List.{position_from};
+ghost use Rattle.std.specs.Vec.{vec_len, vec_capacity};
 ghost use Rattle.rdm_lists.specs.Lists.{without_first};
 ghost use Rattle.rdm_num.specs.Lives.{same_life, is_life};
 ghost use Rattle.rdm_match.specs.Matcher as Plain;
-ghost use Rattle.rdm_match.specs.Waiting.{nothing_waits, waiting_after, taken_by, taker_of, is_posted, messages_of, receives_naming, CallsAreThePlainMatcher};
+ghost use Rattle.rdm_match.specs.Waiting.{CallsAreThePlainMatcher};
+ghost use Rattle.rdm_match.specs.Kept.{nothing_kept};
 
-use crate::{Arrived, ArrivedList, Forgotten, PostedList, PostedRecv, accepts};
+use crate::{Arrived, ArrivedList, PostedList, PostedRecv, TagMatcher, accepts};
 use rdm_num::{Life, NoMemory, RecvNo, is_same_life};
-use std::alloc::Global;
+use std::alloc::{AllocError, Global};
 use std::marker::Model;
 
-/// The receives and the messages that wait, each in order.
+/// The receives and the messages that wait, each in order, and for how many more the two lists have
+/// room.
 #[derive(Drop)]
 pub struct Matcher {
     posted: Vec<PostedRecv>,
     arrived: Vec<Arrived>,
+    posts: usize,
+    arrivals: usize,
 }
 
 impl Model for Matcher {
-    ghost use Rattle.rdm_match.specs.Waiting.{Waiting};
+    ghost use Rattle.std.specs.Prelude.{◌+◌, ◌≤◌};
+    ghost use Rattle.std.specs.Vec.{vec_len, vec_capacity};
+    ghost use Rattle.rdm_match.specs.Kept.{Kept};
 
-    ghost Value = { Waiting };
+    ghost Value = { Kept };
 
-    ghost view = { λ m. record { posted = m.posted.items; arrived = m.arrived.items } };
+    ghost view = { λ m. record { waiting = record { posted = m.posted.items; arrived = m.arrived.items }; posts = m.posts; arrivals = m.arrivals } };
+
+    ghost invariant = { λ m. (vec_len m.posted + m.posts ≤ vec_capacity m.posted) × (vec_len m.arrived + m.arrivals ≤ vec_capacity m.arrived) };
 }
 
 impl Matcher {
     pub fn new(alloc: Global) -> Matcher
-        ensures { result ≡ nothing_waits }
+        ensures { result ≡ nothing_kept }
     {
         Matcher {
             posted: Vec::new(alloc),
             arrived: Vec::new(alloc),
+            posts: 0,
+            arrivals: 0,
         }
     }
+}
 
-    /// Posts a receive: it takes the first message that it accepts, or waits last.
-    #[tactic(auto, unfolding(crate::specs::Waiting::taken_by, crate::specs::Waiting::waiting_after, crate::specs::Waiting::waiting_in, crate::specs::Waiting::with_pairs, crate::specs::Matcher::after, crate::specs::Matcher::after_post))]
-    pub fn post(&mut self, r: PostedRecv) -> Result<Option<Arrived>, NoMemory>
-        requires { is_posted self.old r.id.0 ≡ false }
-        ensures answer { IfOk result (λ taken. taken ≡ taken_by self.old r) }
-        ensures after { OnOk result (self.new ≡ waiting_after self.old (Plain.Post r)) }
-        ensures err { OnErr result (self.new ≡ self.old) }
-    {
-        match take_message(&mut self.arrived, &r) {
-            Some(message) => Ok(Some(message)),
-            None => {
-                self.posted.push(r)?;
-                Ok(None)
-            }
-        }
+#[tactic(auto, unfolding(crate::specs::Waiting::taken_by, crate::specs::Waiting::taker_of, crate::specs::Waiting::is_posted, crate::specs::Waiting::messages_of, crate::specs::Waiting::receives_naming, crate::specs::Waiting::waiting_after, crate::specs::Waiting::waiting_in, crate::specs::Waiting::with_pairs, crate::specs::Matcher::after, crate::specs::Matcher::after_post, crate::specs::Matcher::after_arrive))]
+impl TagMatcher for Matcher {
+    ghost kept = { λ m. m };
+
+    fn reserve_post(&mut self) -> Result<(), NoMemory> {
+        self.posts = reserve_one(&mut self.posted, self.posts)?;
+        Ok(())
     }
 
-    /// Lets a message arrive: the first receive that accepts it takes it, or it waits last.
-    #[tactic(auto, unfolding(crate::specs::Waiting::taker_of, crate::specs::Waiting::waiting_after, crate::specs::Waiting::waiting_in, crate::specs::Waiting::with_pairs, crate::specs::Matcher::after, crate::specs::Matcher::after_arrive))]
-    pub fn arrive(&mut self, a: Arrived) -> Result<Option<PostedRecv>, NoMemory>
-        ensures answer { IfOk result (λ taker. taker ≡ taker_of self.old a) }
-        ensures after { OnOk result (self.new ≡ waiting_after self.old (Plain.Arrive a)) }
-        ensures err { OnErr result (self.new ≡ self.old) }
-    {
-        match take_receive(&mut self.posted, &a) {
-            Some(receive) => Ok(Some(receive)),
-            None => {
-                self.arrived.push(a)?;
-                Ok(None)
-            }
-        }
+    fn reserve_arrival(&mut self) -> Result<(), NoMemory> {
+        self.arrivals = reserve_one(&mut self.arrived, self.arrivals)?;
+        Ok(())
     }
 
-    /// The receive that would take the message if it arrived now.
-    #[tactic(auto, unfolding(crate::specs::Waiting::taker_of))]
-    pub fn would_take(&self, a: &Arrived) -> Option<RecvNo>
-        ensures { result ≡ option_map (λ r. r.id) (taker_of self.now a.now) }
-    {
+    fn post_reserved(&mut self, r: PostedRecv) -> Option<Arrived> {
+        self.posts -= 1;
+        let taken = take_message(&mut self.arrived, &r);
+        if taken.is_none() {
+            self.posted.push_reserved(r);
+        }
+        taken
+    }
+
+    fn arrive_reserved(&mut self, a: Arrived) -> Option<PostedRecv> {
+        self.arrivals -= 1;
+        let taker = take_receive(&mut self.posted, &a);
+        if taker.is_none() {
+            self.arrived.push_reserved(a);
+        }
+        taker
+    }
+
+    fn would_meet(&self, r: &PostedRecv) -> Option<Arrived> {
+        first_accepted(&self.arrived, r)
+    }
+
+    fn would_take(&self, a: &Arrived) -> Option<RecvNo> {
         first_taker(&self.posted, a).map(|receive| receive.id)
     }
 
-    /// Takes out the receive of that number, and tells whether it waited.
-    #[tactic(auto, unfolding(crate::specs::Waiting::is_posted, crate::specs::Waiting::waiting_after, crate::specs::Waiting::waiting_in, crate::specs::Waiting::with_pairs, crate::specs::Matcher::after))]
-    pub fn cancel(&mut self, id: RecvNo) -> bool
-        ensures answer { result ≡ is_posted self.old id.0 }
-        ensures after { self.new ≡ waiting_after self.old (Plain.Cancel id.0) }
-    {
+    fn cancel(&mut self, id: RecvNo) -> bool {
         take_number(&mut self.posted, id).is_some()
     }
 
-    /// Takes out the messages of a life and the receives that name it, and gives them in order.
-    #[tactic(auto, unfolding(crate::specs::Waiting::messages_of, crate::specs::Waiting::receives_naming, crate::specs::Waiting::waiting_after, crate::specs::Waiting::waiting_in, crate::specs::Waiting::with_pairs, crate::specs::Matcher::after))]
-    pub fn forget(&mut self, alloc: Global, life: Life) -> Result<Forgotten, NoMemory>
-        ensures answer { IfOk result (λ f. (f.arrived ≡ messages_of self.old life) × (f.posted ≡ receives_naming self.old life)) }
-        ensures after { OnOk result (self.new ≡ waiting_after self.old (Plain.Forget life)) }
-        ensures err { OnErr result (self.new ≡ self.old) }
-    {
-        let arrived = copy_messages(alloc, &self.arrived, life)?;
-        let posted = copy_receives(alloc, &self.posted, life)?;
+    fn forget_life(&mut self, life: Life) {
         drop_messages(&mut self.arrived, life);
         drop_receives(&mut self.posted, life);
-        Ok(Forgotten {
-            arrived: ArrivedList::from_vec(arrived),
-            posted: PostedList::from_vec(posted),
-        })
     }
+
+    fn copy_messages(&self, alloc: Global, life: Life) -> Result<ArrivedList, NoMemory> {
+        Ok(ArrivedList::from_vec(copy_messages(alloc, &self.arrived, life)?))
+    }
+
+    fn copy_receives(&self, alloc: Global, life: Life) -> Result<PostedList, NoMemory> {
+        Ok(PostedList::from_vec(copy_receives(alloc, &self.posted, life)?))
+    }
+}
+
+/// Makes room for one element more than there is room for, and gives for how many that is.
+fn reserve_one<T>(items: &mut Vec<T>, room: usize) -> Result<usize, NoMemory>
+    ensures items { items.new.items ≡ items.old.items }
+    ensures len { vec_len items.new ≡ vec_len items.old }
+    ensures capacity { vec_capacity items.old ≤ vec_capacity items.new }
+    ensures more { IfOk result (λ n. n ≡ room + 1) }
+    ensures room { IfOk result (λ n. vec_len items.new + n ≤ vec_capacity items.new) }
+{
+    let more = room.checked_add(1).ok_or(AllocError)?;
+    items.reserve(more)?;
+    Ok(more)
+}
+
+/// The first message that the receive accepts.
+fn first_accepted(arrived: &[Arrived], r: &PostedRecv) -> Option<Arrived>
+    ensures { result ≡ find (Plain.accepts r.now) arrived.now }
+{
+    arrived.iter().find(|a| accepts(r, a)).copied()
 }
 
 /// The first receive that accepts the message.
@@ -138,6 +160,8 @@ fn take_message(arrived: &mut Vec<Arrived>, r: &PostedRecv) -> Option<Arrived>
     ensures answer { result ≡ find (Plain.accepts r.now) arrived.old.items }
     ensures after { arrived.new.items ≡ without_first (Plain.accepts r.now) arrived.old.items }
     ensures none { IfNone result (arrived.new.items ≡ arrived.old.items) }
+    ensures len { vec_len arrived.new ≤ vec_len arrived.old }
+    ensures capacity { vec_capacity arrived.new ≡ vec_capacity arrived.old }
 {
     let at = place_of_message(arrived, r)?;
     Some(arrived.remove(at))
@@ -148,6 +172,8 @@ fn take_receive(posted: &mut Vec<PostedRecv>, a: &Arrived) -> Option<PostedRecv>
     ensures answer { result ≡ find (λ r. Plain.accepts r a.now) posted.old.items }
     ensures after { posted.new.items ≡ without_first (λ r. Plain.accepts r a.now) posted.old.items }
     ensures none { IfNone result (posted.new.items ≡ posted.old.items) }
+    ensures len { vec_len posted.new ≤ vec_len posted.old }
+    ensures capacity { vec_capacity posted.new ≡ vec_capacity posted.old }
 {
     let at = place_of_taker(posted, a)?;
     Some(posted.remove(at))
@@ -157,6 +183,8 @@ fn take_receive(posted: &mut Vec<PostedRecv>, a: &Arrived) -> Option<PostedRecv>
 fn take_number(posted: &mut Vec<PostedRecv>, id: RecvNo) -> Option<PostedRecv>
     ensures answer { result ≡ find (Plain.is_recv id.0) posted.old.items }
     ensures after { posted.new.items ≡ without_first (Plain.is_recv id.0) posted.old.items }
+    ensures len { vec_len posted.new ≤ vec_len posted.old }
+    ensures capacity { vec_capacity posted.new ≡ vec_capacity posted.old }
 {
     let at = place_of_number(posted, id)?;
     Some(posted.remove(at))
@@ -201,14 +229,18 @@ fn copy_receives(
 
 /// Takes out the messages of a life.
 fn drop_messages(arrived: &mut Vec<Arrived>, life: Life)
-    ensures { arrived.new.items ≡ filter (λ a. not (same_life a.life life)) arrived.old.items }
+    ensures after { arrived.new.items ≡ filter (λ a. not (same_life a.life life)) arrived.old.items }
+    ensures len { vec_len arrived.new ≤ vec_len arrived.old }
+    ensures capacity { vec_capacity arrived.new ≡ vec_capacity arrived.old }
 {
     arrived.retain(|a| !is_same_life(a.life, life));
 }
 
 /// Takes out the receives that name a life.
 fn drop_receives(posted: &mut Vec<PostedRecv>, life: Life)
-    ensures { posted.new.items ≡ filter (λ r. not (is_life r.from life)) posted.old.items }
+    ensures after { posted.new.items ≡ filter (λ r. not (is_life r.from life)) posted.old.items }
+    ensures len { vec_len posted.new ≤ vec_len posted.old }
+    ensures capacity { vec_capacity posted.new ≡ vec_capacity posted.old }
 {
     posted.retain(|r| !names(r, life));
 }

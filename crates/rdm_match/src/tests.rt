@@ -1,4 +1,6 @@
-use crate::{Arrived, Matcher, PostedRecv};
+ghost use Rattle.std.specs.Prelude.{◌≡◌, ◌<◌, ◌≤◌, ◌-◌};
+
+use crate::{Arrived, Matcher, PostedRecv, TagMatcher};
 use rdm_num::{Connid, Life, MsgNo, NoMemory, PortNo, RecvNo, Want};
 use std::process::Abort;
 use std::test::Fail;
@@ -61,9 +63,9 @@ fn message(life: Life, no: u32, tag: Option<u64>) -> Arrived {
 
 /// Posts a receive whose number is not posted: a cancel of it finds nothing and changes nothing.
 #[tactic(auto, using(crate::proofs::Cancelled::vain_cancel))]
-fn post(
+fn post<M: TagMatcher>(
     rt: &impl Abort,
-    matcher: &mut Matcher,
+    matcher: &mut M,
     r: PostedRecv,
 ) -> Result<Option<Arrived>, NoMemory> {
     let was_posted = matcher.cancel(r.id);
@@ -72,15 +74,72 @@ fn post(
 }
 
 /// The matcher answers each step as it says.
-fn run(rt: &impl Abort, matcher: &mut Matcher, steps: &[Step]) -> Result<(), NoMemory> {
+fn run<M: TagMatcher>(rt: &impl Abort, matcher: &mut M, steps: &[Step]) -> Result<(), NoMemory> {
     for step in steps {
         match step {
-            Post(r, taken) => assert!(rt; post(rt, matcher, *r)? == *taken),
+            Post(r, taken) => {
+                assert!(rt; matcher.would_meet(r) == *taken);
+                assert!(rt; post(rt, matcher, *r)? == *taken);
+            }
             Arrive(a, taker) => assert!(rt; matcher.arrive(*a)? == *taker),
             WouldTake(a, taker) => assert!(rt; matcher.would_take(a) == *taker),
             Cancel(id, was_posted) => assert!(rt; matcher.cancel(*id) == *was_posted),
         }
     }
+    Ok(())
+}
+
+/// Asks for more room. That it is refused changes nothing.
+fn ask_for_more<M: TagMatcher>(matcher: &mut M)
+    ensures waiting { (M.kept matcher.new).waiting ≡ (M.kept matcher.old).waiting }
+    ensures posts { (M.kept matcher.old).posts ≤ (M.kept matcher.new).posts }
+    ensures arrivals { (M.kept matcher.old).arrivals ≤ (M.kept matcher.new).arrivals }
+{
+    let _post = matcher.reserve_post().is_ok();
+    let _arrival = matcher.reserve_arrival().is_ok();
+}
+
+/// Posts a receive in room that was made before.
+#[tactic(auto, using(crate::proofs::Cancelled::vain_cancel))]
+fn post_reserved<M: TagMatcher>(rt: &impl Abort, matcher: &mut M, r: PostedRecv) -> Option<Arrived>
+    requires { 0 < (M.kept matcher.old).posts }
+    ensures posts { (M.kept matcher.old).posts - 1 ≤ (M.kept matcher.new).posts }
+    ensures arrivals { (M.kept matcher.old).arrivals ≤ (M.kept matcher.new).arrivals }
+{
+    ask_for_more(matcher);
+    let was_posted = matcher.cancel(r.id);
+    assert!(rt; !was_posted);
+    matcher.post_reserved(r)
+}
+
+/// Lets a message arrive in room that was made before.
+fn arrive_reserved<M: TagMatcher>(matcher: &mut M, a: Arrived) -> Option<PostedRecv>
+    requires { 0 < (M.kept matcher.old).arrivals }
+    ensures posts { (M.kept matcher.old).posts ≤ (M.kept matcher.new).posts }
+    ensures arrivals { (M.kept matcher.old).arrivals - 1 ≤ (M.kept matcher.new).arrivals }
+{
+    ask_for_more(matcher);
+    matcher.arrive_reserved(a)
+}
+
+/// Receives and messages meet in room that was made before, whether memory is given in between or
+/// refused.
+fn meet_in_room<M: TagMatcher>(rt: &impl Abort, matcher: &mut M) -> Result<(), NoMemory> {
+    matcher.reserve_post()?;
+    matcher.reserve_post()?;
+    matcher.reserve_arrival()?;
+    matcher.reserve_arrival()?;
+    let exact = tagged(0, 1, 0);
+    let any = tagged(1, 0, u64::MAX);
+    let first = message(ONE, 0, Some(1));
+    let second = message(ONE, 1, Some(1));
+    assert!(rt; post_reserved(rt, matcher, exact) == None);
+    assert!(rt; matcher.cancel(exact.id));
+    assert!(rt; post_reserved(rt, matcher, any) == None);
+    assert!(rt; arrive_reserved(matcher, first) == Some(any));
+    assert!(rt; arrive_reserved(matcher, second) == None);
+    matcher.forget_life(OTHER);
+    assert!(rt; matcher.would_meet(&exact) == Some(second));
     Ok(())
 }
 
@@ -155,5 +214,12 @@ fn a_forgotten_life_goes_from_both_lists(rt: HostRuntime) -> Result<(), Fail> {
         Post(tagged(4, 0, u64::MAX), None),
     ];
     run(&rt, &mut matcher, &after)?;
+    Ok(())
+}
+
+#[test]
+fn what_was_reserved_for_needs_no_memory(rt: HostRuntime) -> Result<(), Fail> {
+    let mut matcher = Matcher::new(rt.alloc());
+    meet_in_room(&rt, &mut matcher)?;
     Ok(())
 }

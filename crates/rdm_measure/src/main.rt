@@ -6,7 +6,7 @@ ghost use Rattle.std.specs.Prelude.{◌≡◌, ℕ, ◌<◌, false};
 ghost use Rattle.rdm_match.specs.Waiting.{is_posted};
 
 use rdm_bins::Bins;
-use rdm_match::{Arrived, PostedRecv};
+use rdm_match::{Arrived, PostedRecv, TagMatcher};
 use rdm_num::{Connid, Life, MsgNo, NoMemory, PortNo, RecvNo, Want};
 use std::alloc::Global;
 use std::collections::HashMap;
@@ -68,8 +68,8 @@ fn meetings(alloc: Global, count: u64, ahead: u64) -> Result<u64, NoMemory> {
 /// Posts the receive of a number.
 #[tactic(auto, using(rdm_match::proofs::Unposted::free_after_post))]
 fn post(bins: &mut Bins, number: u64) -> Result<(), NoMemory>
-    requires { is_posted bins.old number ≡ false }
-    ensures { (k : ℕ) → number < k → is_posted bins.old k ≡ false → is_posted bins.new k ≡ false }
+    requires { is_posted bins.old.waiting number ≡ false }
+    ensures { (k : ℕ) → number < k → is_posted bins.old.waiting k ≡ false → is_posted bins.new.waiting k ≡ false }
 {
     let r = PostedRecv {
         id: RecvNo(number),
@@ -86,7 +86,7 @@ fn post(bins: &mut Bins, number: u64) -> Result<(), NoMemory>
 /// Lets the message of a number arrive, and gives 1 if it met a receive.
 #[tactic(auto, using(rdm_match::proofs::Unposted::free_after_arrive))]
 fn arrive(bins: &mut Bins, number: u64) -> Result<u64, NoMemory>
-    ensures { (k : ℕ) → is_posted bins.old k ≡ false → is_posted bins.new k ≡ false }
+    ensures { (k : ℕ) → is_posted bins.old.waiting k ≡ false → is_posted bins.new.waiting k ≡ false }
 {
     let a = Arrived {
         life: Life {

@@ -4,4 +4,4 @@ use Rattle.rdm_measure.proofs.meetings.Given as goal
 
 -- no receive is posted of the number that comes now, nor of a later one
 abbrev pub invariant-loop-number : goal.invariant-loop-number
-invariant-loop-number l = (k : ℕ) → l.number ≤ k → is_posted l.bins k ≡ false
+invariant-loop-number l = (k : ℕ) → l.number ≤ k → is_posted l.bins.waiting k ≡ false

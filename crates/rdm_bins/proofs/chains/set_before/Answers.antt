@@ -3,18 +3,18 @@ use Rattle.rdm_bins.specs.Chains.{with_before}
 use Rattle.rdm_bins.proofs.Links.{set_is_before, past_before}
 use Rattle.rdm_bins.proofs.chains.set_before.Goals as goal
 
-pub returns-in-Some-get_mut : goal.returns-in-Some-get_mut
+pub returns-in-Some-get_mut-clause-links : goal.returns-in-Some-get_mut-clause-links
 unfolding with_before
-returns-in-Some-get_mut c =
+returns-in-Some-get_mut-clause-links c =
     set_is_before c.args.links.now.items c.in-Some.place c.in-Some-get_mut.link.now c.args.before c.in-Some-get_mut.ensures.value
     ∙ ap (λ p. with_before c.args.links.now.items p c.args.before) (sym c.in-Some.is)
 
-pub returns-in_default-get_mut : goal.returns-in_default-get_mut
+pub returns-in_default-get_mut-clause-links : goal.returns-in_default-get_mut-clause-links
 unfolding with_before
-returns-in_default-get_mut c =
+returns-in_default-get_mut-clause-links c =
     past_before c.args.links.now.items c.in-Some.place c.args.before c.in_default-get_mut.ensures.item.3
     ∙ ap (λ p. with_before c.args.links.now.items p c.args.before) (sym c.in-Some.is)
 
-pub returns-in_default : goal.returns-in_default
+pub returns-in_default-clause-links : goal.returns-in_default-clause-links
 unfolding with_before
-returns-in_default c = ap (λ p. with_before c.args.links.now.items p c.args.before) (sym c.in_default.is)
+returns-in_default-clause-links c = ap (λ p. with_before c.args.links.now.items p c.args.before) (sym c.in_default.is)

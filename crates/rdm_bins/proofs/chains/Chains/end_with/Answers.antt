@@ -7,7 +7,7 @@ use Rattle.rdm_bins.proofs.chains.Chains.end_with.Goals as goal
 
 pub returns-in-Some-clause-ends : goal.returns-in-Some-clause-ends
 returns-in-Some-clause-ends c = λ b.
-    c.set_ends.ensures.ends b
+    c.change_ends.ensures.ends b
     ∙ ap (cond (option_eq nat_eq c.args.bin b) _) (c.set_ends-old.ensures.ends b)
     ∙ written_twice (option_eq nat_eq c.args.bin b) _ _ _
     ∙ ap (λ w. cond (option_eq nat_eq c.args.bin b) w (ends_at c.args.self.now b)) (next_came _ c.in-Some.ends c.args.place (sym c.set_ends-old.ensures.answer ∙ c.in-Some.is))

@@ -7,7 +7,7 @@ use Rattle.rdm_bins.proofs.chains.Chains.set_first.Goals as goal
 
 pub returns-in-Some-clause-ends : goal.returns-in-Some-clause-ends
 returns-in-Some-clause-ends c = λ b.
-    c.set_ends.ensures.ends b
+    c.change_ends.ensures.ends b
     ∙ ap (λ w. cond (option_eq nat_eq c.args.bin b) w (ends_at c.args.self.now b)) (first_gone _ c.in-Some.ends c.args.first (sym c.ends.ensures ∙ c.in-Some.is))
 
 pub returns-in_default-clause-ends : goal.returns-in_default-clause-ends

@@ -1,7 +1,7 @@
 use Rattle.std.proofs.Common.{sym, ap, ◌∙◌, rules, length, ◌<◌}
 use Rattle.std.proofs.Math.ListN.{set}
 use Rattle.rdm_bins.proofs.Items.{without_past, set_without, item_read}
-use Rattle.rdm_bins.proofs.shelf.take_item.Goals as goal
+use Rattle.rdm_bins.proofs.walks.take_item.Goals as goal
 
 pub returns-in-None-clause-after : goal.returns-in-None-clause-after
 returns-in-None-clause-after g c = without_past c.args.items.now.items c.args.place c.in-None.ensures.item.3

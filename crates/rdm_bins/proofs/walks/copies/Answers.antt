@@ -2,8 +2,8 @@ use Rattle.std.proofs.Common.{◌≡◌, ◌+◌, ◌<◌, ◌≤◌, sym, ap, s
 use Rattle.rdm_bins.specs.Shelf.{item_at}
 use Rattle.rdm_bins.proofs.Items.{item_read}
 use Rattle.rdm_bins.proofs.Gathered.{IsKept, one_kept, one_dropped, none_kept, all_kept}
-use Rattle.rdm_bins.proofs.shelf.copies.Goals.{in-Some+then-passes+in_ok-push, in-Some+else-passes, in_default}
-use Rattle.rdm_bins.proofs.shelf.copies.Goals as goal
+use Rattle.rdm_bins.proofs.walks.copies.Goals.{in-Some+then-passes+in_ok-push, in-Some+else-passes, in_default}
+use Rattle.rdm_bins.proofs.walks.copies.Goals as goal
 
 pub loop-place-preserved : goal.loop-place-preserved
 loop-place-preserved g c =

@@ -1,10 +1,10 @@
 use Rattle.std.proofs.Common.{◌≡◌, ◌<◌, ◌≤◌, sym, ap, ◌∙◌, length, rules, arith, Some}
-use Rattle.rdm_bins.specs.Shelf.{item_at}
+use Rattle.rdm_bins.specs.Shelf.{item_at, passes}
 use Rattle.rdm_bins.proofs.Places.{by_order}
-use Rattle.rdm_bins.proofs.Items.{passes, item_read, item_past, one_found, none_found}
+use Rattle.rdm_bins.proofs.Items.{item_read, item_past, one_found, none_found}
 use Rattle.rdm_bins.proofs.Along.{up_to_here}
-use Rattle.rdm_bins.proofs.shelf.first_item.Goals.{in-Some+else-passes, in_default}
-use Rattle.rdm_bins.proofs.shelf.first_item.Goals as goal
+use Rattle.rdm_bins.proofs.walks.first_item.Goals.{in-Some+else-passes, in_default}
+use Rattle.rdm_bins.proofs.walks.first_item.Goals as goal
 
 pub returns-then-passes : goal.returns-then-passes
 returns-then-passes g c =

@@ -1,9 +1,8 @@
 use Rattle.std.proofs.Common.{◌≡◌, ℕ, false, length}
 use Rattle.std.specs.Prelude.{◌&&◌, Some}
-use Rattle.rdm_bins.specs.Shelf.{item_at, is_in, is_in_at}
-use Rattle.rdm_bins.proofs.Items.{passes}
+use Rattle.rdm_bins.specs.Shelf.{item_at, is_in, is_in_at, passes}
 use Rattle.rdm_bins.proofs.Along.{IsThere, IsBefore, ahead}
-use Rattle.rdm_bins.proofs.shelf.first_chained.Given as goal
+use Rattle.rdm_bins.proofs.walks.first_chained.Given as goal
 
 -- the next place is one of the chain, and no place before it holds an item of the bin that passes
 abbrev pub invariant-loop-next : goal.invariant-loop-next

@@ -1,7 +1,6 @@
 use Rattle.std.proofs.Common.{◌≡◌, ℕ, ◌<◌, false}
-use Rattle.rdm_bins.specs.Shelf.{item_at}
-use Rattle.rdm_bins.proofs.Items.{passes}
-use Rattle.rdm_bins.proofs.shelf.first_item.Given as goal
+use Rattle.rdm_bins.specs.Shelf.{item_at, passes}
+use Rattle.rdm_bins.proofs.walks.first_item.Given as goal
 
 -- no place so far holds an item that passes
 abbrev pub invariant-loop-place : goal.invariant-loop-place

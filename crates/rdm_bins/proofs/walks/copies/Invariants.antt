@@ -1,5 +1,5 @@
 use Rattle.rdm_bins.proofs.Gathered.{IsKept}
-use Rattle.rdm_bins.proofs.shelf.copies.Given as goal
+use Rattle.rdm_bins.proofs.walks.copies.Given as goal
 
 -- the copies are those of the items so far that pass
 abbrev pub invariant-loop-place : goal.invariant-loop-place
