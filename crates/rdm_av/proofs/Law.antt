@@ -11,10 +11,9 @@ use Rattle.rdm_num.specs.declared.numbers.Connid.{Connid}
 use Rattle.rdm_num.specs.declared.numbers.Life.{Life}
 use Rattle.rdm_av.specs.declared.Inserted.{Inserted}
 use Rattle.rdm_av.specs.declared.Inserted.TheVariants.{Inserted as New, Same, Supersedes}
-use Rattle.rdm_av.specs.declared.InsertRefused.{InsertRefused}
 use Rattle.rdm_av.specs.declared.InsertRefused.TheVariants.{Superseded}
-use Rattle.rdm_av.specs.Lives.{Lives, life_order, current_life, is_superseded, with_current, with_superseded, insert_answer, after_insert}
-use Rattle.rdm_av.specs.Runs.{Call, Insert, Implicit, after_calls, AreCalls, is_current, was_current, SupersededOnceCurrent}
+use Rattle.rdm_av.specs.Lives.{Lives, life_order, current_life, is_superseded, with_current, with_superseded, answer_or, reserved_answer, after_insert}
+use Rattle.rdm_av.specs.Runs.{Call, Insert, Implicit, Reserve, InsertReserved, ImplicitReserved, after_calls, AreCalls, is_current, was_current, SupersededOnceCurrent}
 use Rattle.rdm_av.proofs.HeldLives.{life_order_total, life_order-IsAntisymmetric, not_both}
 use Rattle.rdm_av.proofs.Answered.{answers_refused, answers_new, answers_same, answers_supersedes}
 
@@ -178,25 +177,30 @@ abbrev StandsNow : (Life → Bool) → Lives → Type 0
 StandsNow was s = Standing s (λ l. was l || is_life (current_life s l.port) l)
 
 -- an insert by its answer
-answered : (s : Lives) (was : Life → Bool) (k : Life) (answer : Result Inserted InsertRefused) → insert_answer s k ≡ answer → StandsNow was (after_insert s k answer) → StandsNow was (after_insert s k (insert_answer s k))
-answered s was k answer is st = subst (λ a. StandsNow was (after_insert s k a)) (sym is) st
+answered : {E : Type 0} (s : Lives) (was : Life → Bool) (k : Life) (given answer : Result Inserted E) → given ≡ answer → StandsNow was (after_insert s k answer) → StandsNow was (after_insert s k given)
+answered s was k given answer is st = subst (λ a. StandsNow was (after_insert s k a)) (sym is) st
 
 -- by whether a life is there
 by_life : {P : Type 0} (o : Option Life) → (o ≡ None → P) → ((old : Life) → o ≡ Some old → P) → P
 by_life None none some = none refl
 by_life (Some old) none some = some old refl
 
--- an insert
-stands_insert : (s : Lives) (was : Life → Bool) (k : Life) → Standing s was → StandsNow was (after_insert s k (insert_answer s k))
+-- an insert, with that error for a superseded life
+stands_insert : {E : Type 0} (why : E) (s : Lives) (was : Life → Bool) (k : Life) → Standing s was → StandsNow was (after_insert s k (answer_or why s k))
 unfolding after_insert
-stands_insert s was k st =
+stands_insert why s was k st =
     by_test (is_superseded s k)
-    (λ h. answered s was k (Err Superseded) (answers_refused s k h) (stands_after s was st.superseded st.none))
+    (λ h. answered s was k _ (Err why) (answers_refused why s k h) (stands_after s was st.superseded st.none))
     (λ h. by_life (current_life s k.port)
-    (λ none. answered s was k (Ok New) (answers_new s k h none) (stands_first s was k st none))
+    (λ none. answered s was k _ (Ok New) (answers_new why s k h none) (stands_first s was k st none))
     (λ old is. by_test (same_life old k)
-    (λ e. answered s was k (Ok Same) (answers_same s k old h is e) (stands_after s was st.superseded st.none))
-    (λ e. answered s was k (Ok (Supersedes old)) (answers_supersedes s k old h is e) (stands_next s was k old st h is e))))
+    (λ e. answered s was k _ (Ok Same) (answers_same why s k old h is e) (stands_after s was st.superseded st.none))
+    (λ e. answered s was k _ (Ok (Supersedes old)) (answers_supersedes why s k old h is e) (stands_next s was k old st h is e))))
+
+-- the room is no part of what holds
+room_apart : (s r : Lives) (was : Life → Bool) → r.current ≡ s.current → r.superseded ≡ s.superseded → StandsNow was s → StandsNow was r
+room_apart s r was current superseded st =
+    subst (StandsNow was) (λ i. record { current = sym current i; superseded = sym superseded i; room = r.room }) (record { superseded = st.superseded; none = st.none; held = st.held })
 
 -- all calls
 stands : (calls : List Call) → AreCalls calls → Standing (after_calls calls) (was_current calls)
@@ -207,8 +211,15 @@ stands [] t =
       none = λ l p. refl;
       held = λ l p. sym (ap (λ o. is_life (option_map (life l.port) o) l) (map.get-empty nat_cmp l.port.0)) ∙ p;
     }
-stands (Insert k ∷ before) t = stands_insert (after_calls before) (was_current before) k (stands before t)
+stands (Insert k ∷ before) t = stands_insert Superseded (after_calls before) (was_current before) k (stands before t)
 stands (Implicit k ∷ before) t = stands_first (after_calls before) (was_current before) k (stands before t.0) t.1
+stands (Reserve ∷ before) t =
+    let st = stands before t in
+    room_apart (after_calls before) _ (was_current before) refl refl (stands_after (after_calls before) (was_current before) st.superseded st.none)
+stands (InsertReserved k ∷ before) t =
+    room_apart (after_insert (after_calls before) k (reserved_answer (after_calls before) k)) _ (was_current before) refl refl (stands_insert (record {}) (after_calls before) (was_current before) k (stands before t))
+stands (ImplicitReserved k ∷ before) t =
+    room_apart (with_current (after_calls before) k) _ (was_current before) refl refl (stands_first (after_calls before) (was_current before) k (stands before t.0) t.1)
 
 -- a life is superseded exactly where it was current once and is not now
 pub superseded_once_current : SupersededOnceCurrent

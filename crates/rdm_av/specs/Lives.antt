@@ -1,10 +1,12 @@
 -- The current life of each port, and the lives that were superseded.
-use Rattle.std.specs.Prelude.{ℕ, Bool, if◌then◌else◌, Option, Some, None, option_map, Result, Ok, Err, refl}
+use Rattle.std.specs.Prelude.{ℕ, ◌+◌, ◌-◌, Bool, if◌then◌else◌, Option, Some, None, option_map, Result, Ok, Err, refl}
 use Rattle.std.specs.Ordering.{nat_cmp, ordering_then}
 use Rattle.std.specs.declared.cmp.Ordering.{Ordering}
 use Rattle.std.specs.Coded.{Coded, code_by, coded×, coded_ℕ}
 use Rattle.std.specs.FinMap as map
 use Rattle.std.specs.FinSet as set
+use Rattle.std.specs.HashMap.{HashMap}
+use Rattle.std.specs.HashSet.{HashSet}
 use Rattle.rdm_num.specs.Lives.{same_life, life}
 use Rattle.rdm_num.specs.declared.numbers.PortNo.{PortNo}
 use Rattle.rdm_num.specs.declared.numbers.Connid.{Connid}
@@ -13,6 +15,7 @@ use Rattle.rdm_av.specs.declared.Inserted.{Inserted}
 use Rattle.rdm_av.specs.declared.Inserted.TheVariants.{Inserted as New, Same, Supersedes}
 use Rattle.rdm_av.specs.declared.InsertRefused.{InsertRefused}
 use Rattle.rdm_av.specs.declared.InsertRefused.TheVariants.{Superseded}
+use Rattle.rdm_av.specs.declared.WasSuperseded.{WasSuperseded}
 use Rattle.rdm_av.specs.declared.Origin.{Origin}
 use Rattle.rdm_av.specs.declared.Origin.TheVariants.{Current, FirstSeen, FromOther, Unknown}
 
@@ -20,24 +23,44 @@ use Rattle.rdm_av.specs.declared.Origin.TheVariants.{Current, FirstSeen, FromOth
 abbrev pub life_order : ℕ × ℕ → ℕ × ℕ → Ordering
 life_order a b = ordering_then (nat_cmp a.0 b.0) (nat_cmp a.1 b.1)
 
--- the identifier of the current life of each port that has one, and the port and identifier of each superseded life
+-- the identifier of the current life of each port that has one, the port and identifier of each superseded life, and
+-- how many more lives may become current without memory
 pub record Lives : Type 0 where
   pub current : map.FinMap nat_cmp Connid
   pub superseded : set.FinSet life_order
+  pub room : ℕ
 
--- lives are stored as the pair of the map and the set
+-- lives are stored as the map, the set and the room
 abbrev pub lives_code : Coded Lives
 lives_code =
     code_by
-    (map.FinMap nat_cmp Connid × set.FinSet life_order)
-    (coded× (map.code coded_ℕ (code_by ℕ coded_ℕ (λ c. c.0) (λ n. record { 0 = n }) (λ _. refl))) (set.code (coded× coded_ℕ coded_ℕ)))
-    (λ l. (l.current, l.superseded))
-    (λ p. record { current = p.0; superseded = p.1 })
+    (map.FinMap nat_cmp Connid × (set.FinSet life_order × ℕ))
+    (coded×
+    (map.code coded_ℕ (code_by ℕ coded_ℕ (λ c. c.0) (λ n. record { 0 = n }) (λ _. refl)))
+    (coded× (set.code (coded× coded_ℕ coded_ℕ)) coded_ℕ))
+    (λ l. (l.current, (l.superseded, l.room)))
+    (λ p. record { current = p.0; superseded = p.1.0; room = p.1.1 })
     (λ _. refl)
+
+-- the current lives that a hash map keeps
+abbrev pub kept_current : {S : Type 0} → HashMap ℕ Connid S → map.FinMap nat_cmp Connid
+kept_current m = map.from_entries m.entries
+
+-- the superseded lives that a hash set keeps
+abbrev pub kept_superseded : {S : Type 0} → HashSet (ℕ × ℕ) S → set.FinSet life_order
+kept_superseded s = set.from_list s.keys
 
 -- before any life came
 abbrev pub no_lives : Lives
-no_lives = record { current = map.empty; superseded = set.empty }
+no_lives = record { current = map.empty; superseded = set.empty; room = 0 }
+
+-- one more life may become current without memory
+abbrev pub with_room : Lives → Lives
+with_room lives = record lives { room = lives.room + 1 }
+
+-- a reservation is spent
+abbrev pub with_spent : Lives → Lives
+with_spent lives = record lives { room = lives.room - 1 }
 
 -- the current life of a port
 abbrev pub current_life : Lives → PortNo → Option Life
@@ -60,12 +83,20 @@ unfoldable pub inserted_beside : Option Life → Life → Inserted
 inserted_beside None l = New
 inserted_beside (Some old) l = if same_life old l then Same else Supersedes old
 
+-- what an insert answers, with that error for a superseded life
+abbrev pub answer_or : {E : Type 0} → E → Lives → Life → Result Inserted E
+answer_or why lives l = if is_superseded lives l then Err why else Ok (inserted_beside (current_life lives l.port) l)
+
 -- what an insert answers
 abbrev pub insert_answer : Lives → Life → Result Inserted InsertRefused
-insert_answer lives l = if is_superseded lives l then Err Superseded else Ok (inserted_beside (current_life lives l.port) l)
+insert_answer = answer_or Superseded
 
--- the lives after an insert with that answer
-unfoldable pub after_insert : Lives → Life → Result Inserted InsertRefused → Lives
+-- what an insert with a reservation answers
+abbrev pub reserved_answer : Lives → Life → Result Inserted WasSuperseded
+reserved_answer = answer_or (record {})
+
+-- the lives after an insert with that answer, but for a reservation
+unfoldable pub after_insert : {E : Type 0} → Lives → Life → Result Inserted E → Lives
 after_insert lives l (Ok New) = with_current lives l
 after_insert lives l (Ok Same) = lives
 after_insert lives l (Ok (Supersedes old)) = with_current (with_superseded lives old) l

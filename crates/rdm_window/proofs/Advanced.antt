@@ -8,13 +8,14 @@ use Rattle.rdm_window.specs.Marks.{Marks, IsAdvanced, passed}
 
 -- nothing was passed
 pub advanced_none : (m : Marks) → IsAdvanced m m
-advanced_none m = record { from = omega arith; passed = λ k from to. absurd (omega arith); left = λ k from. refl }
+advanced_none m = record { from = omega arith; room = refl; passed = λ k from to. absurd (omega arith); left = λ k from. refl }
 
 -- one more number was passed
 pub advanced_more : (old m : Marks) → IsAdvanced old m → set.contains m.marked m.next ≡ true → IsAdvanced old (passed m)
 advanced_more old m so_far first =
     record {
       from = omega arith;
+      room = so_far.room;
       passed = λ k from to. elim (cases_lt k m.next) [
         | inl below ↦ so_far.passed k from below
         | inr above ↦ let here : k ≡ m.next = omega arith in sym (so_far.left k above) ∙ ap (set.contains m.marked) here ∙ first

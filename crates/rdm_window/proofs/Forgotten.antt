@@ -16,7 +16,7 @@ use Rattle.std.proofs.lemmas.Bool.Decides.{nat_tests}
 use Rattle.std.proofs.lemmas.Map.Lookups.{exact_pairs, exact_unsigned}
 use Rattle.rdm_num.specs.declared.numbers.Life.{Life}
 use Rattle.rdm_num.specs.declared.numbers.MsgNo.{MsgNo}
-use Rattle.rdm_window.specs.declared.early.EarlyMessage.{EarlyMessage}
+use Rattle.rdm_window.specs.Message.{Message}
 use Rattle.rdm_window.specs.Early.{Key, Held, message_order, key_of, message_at, is_of_life, without_message, without_life}
 use Rattle.rdm_window.proofs.Messages.{message_order_total, message_order-IsAntisymmetric, held_in, Entries, held_of, get_of_entries}
 
@@ -81,25 +81,25 @@ not_some None h = refl
 not_some (Some x) h = absurd (h refl)
 
 -- the messages from the first number of a life on
-abbrev pub FromFirst : Life → BTreeMap Key EarlyMessage → Entries → Type 0
+abbrev pub FromFirst : Life → BTreeMap Key Message → Entries → Type 0
 FromFirst life m r = IsRangeOf message_order (Included (key_of life (record { 0 = 0 }))) Unbounded m r
 
 -- where there is no message from its first number on, the life has none
-pub none_from_first : (size : ℕ) (m : BTreeMap Key EarlyMessage) (held : Held) → held_of size m.entries ≡ held → (life : Life) (r : Entries) → FromFirst life m r → r ≡ [] → without_life held life ≡ held
+pub none_from_first : (size : ℕ) (m : BTreeMap Key Message) (held : Held) → held_of size m.entries ≡ held → (life : Life) (r : Entries) → FromFirst life m r → r ≡ [] → without_life held life ≡ held
 none_from_first size m held is life r range empty =
     nothing_forgotten held life (λ q h. get_of_entries size m.entries held is q ∙ range.5 empty q (from_first life q h, tt))
 
 -- the first entry from the first number of a life on
-first_entry : (life : Life) (m : BTreeMap Key EarlyMessage) (r rest : Entries) (e : Key × EarlyMessage) → FromFirst life m r → r ≡ e ∷ rest → IsEntryInRange message_order (Included (key_of life (record { 0 = 0 }))) Unbounded m e
+first_entry : (life : Life) (m : BTreeMap Key Message) (r rest : Entries) (e : Key × Message) → FromFirst life m r → r ≡ e ∷ rest → IsEntryInRange message_order (Included (key_of life (record { 0 = 0 }))) Unbounded m e
 first_entry life m r rest e range is = (subst (FromFirst life m) is range).1
 
 -- the first message from its first number on is the life's
-pub first_is_held : (size : ℕ) (m : BTreeMap Key EarlyMessage) (held : Held) → held_of size m.entries ≡ held → (life : Life) (r rest : Entries) (e : Key × EarlyMessage) → FromFirst life m r → r ≡ e ∷ rest → e.0.0.0 ≡ life.port.0 → e.0.0.1 ≡ life.connid.0 → IsSome (message_at held life (record { 0 = e.0.1 }))
+pub first_is_held : (size : ℕ) (m : BTreeMap Key Message) (held : Held) → held_of size m.entries ≡ held → (life : Life) (r rest : Entries) (e : Key × Message) → FromFirst life m r → r ≡ e ∷ rest → e.0.0.0 ≡ life.port.0 → e.0.0.1 ≡ life.connid.0 → IsSome (message_at held life (record { 0 = e.0.1 }))
 first_is_held size m held is life r rest e range starts port connid =
     ap is_some (ap (map.get held.messages) (λ i. ((sym port i, sym connid i), e.0.1)) ∙ get_of_entries size m.entries held is e.0 ∙ (first_entry life m r rest e range starts).1)
 
 -- where that message is not the life's, the life has none
-pub none_beside_first : (size : ℕ) (m : BTreeMap Key EarlyMessage) (held : Held) → held_of size m.entries ≡ held → (life : Life) (r rest : Entries) (e : Key × EarlyMessage) → FromFirst life m r → r ≡ e ∷ rest → (e.0.0 ≡ life_key life → ⊥) → without_life held life ≡ held
+pub none_beside_first : (size : ℕ) (m : BTreeMap Key Message) (held : Held) → held_of size m.entries ≡ held → (life : Life) (r rest : Entries) (e : Key × Message) → FromFirst life m r → r ≡ e ∷ rest → (e.0.0 ≡ life_key life → ⊥) → without_life held life ≡ held
 none_beside_first size m held is life r rest e range starts other =
     nothing_forgotten held life (λ q h.
     get_of_entries size m.entries held is q
@@ -140,4 +140,4 @@ pub fewer_held : (held : Held) (life : Life) (number : MsgNo) → IsSome (messag
 fewer_held held life number there =
     let k = key_of life number in
     rw (map.len-remove message_order_total held.messages k) (one_less (is_some (map.get held.messages k)) (map.len held.messages) there (λ e.
-    ap (λ (m : map.FinMap message_order EarlyMessage). is_some (map.get m k)) (map.empty_of_len held.messages e) ∙ ap is_some (map.get-empty message_order k)))
+    ap (λ (m : map.FinMap message_order Message). is_some (map.get m k)) (map.empty_of_len held.messages e) ∙ ap is_some (map.get-empty message_order k)))

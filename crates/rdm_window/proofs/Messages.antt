@@ -10,8 +10,8 @@ use Rattle.std.specs.FinMap as map
 use Rattle.std.proofs.lemmas.Map.Lookups.{exact_pairs, exact_unsigned}
 use Rattle.rdm_num.specs.declared.numbers.Life.{Life}
 use Rattle.rdm_num.specs.declared.numbers.MsgNo.{MsgNo}
-use Rattle.rdm_window.specs.declared.early.EarlyMessage.{EarlyMessage}
-use Rattle.rdm_window.specs.Early.{Key, Held, message_order, key_of, message_at, with_message, without_message, pieced, put_back, with_piece}
+use Rattle.rdm_window.specs.Message.{Message}
+use Rattle.rdm_window.specs.Early.{Key, Held, message_order, key_of, message_at, with_message, without_message, put_back, changed}
 use Rattle.rdm_window.proofs.Maps.{Changes, get_is_lookup, len_is_length, map_after, map_without}
 
 -- keys are ordered in full
@@ -24,12 +24,12 @@ message_order-IsAntisymmetric x y is =
     exact_pairs _ nat_cmp (exact_pairs nat_cmp nat_cmp exact_unsigned exact_unsigned) exact_unsigned x y is
 
 -- those messages, with that many places
-abbrev pub held_in : ℕ → map.FinMap message_order EarlyMessage → Held
+abbrev pub held_in : ℕ → map.FinMap message_order Message → Held
 held_in size messages = record { size = size; messages = messages }
 
 -- entries of a tree map of messages
 abbrev pub Entries : Type 0
-Entries = List (Key × EarlyMessage)
+Entries = List (Key × Message)
 
 -- the messages of those entries, with that many places
 abbrev pub held_of : ℕ → Entries → Held
@@ -45,7 +45,7 @@ pub not_there : {A : Type 0} (o : Option A) → IsSome o → o ≡ None → ⊥
 not_there o there none = let e : false ≡ true = sym (ap is_some none) ∙ there in cc
 
 -- a message that is put in its own place
-same_message : (held : Held) (life : Life) (number : MsgNo) (m : EarlyMessage) → Some m ≡ message_at held life number → with_message held life number m ≡ held
+same_message : (held : Held) (life : Life) (number : MsgNo) (m : Message) → Some m ≡ message_at held life number → with_message held life number m ≡ held
 same_message held life number m is =
     ap (held_in held.size) (map.same_map message_order_total message_order-IsAntisymmetric _ _ (λ q.
     map.get-insert message_order_total held.messages (key_of life number) m q
@@ -54,10 +54,10 @@ same_message held life number m is =
       | false ↦ λ e. refl
     ] refl))
 
--- one more piece of a message that is held
-piece_put : (held : Held) (life : Life) (number : MsgNo) (m : EarlyMessage) (offset : ℕ) (bytes : List ℕ) → Some m ≡ message_at held life number → with_message held life number (pieced m offset bytes) ≡ with_piece held life number offset bytes
+-- a message that is held is changed
+change_put : (held : Held) (life : Life) (number : MsgNo) (m : Message) (change : Message → Message) → Some m ≡ message_at held life number → with_message held life number (change m) ≡ changed held life number change
 unfolding put_back
-piece_put held life number m offset bytes is = ap (λ o. put_back held life number (option_map (λ m. pieced m offset bytes) o)) is
+change_put held life number m change is = ap (λ o. put_back held life number (option_map change o)) is
 
 -- what is held beside the entries that hold it
 module _ (size : ℕ) (es : Entries) (held : Held) (is : held_of size es ≡ held) where
@@ -79,7 +79,7 @@ module _ (size : ℕ) (es : Entries) (held : Held) (is : held_of size es ≡ hel
 
   module _ (fs : Entries) (life : Life) (number : MsgNo) where
     -- the messages after one took the place of its key
-    pub held_with : (m : EarlyMessage) → Changes message_order es fs (key_of life number) (Some m) → held_of size fs ≡ with_message held life number m
+    pub held_with : (m : Message) → Changes message_order es fs (key_of life number) (Some m) → held_of size fs ≡ with_message held life number m
     held_with m at =
         ap (held_in size) (map_after message_order_total message_order-IsAntisymmetric es fs (key_of life number) m at)
         ∙ ap (λ h. with_message h life number m) is
@@ -90,11 +90,11 @@ module _ (size : ℕ) (es : Entries) (held : Held) (is : held_of size es ≡ hel
         ap (held_in size) (map_without message_order_total message_order-IsAntisymmetric es fs (key_of life number) at)
         ∙ ap (λ h. without_message h life number) is
 
-    module _ (m w : EarlyMessage) (was : Some m ≡ message_at held life number) (writes : Changes message_order es fs (key_of life number) (Some w)) where
-      -- the messages after a piece was put after the others of one
-      pub held_pieced : (offset : ℕ) (bytes : List ℕ) → w ≡ pieced m offset bytes → held_of size fs ≡ with_piece held life number offset bytes
-      held_pieced offset bytes new =
-          held_with w writes ∙ ap (with_message held life number) new ∙ piece_put held life number m offset bytes was
+    module _ (m w : Message) (was : Some m ≡ message_at held life number) (writes : Changes message_order es fs (key_of life number) (Some w)) where
+      -- the messages after one was changed
+      pub held_changed : (change : Message → Message) → w ≡ change m → held_of size fs ≡ changed held life number change
+      held_changed change new =
+          held_with w writes ∙ ap (with_message held life number) new ∙ change_put held life number m change was
 
       -- the messages after one was written as it was
       pub held_rewritten : w ≡ m → held_of size fs ≡ held

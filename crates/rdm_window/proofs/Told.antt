@@ -1,20 +1,28 @@
 -- What a window tells beside the ring that keeps it.
-use Rattle.std.proofs.Common.{◌≡◌, refl, sym, ap, ◌∙◌, ℕ, ◌+◌, ◌^◌, ◌<◌, ◌≤◌, Bool, true, false, arith, inl, inr, true≢false}
-use Rattle.std.specs.Prelude.{◌&&◌, ◌||◌, nat_eq, nat_lt, nat_le, if◌then◌else◌}
+use Rattle.std.proofs.Common.{◌≡◌, refl, sym, ap, subst, ◌∙◌, ℕ, ◌+◌, ◌-◌, ◌^◌, ◌<◌, ◌≤◌, true, false, arith, inl, inr, true≢false}
+use Rattle.std.specs.Prelude.{Result, Ok, Err, OnOk, OnErr, ◌&&◌, ◌||◌, nat_eq, nat_lt, nat_le, if◌then◌else◌}
 use Rattle.std.specs.Cmp.{nat_cmp_total, unsigned_tied, first_so, second_so}
 use Rattle.std.specs.Ordering.{nat_cmp}
 use Rattle.std.specs.FinSet as set
 use Rattle.std.proofs.lemmas.Bool.{cases_lt, lt-ltb, le-ltb, le-leb, lt-leb, ltb-true, leb-true, ne_eqb}
 use Rattle.rdm_lists.proofs.Bools.{or_true}
 use Rattle.rdm_window.specs.declared.window.Heard.TheVariants.{New, Waiting, Entered}
-use Rattle.rdm_window.specs.Window.{Hearing, none_heard, state_of, after_hear, IsLeastMissing, NextIsTold}
-use Rattle.rdm_window.specs.Marks.{Marks, IsAdvanced, none_marked, with_mark}
+use Rattle.rdm_window.specs.Window.{Hearing, none_heard, state_of, after_hear, with_room, with_spent, IsLeastMissing, NextIsTold}
+use Rattle.rdm_window.specs.Marks.{Marks, IsAdvanced, none_marked, with_mark, with_room as marks_room, with_spent as marks_spent}
 use Rattle.rdm_window.specs.HeardFlags.{is_heard, heard_of, IsWindow}
 use Rattle.rdm_window.proofs.Sets.{contains-where, contains-below, where_none, where_insert, and_false}
 
 -- what a window heard
 abbrev pub hearing_of : ℕ → Marks → Hearing
-hearing_of first ring = record { first = first; heard = heard_of first ring; next = ring.next }
+hearing_of first ring = record { first = first; heard = heard_of first ring; next = ring.next; room = ring.room }
+
+-- a number is marked, with a reservation
+abbrev pub one_marked : Marks → ℕ → Marks
+one_marked ring n = marks_spent (with_mark ring n)
+
+-- a reservation that is made and spent
+pub spent_room : (a : Hearing) → with_spent (with_room a) ≡ a
+spent_room a = ap (λ room. record a { room = room }) (let e : a.room + 1 - 1 ≡ a.room = omega arith in e)
 
 module _ (first : ℕ) (ring : Marks) where
   -- a number before the first one was not heard
@@ -56,6 +64,21 @@ module _ (first : ℕ) (ring : Marks) where
   pub heard_later : (q : ℕ) → first ≤ q → ring.next ≤ q → q < 2 ^ 32 → set.contains (heard_of first ring) q ≡ set.contains ring.marked q
   heard_later q from past fits = contains-below (2 ^ 32) (is_heard first ring) q fits ∙ later q from past
 
+-- room that is made is no part of what was heard
+pub hearing_room : (first : ℕ) (ring : Marks) → hearing_of first (marks_room ring) ≡ with_room (hearing_of first ring)
+unfolding is_heard
+hearing_room first ring = refl
+
+-- room that is made is no part of what a number is
+pub state_room : (a : Hearing) (n : ℕ) → state_of (with_room a) n ≡ state_of a n
+unfolding state_of
+state_room a n = refl
+
+-- a window in which room was to be made is one
+pub window_reserved : {E : Type 0} (first : ℕ) (ring new : Marks) (r : Result (Unit {0}) E) → OnOk r (new ≡ marks_room ring) → OnErr r (new ≡ ring) → IsWindow first ring → IsWindow first new
+window_reserved first ring new (Ok done) ok err w = subst (IsWindow first) (sym ok) (record { from = w.from; fits = w.fits; missing = w.missing })
+window_reserved first ring new (Err why) ok err w = subst (IsWindow first) (sym err) w
+
 -- no number of a new window was heard
 not_yet : (first q : ℕ) → is_heard first (none_marked first) q ≡ false
 not_yet first q =
@@ -66,7 +89,7 @@ not_yet first q =
 
 -- a new window heard nothing
 pub new_hearing : (first : ℕ) → hearing_of first (none_marked first) ≡ none_heard first
-new_hearing first = ap (λ (s : set.FinSet nat_cmp). record { first = first; heard = s; next = first }) (where_none (2 ^ 32) _ (λ q h. not_yet first q))
+new_hearing first = ap (λ (s : set.FinSet nat_cmp). record { first = first; heard = s; next = first; room = 0 }) (where_none (2 ^ 32) _ (λ q h. not_yet first q))
 
 -- a new window is one
 pub new_window : (first : ℕ) → first < 2 ^ 32 → IsWindow first (none_marked first)
@@ -97,7 +120,7 @@ one_more_heard first ring n q from past =
     set.contains-insert nat_cmp_total ring.marked n q ∙ (λ i. unsigned_tied q n i || sym (later first ring q from past) i)
 
 -- what was heard after a number was marked and the ring advanced
-heard_after : (first : ℕ) (ring new : Marks) (n : ℕ) → IsWindow first ring → ring.next ≤ n → IsAdvanced (with_mark ring n) new → (q : ℕ) → is_heard first new q ≡ (nat_eq q n || is_heard first ring q)
+heard_after : (first : ℕ) (ring new : Marks) (n : ℕ) → IsWindow first ring → ring.next ≤ n → IsAdvanced (one_marked ring n) new → (q : ℕ) → is_heard first new q ≡ (nat_eq q n || is_heard first ring q)
 heard_after first ring new n w at advanced q =
     let from : first ≤ ring.next = w.from in
     let rises : ring.next ≤ new.next = advanced.from in
@@ -113,13 +136,13 @@ heard_after first ring new n w at advanced q =
     ]
 
 -- what was heard after a number was marked and the ring advanced
-pub hearing_after : (first : ℕ) (ring new : Marks) (a : Hearing) (n risen : ℕ) → hearing_of first ring ≡ a → IsWindow first ring → ring.next ≤ n → n < 2 ^ 32 → IsAdvanced (with_mark ring n) new → new.next ≡ ring.next + risen → hearing_of first new ≡ after_hear a n risen
+pub hearing_after : (first : ℕ) (ring new : Marks) (a : Hearing) (n risen : ℕ) → hearing_of first ring ≡ a → IsWindow first ring → ring.next ≤ n → n < 2 ^ 32 → IsAdvanced (one_marked ring n) new → new.next ≡ ring.next + risen → hearing_of first new ≡ with_spent (after_hear a n risen)
 hearing_after first ring new a n risen is w at fits advanced rises =
-    (λ i. record { first = first; heard = where_insert (2 ^ 32) (is_heard first ring) (is_heard first new) n fits (λ q h. heard_after first ring new n w at advanced q) i; next = rises i })
-    ∙ ap (λ b. after_hear b n risen) is
+    (λ i. record { first = first; heard = where_insert (2 ^ 32) (is_heard first ring) (is_heard first new) n fits (λ q h. heard_after first ring new n w at advanced q) i; next = rises i; room = advanced.room i })
+    ∙ ap (λ b. with_spent (after_hear b n risen)) is
 
 -- a window whose ring advanced is one
-pub window_after : (first : ℕ) (ring new : Marks) (n : ℕ) → IsWindow first ring → IsAdvanced (with_mark ring n) new → new.next ≤ 2 ^ 32 → set.contains new.marked new.next ≡ false → IsWindow first new
+pub window_after : (first : ℕ) (ring new : Marks) (n : ℕ) → IsWindow first ring → IsAdvanced (one_marked ring n) new → new.next ≤ 2 ^ 32 → set.contains new.marked new.next ≡ false → IsWindow first new
 window_after first ring new n w advanced fits stops =
     let from : first ≤ ring.next = w.from in
     let rises : ring.next ≤ new.next = advanced.from in
@@ -135,14 +158,13 @@ not_behind a b same_first same_heard p q h =
 -- what was heard tells the least missing number
 pub next_told : NextIsTold
 next_told a b same_first same_heard p q =
-    let same_next : a.next ≡ b.next = elim (cases_lt a.next b.next) [
+    elim (cases_lt a.next b.next) [
       | inl below ↦ absurd (not_behind a b same_first same_heard p q below)
       | inr from ↦ elim (cases_lt b.next a.next) [
         | inl above ↦ absurd (not_behind b a (sym same_first) (sym same_heard) q p above)
         | inr upto ↦ omega arith
       ]
-    ] in
-    λ i. record { first = same_first i; heard = same_heard i; next = same_next i }
+    ]
 
 -- the two ways of a number that did not enter
 module _ (first : ℕ) (ring : Marks) (a : Hearing) (is : hearing_of first ring ≡ a) (w : IsWindow first ring) (n : ℕ) (past : ring.next ≤ n) (fits : n < 2 ^ 32) where

@@ -9,7 +9,8 @@ use Rattle.rdm_num.specs.declared.lists.IovEntry.{IovEntry}
 use Rattle.rdm_num.specs.declared.head.Head.{Head}
 use Rattle.rdm_num.specs.declared.head.Shape.{Shape}
 use Rattle.rdm_num.specs.declared.head.Shape.TheVariants.{Eager, Medium, LongCts, LongRead, Runt}
-use Rattle.rdm_window.specs.declared.early.EarlyMessage.{EarlyMessage}
+use Rattle.rdm_gaps.specs.Places.{Missing, missing_code}
+use Rattle.rdm_window.specs.Message.{Message}
 use Rattle.rdm_window.specs.Early.{Held, message_order}
 
 -- the number of an operation as a number
@@ -74,21 +75,21 @@ head_code =
     (λ p. record { tag = p.0; confirm = p.1.0; cq_data = p.1.1.0; length = p.1.1.1.0; shape = p.1.1.1.1 })
     (λ _. refl)
 
--- a message as its head and its pieces
-abbrev pub message_code : Coded EarlyMessage
+-- a message as its head, its bytes and its gaps
+abbrev pub message_code : Coded Message
 message_code =
     code_by
-    (Head × List (ℕ × List ℕ))
-    (coded× head_code (coded_list (coded× coded_ℕ (coded_list coded_ℕ))))
-    (λ m. (m.head, m.parts))
-    (λ p. record { head = p.0; parts = p.1 })
+    (Head × (List ℕ × Missing))
+    (coded× head_code (coded× (coded_list coded_ℕ) missing_code))
+    (λ m. (m.head, (m.bytes, m.gaps)))
+    (λ p. record { head = p.0; bytes = p.1.0; gaps = p.1.1 })
     (λ _. refl)
 
 -- what is held as the pair of its fields
 abbrev pub held_code : Coded Held
 held_code =
     code_by
-    (ℕ × map.FinMap message_order EarlyMessage)
+    (ℕ × map.FinMap message_order Message)
     (coded× coded_ℕ (map.code (coded× (coded× coded_ℕ coded_ℕ) coded_ℕ) message_code))
     (λ h. (h.size, h.messages))
     (λ p. record { size = p.0; messages = p.1 })

@@ -1,12 +1,12 @@
 -- Messages that were heard and are not matched yet.
-use Rattle.std.specs.Prelude.{◌≡◌, ℕ, Bool, not, ◌&&◌, ◌==◌, ◌++◌, ◌∷◌, if◌then◌else◌, List, [], Option, Some, None, Result, Ok, Err, IsSome, option_map}
+use Rattle.std.specs.Prelude.{◌≡◌, ℕ, Bool, not, ◌&&◌, ◌==◌, if◌then◌else◌, Option, Some, None, Result, Ok, Err, IsSome, option_map}
 use Rattle.std.specs.Ordering.{nat_cmp, ordering_then}
 use Rattle.std.specs.declared.cmp.Ordering.{Ordering}
 use Rattle.std.specs.FinMap as map
 use Rattle.rdm_num.specs.declared.head.Head.{Head}
 use Rattle.rdm_num.specs.declared.numbers.Life.{Life}
 use Rattle.rdm_num.specs.declared.numbers.MsgNo.{MsgNo}
-use Rattle.rdm_window.specs.declared.early.EarlyMessage.{EarlyMessage}
+use Rattle.rdm_window.specs.Message.{Message, opened}
 use Rattle.rdm_window.specs.declared.early.EarlyRefused.{EarlyRefused}
 use Rattle.rdm_window.specs.declared.early.EarlyRefused.TheVariants.{Full}
 
@@ -21,7 +21,7 @@ message_order a b = ordering_then (ordering_then (nat_cmp a.0.0 b.0.0) (nat_cmp 
 -- how many messages have a place, and the messages that are held, each under its life and number
 pub record Held : Type 0 where
   pub size : ℕ
-  pub messages : map.FinMap message_order EarlyMessage
+  pub messages : map.FinMap message_order Message
 
 -- what a message is held under
 abbrev pub key_of : Life → MsgNo → Key
@@ -32,7 +32,7 @@ abbrev pub none_held : ℕ → Held
 none_held size = record { size = size; messages = map.empty }
 
 -- the message of a life with that number, where it is held
-abbrev pub message_at : Held → Life → MsgNo → Option EarlyMessage
+abbrev pub message_at : Held → Life → MsgNo → Option Message
 message_at held life number = map.get held.messages (key_of life number)
 
 -- as many messages are held as have a place
@@ -40,34 +40,26 @@ abbrev pub is_full : Held → Bool
 is_full held = map.len held.messages == held.size
 
 -- the message is held, in the place of what was held under its life and number
-abbrev pub with_message : Held → Life → MsgNo → EarlyMessage → Held
+abbrev pub with_message : Held → Life → MsgNo → Message → Held
 with_message held life number message = record held { messages = map.insert held.messages (key_of life number) message }
-
--- a message of which no piece came yet
-abbrev pub opened : Head → EarlyMessage
-opened head = record { head = head; parts = [] }
 
 -- a message is refused exactly where all places are taken
 abbrev pub hold_answer : Held → Result (Unit {0}) EarlyRefused
 hold_answer held = if is_full held then Err Full else Ok tt
 
 -- the message is held where it was not refused
-abbrev pub after_hold : Held → Life → MsgNo → Head → Result (Unit {0}) EarlyRefused → Held
-after_hold held life number head (Ok done) = with_message held life number (opened head)
-after_hold held life number head (Err why) = held
-
--- the message with one more piece, after the others
-abbrev pub pieced : EarlyMessage → ℕ → List ℕ → EarlyMessage
-pieced message offset bytes = record { head = message.head; parts = message.parts ++ (offset, bytes) ∷ [] }
+abbrev pub after_hold : Held → Life → MsgNo → Head → ℕ → Result (Unit {0}) EarlyRefused → Held
+after_hold held life number head len (Ok done) = with_message held life number (opened head len)
+after_hold held life number head len (Err why) = held
 
 -- the message is held in the place of the one that was held, where there was one
-unfoldable pub put_back : Held → Life → MsgNo → Option EarlyMessage → Held
+unfoldable pub put_back : Held → Life → MsgNo → Option Message → Held
 put_back held life number None = held
 put_back held life number (Some message) = with_message held life number message
 
--- the message that is held has one more piece
-abbrev pub with_piece : Held → Life → MsgNo → ℕ → List ℕ → Held
-with_piece held life number offset bytes = put_back held life number (option_map (λ m. pieced m offset bytes) (message_at held life number))
+-- the message that is held is changed so
+abbrev pub changed : Held → Life → MsgNo → (Message → Message) → Held
+changed held life number change = put_back held life number (option_map change (message_at held life number))
 
 -- the message is not held any more
 abbrev pub without_message : Held → Life → MsgNo → Held

@@ -3,5 +3,6 @@ pub mod Numbers
 pub mod Window
 pub mod Marks
 pub mod HeardFlags
+pub mod Message
 pub mod Early
 pub mod Codes

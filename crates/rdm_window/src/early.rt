@@ -1,21 +1,16 @@
 //! Messages that were heard and are not matched yet.
-ghost use Rattle.std.specs.Prelude.{◌≡◌, ◌⊎◌, ◌<◌, ◌≤◌, Ok, Err, None, Some, IfOk, IfSome, IfNone, OnOk, OnErr, IsSome};
-ghost use Rattle.std.specs.Option.{option_copied};
+ghost use Rattle.std.specs.Prelude.{◌≡◌, ◌⊎◌, ◌↔◌, ◌<◌, ◌≤◌, length, Ok, Err, None, Some, IfOk, IsTrue, OnOk, OnErr, IsSome};
+ghost use Rattle.std.specs.Option.{option_copied, IsSomeAnd};
 ghost use Rattle.std.specs.FinMap as map;
-ghost use Rattle.rdm_window.specs.Early.{none_held, message_at, with_message, opened, hold_answer, after_hold, with_piece, without_message, without_life, IsHeldOf};
+ghost use Rattle.rdm_window.specs.Message.{opened, Awaits, filled, room, with_room, with_spent};
+ghost use Rattle.rdm_window.specs.Early.{none_held, message_at, with_message, hold_answer, after_hold, changed, without_message, without_life, IsHeldOf};
 ghost use Rattle.rdm_window.specs.Early as held;
 
-use rdm_num::{Bytes, Head, Life, MsgNo, NoMemory, Segments};
+use crate::message::EarlyMessage;
+use rdm_num::{Head, Life, MsgNo, NoMemory};
 use std::alloc::Global;
 use std::collections::BTreeMap;
 use std::marker::Model;
-
-/// A message that is held: what its packets say of it, and the pieces that came, in their order.
-#[derive(Debug, Drop)]
-pub struct EarlyMessage {
-    pub head: Head,
-    pub parts: Segments,
-}
 
 /// Why a message is not held.
 #[derive(Clone, Copy, Debug, PartialEq, Eq)]
@@ -69,27 +64,63 @@ impl Early {
         self.messages.len() == self.size
     }
 
-    /// Holds a message, of which no piece came yet.
-    pub fn hold(&mut self, life: Life, no: MsgNo, head: Head) -> Result<(), EarlyRefused>
+    /// Holds a message of `len` bytes, of which none came yet.
+    pub fn hold(&mut self, life: Life, no: MsgNo, head: Head, len: u64) -> Result<(), EarlyRefused>
         requires { message_at self.old life no ≡ None }
         ensures answer { (result ≡ Err EarlyRefused.Memory) ⊎ (result ≡ hold_answer self.old) }
-        ensures after { self.new ≡ after_hold self.old life no head result }
+        ensures after { self.new ≡ after_hold self.old life no head len result }
     {
         if self.is_full() {
             return Err(EarlyRefused::Full);
         }
-        self.open(life, no, head)
+        self.open(life, no, head, len)
             .map_err(|_error| EarlyRefused::Memory)
     }
 
-    /// Puts a piece after the others of a message that is held.
-    pub fn add(&mut self, life: Life, no: MsgNo, offset: u64, bytes: Bytes) -> Result<(), NoMemory>
+    /// A message is held of which no byte of the range came.
+    pub fn missing(&self, life: Life, no: MsgNo, at: u64, len: u64) -> bool
+        ensures { IsTrue result ↔ IsSomeAnd (message_at self.now life no) (Awaits at len) }
+    {
+        match self.get(life, no) {
+            Some(message) => message.awaits(at, len),
+            None => false,
+        }
+    }
+
+    /// Makes room for one more piece of a message that is held to be added without memory.
+    pub fn reserve_add(&mut self, life: Life, no: MsgNo) -> Result<(), NoMemory>
         requires { IsSome (message_at self.old life no) }
-        ensures ok { OnOk result (self.new ≡ with_piece self.old life no offset bytes) }
+        ensures ok { OnOk result (self.new ≡ changed self.old life no with_room) }
+        ensures room { OnOk result (IsSomeAnd (message_at self.new life no) (λ m. 0 < room m)) }
         ensures err { OnErr result (self.new ≡ self.old) }
     {
         match self.messages.get_mut(&key(life, no)) {
-            Some(message) => message.parts.push(offset, bytes),
+            Some(message) => message.reserve_add(),
+            None => unreachable!(),
+        }
+    }
+
+    /// Adds a piece to a message that is held, of which no byte came. It wants no memory, and spends one
+    /// reservation of the message.
+    pub fn add_reserved(&mut self, life: Life, no: MsgNo, at: u64, bytes: &[u8])
+        requires awaits { IsSomeAnd (message_at self.old life no) (Awaits at (length bytes.now)) }
+        requires room { IsSomeAnd (message_at self.old life no) (λ m. 0 < room m) }
+        ensures { self.new ≡ changed self.old life no (λ m. with_spent (filled m at bytes.now)) }
+    {
+        match self.messages.get_mut(&key(life, no)) {
+            Some(message) => message.add_reserved(at, bytes),
+            None => unreachable!(),
+        }
+    }
+
+    /// Adds a piece to a message that is held, of which no byte came.
+    pub fn add(&mut self, life: Life, no: MsgNo, at: u64, bytes: &[u8]) -> Result<(), NoMemory>
+        requires { IsSomeAnd (message_at self.old life no) (Awaits at (length bytes.now)) }
+        ensures ok { OnOk result (self.new ≡ changed self.old life no (λ m. filled m at bytes.now)) }
+        ensures err { OnErr result (self.new ≡ self.old) }
+    {
+        match self.messages.get_mut(&key(life, no)) {
+            Some(message) => message.add(at, bytes),
             None => unreachable!(),
         }
     }
@@ -131,16 +162,13 @@ impl Early {
         }
     }
 
-    /// Gives a message a place.
-    fn open(&mut self, life: Life, no: MsgNo, head: Head) -> Result<(), NoMemory>
+    /// Gives a message of `len` bytes a place.
+    fn open(&mut self, life: Life, no: MsgNo, head: Head, len: u64) -> Result<(), NoMemory>
         requires { map.len self.old.messages < self.old.size }
-        ensures ok { OnOk result (self.new ≡ with_message self.old life no (opened head)) }
+        ensures ok { OnOk result (self.new ≡ with_message self.old life no (opened head len)) }
         ensures err { OnErr result (self.new ≡ self.old) }
     {
-        let message = EarlyMessage {
-            head,
-            parts: Segments::new(self.alloc),
-        };
+        let message = EarlyMessage::open(self.alloc, head, len)?;
         self.messages.insert(key(life, no), message)?;
         Ok(())
     }

@@ -2,10 +2,12 @@
 #![tactic(auto)]
 
 mod early;
+mod message;
 mod ring;
 #[cfg(test)]
 mod tests;
 mod window;
 
-pub use early::{Early, EarlyMessage, EarlyRefused};
+pub use early::{Early, EarlyRefused};
+pub use message::EarlyMessage;
 pub use window::{Heard, Window, next_is_told};

@@ -1,35 +1,40 @@
 //! Marked numbers from a moving first one on.
-ghost use Rattle.std.specs.Prelude.{◌≡◌, ◌<◌, ◌≤◌, ◌+◌, ◌%◌, ◌^◌, true, false, replicate, if◌then◌else◌, OnOk, OnErr};
+ghost use Rattle.std.specs.Prelude.{◌≡◌, ℕ, cond, nat_eq, ◌<◌, ◌≤◌, ◌+◌, ◌%◌, ◌^◌, true, false, replicate, if◌then◌else◌, OnOk, OnErr};
 ghost use Rattle.std.specs.FinSet as set;
-ghost use Rattle.rdm_window.specs.Marks.{none_marked, with_mark, passed, ring_size, IsAdvanced, TakesOut};
+ghost use Rattle.std.specs.HashSet.{spare};
+ghost use Rattle.rdm_window.specs.Marks.{none_marked, with_mark, with_room, with_spent, passed, has, ring_size, IsAdvanced, TakesOut};
 
 use rdm_num::NoMemory;
-use std::alloc::Global;
-use std::collections::BTreeSet;
+use std::alloc::{AllocError, Global};
+use std::collections::HashSet;
 use std::marker::Model;
 
 /// How many numbers the ring has a flag for.
 const SIZE: usize = 1024;
 
 /// Numbers of 32 bits that are marked. The numbers from `next` on have a flag each, at the place of
-/// the number modulo the ring's size; later numbers stand in an ordered set until the ring comes to them.
+/// the number modulo the ring's size; later numbers stand in a set until the ring comes to them. Each
+/// number that is marked may take one place there, so the set has at least `room` to spare.
 #[derive(Drop)]
 pub(crate) struct Ring {
     next: u64,
     flags: [bool; SIZE],
-    later: BTreeSet<u32>,
+    later: HashSet<u32>,
+    room: usize,
 }
 
 impl Model for Ring {
+    ghost use Rattle.std.specs.Prelude.{◌≤◌};
+    ghost use Rattle.std.specs.HashSet.{spare};
     ghost use Rattle.rdm_window.specs.Marks.{Marks, marks_code, marked_of, IsRing};
 
     ghost Value = { Marks };
 
     ghost coded = { marks_code };
 
-    ghost view = { λ r. record { next = r.next; marked = marked_of r.next r.flags r.later } };
+    ghost view = { λ r. record { next = r.next; marked = marked_of r.next r.flags r.later.keys; room = r.room } };
 
-    ghost invariant = { λ r. IsRing r.next r.flags r.later };
+    ghost invariant = { λ r. IsRing r.next r.flags r.later.keys × (r.room ≤ spare r.later) };
 }
 
 impl Ring {
@@ -40,7 +45,8 @@ impl Ring {
         Ring {
             next: u64::from(next),
             flags: no_flags(),
-            later: BTreeSet::new(alloc),
+            later: HashSet::new(alloc),
+            room: 0,
         }
     }
 
@@ -65,19 +71,30 @@ impl Ring {
         }
     }
 
-    /// Marks a number.
-    pub(crate) fn mark(&mut self, number: u32) -> Result<(), NoMemory>
-        requires { self.old.next ≤ number }
-        ensures ok { OnOk result (self.new ≡ with_mark self.old number) }
+    /// Makes room for one more number to be marked without memory.
+    pub(crate) fn reserve(&mut self) -> Result<(), NoMemory>
+        ensures ok { OnOk result (self.new ≡ with_room self.old) }
         ensures err { OnErr result (self.new ≡ self.old) }
+    {
+        let room = self.room.checked_add(1).ok_or(AllocError)?;
+        self.later.reserve(room)?;
+        self.room = room;
+        Ok(())
+    }
+
+    /// Marks a number. It wants no memory, and spends one reservation.
+    pub(crate) fn mark_reserved(&mut self, number: u32)
+        requires from { self.old.next ≤ number }
+        requires room { 0 < self.old.room }
+        ensures after { self.new ≡ with_spent (with_mark self.old number) }
         ensures fits { number < 2 ^ 32 }
     {
         if u64::from(number) < self.next + SIZE as u64 {
             self.flags[slot(u64::from(number))] = true;
         } else {
-            self.later.insert(number)?;
+            put(&mut self.later, number);
         }
-        Ok(())
+        self.room -= 1;
     }
 
     /// Passes all marked numbers up to the first one that is not marked, and tells how many.
@@ -123,9 +140,21 @@ fn slot(number: u64) -> usize
     (number % SIZE as u64) as usize
 }
 
+/// Puts a number into a set, where there is a place.
+fn put(set: &mut HashSet<u32>, number: u32)
+    requires { 0 < spare set.old }
+    ensures numbers { (q : ℕ) → has set.new.keys q ≡ cond (nat_eq number q) true (has set.old.keys q) }
+    ensures places { spare set.old ≤ spare set.new + 1 }
+{
+    let Ok(_added) = set.insert(number) else {
+        unreachable!()
+    };
+}
+
 /// Takes a number out of a set, and tells whether it was there.
-fn take_out(set: &mut BTreeSet<u32>, number: u64) -> bool
-    ensures { TakesOut set.old set.new number result }
+fn take_out(set: &mut HashSet<u32>, number: u64) -> bool
+    ensures answer { TakesOut set.old.keys set.new.keys number result }
+    ensures places { spare set.old ≤ spare set.new }
 {
     match u32::try_from(number) {
         Ok(number) => set.remove(&number),

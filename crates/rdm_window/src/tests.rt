@@ -1,5 +1,5 @@
-use crate::{Early, EarlyMessage, EarlyRefused, Heard, Window};
-use rdm_num::{Bytes, Connid, Head, Life, MsgNo, NoMemory, PortNo, Shape};
+use crate::{Early, EarlyRefused, Heard, Window};
+use rdm_num::{Connid, Head, Life, MsgNo, NoMemory, PortNo, Shape};
 use std::alloc::Global;
 use std::process::Abort;
 use std::test::Fail;
@@ -18,25 +18,49 @@ use Call::{Hear, HearAll, State};
 use Heard::{Entered, New, Waiting};
 
 /// Hears a number that is new. None where it is not.
-fn hear(window: &mut Window, number: u32) -> Result<Option<u64>, NoMemory> {
-    match window.state(MsgNo(number)) {
-        New => Ok(Some(window.hear(MsgNo(number))?)),
+fn hear(window: &mut Window, no: MsgNo) -> Result<Option<u64>, NoMemory> {
+    match window.state(no) {
+        New => Ok(Some(window.hear(no)?)),
         Waiting | Entered => Ok(None),
     }
 }
 
-/// A window from that number on answers each call as it says.
+/// Hears a number that is new, with a reservation of its own. None where it is not.
+fn hear_reserved(window: &mut Window, no: MsgNo) -> Result<Option<u64>, NoMemory> {
+    window.reserve()?;
+    match window.state(no) {
+        New => Ok(Some(window.hear_reserved(no))),
+        Waiting | Entered => Ok(None),
+    }
+}
+
+/// Hears a number that is new, in one of the two ways. What wants memory in vain changes nothing, so it
+/// answers the same when it is called again.
+fn hear_again(window: &mut Window, number: u32, reserves: bool) -> Result<Option<u64>, NoMemory> {
+    let no = MsgNo(number);
+    if reserves {
+        hear_reserved(window, no).or_else(|_no_memory| hear_reserved(window, no))
+    } else {
+        hear(window, no).or_else(|_no_memory| hear(window, no))
+    }
+}
+
+/// A window from that number on answers each call as it says, whether it reserves or not.
 fn run(rt: &impl Abort, alloc: Global, first: u32, calls: &[Call]) -> Result<(), NoMemory> {
-    let mut window = Window::new(alloc, first);
-    for call in calls {
-        match call {
-            Hear(number, risen) => assert!(rt; hear(&mut window, *number)? == *risen),
-            HearAll(from, to) => {
-                for number in *from..*to {
-                    assert!(rt; hear(&mut window, number)? == Some(1));
+    for reserves in [false, true] {
+        let mut window = Window::new(alloc, first);
+        for call in calls {
+            match call {
+                Hear(number, risen) => {
+                    assert!(rt; hear_again(&mut window, *number, reserves)? == *risen);
                 }
+                HearAll(from, to) => {
+                    for number in *from..*to {
+                        assert!(rt; hear_again(&mut window, number, reserves)? == Some(1));
+                    }
+                }
+                State(number, state) => assert!(rt; window.state(MsgNo(*number)) == *state),
             }
-            State(number, state) => assert!(rt; window.state(MsgNo(*number)) == *state),
         }
     }
     Ok(())
@@ -88,31 +112,31 @@ fn numbers_enter_in_order(rt: HostRuntime) -> Result<(), Fail> {
 fn falling_numbers_enter_at_once(rt: HostRuntime) -> Result<(), Fail> {
     let mut window = Window::new(rt.alloc(), 0);
     for number in (1..3000u32).rev() {
-        assert!(rt; hear(&mut window, number)? == Some(0));
+        assert!(rt; hear_again(&mut window, number, true)? == Some(0));
     }
     assert!(rt; window.state(MsgNo(2999)) == Waiting);
-    assert!(rt; hear(&mut window, 0)? == Some(3000));
+    assert!(rt; hear_again(&mut window, 0, false)? == Some(3000));
     assert!(rt; window.state(MsgNo(2999)) == Entered);
     Ok(())
 }
 
 /// What comes to the early messages, and what they answer.
 #[derive(Clone, Copy)]
-enum EarlyCall {
-    /// A message is held if it was not.
-    Hold(Life, u32, Option<Result<(), EarlyRefused>>),
-    /// A message that is held has the bytes from 4 on.
-    Add(Life, u32, [u8; 2]),
-    /// A message is held, with those bytes from 4 on.
-    Holds(Life, u32, [u8; 2]),
+enum EarlyCall<'a> {
+    /// A message of so many bytes is held if it was not.
+    Hold(Life, u32, u64, Option<Result<(), EarlyRefused>>),
+    /// Bytes from a place on come to a message, if it awaits them.
+    Add(Life, u32, u64, &'a [u8], bool),
+    /// So many bytes from a place on are missing, or not.
+    Missing(Life, u32, u64, u64, bool),
     IsHeld(Life, u32, bool),
-    /// A message is taken out, with those bytes from 4 on.
-    Take(Life, u32, [u8; 2]),
+    /// A message is taken out, with those bytes, of which so many are missing.
+    Take(Life, u32, &'a [u8], u64),
     Forget(Life),
     IsFull(bool),
 }
 
-use EarlyCall::{Add, Forget, Hold, Holds, IsFull, IsHeld, Take};
+use EarlyCall::{Add, Forget, Hold, IsFull, IsHeld, Missing, Take};
 
 fn life(port: u32, connid: u32) -> Life {
     Life {
@@ -121,83 +145,97 @@ fn life(port: u32, connid: u32) -> Life {
     }
 }
 
-/// An eager message.
+/// An eager message of six bytes.
 fn head() -> Head {
     Head {
         tag: Some(7),
         confirm: false,
         cq_data: None,
-        length: 2,
+        length: 6,
         shape: Shape::Eager,
     }
 }
 
 /// Holds a message that is not held yet. None where it is.
-fn hold(early: &mut Early, life: Life, no: MsgNo) -> Option<Result<(), EarlyRefused>> {
+fn hold(early: &mut Early, life: Life, no: MsgNo, len: u64) -> Option<Result<(), EarlyRefused>> {
     match early.get(life, no) {
-        None => Some(early.hold(life, no, head())),
+        None => Some(early.hold(life, no, head(), len)),
         Some(_held) => None,
     }
 }
 
-/// Adds a piece to a message that is held, and tells whether it is.
-fn add(early: &mut Early, life: Life, no: MsgNo, bytes: Bytes) -> Result<bool, NoMemory> {
+/// Adds bytes to a message, if it awaits them, with a reservation of its own or without.
+fn add(
+    early: &mut Early,
+    (life, no): (Life, MsgNo),
+    at: u64,
+    bytes: &[u8],
+    reserves: bool,
+) -> Result<bool, NoMemory> {
     let is_held = early.get(life, no).is_some();
-    if is_held {
-        early.add(life, no, 4, bytes)?;
+    if is_held && reserves {
+        early.reserve_add(life, no)?;
+        let awaits = early.missing(life, no, at, bytes.len() as u64);
+        if awaits {
+            early.add_reserved(life, no, at, bytes);
+        }
+        return Ok(awaits);
     }
-    Ok(is_held)
+    let awaits = early.missing(life, no, at, bytes.len() as u64);
+    if awaits {
+        early.add(life, no, at, bytes)?;
+    }
+    Ok(awaits)
 }
 
-/// The message has the tag and those bytes from 4 on.
-fn is_piece(message: &EarlyMessage, bytes: &[u8]) -> bool {
-    let has_tag = message.head.tag == Some(7);
-    match message.parts.as_slice() {
-        [(offset, part)] => has_tag && *offset == 4 && part.as_slice() == bytes,
-        _ => false,
-    }
-}
-
-/// A message that is held, and has those bytes from 4 on.
-fn holds(early: &Early, life: Life, no: MsgNo, bytes: &[u8]) -> bool {
-    match early.get(life, no) {
-        Some(message) => is_piece(message, bytes),
-        None => false,
-    }
-}
-
-/// Takes a message out that is held, and has those bytes from 4 on.
-fn take(early: &mut Early, life: Life, no: MsgNo, bytes: &[u8]) -> bool {
+/// Takes a message out that is held, and tells whether it has those bytes, with so many missing.
+fn take(early: &mut Early, life: Life, no: MsgNo, bytes: &[u8], missing: u64) -> bool {
     match early.take(life, no) {
-        Some(message) => is_piece(&message, bytes),
+        Some(message) => {
+            let (head, gaps, held) = message.into_parts();
+            head.tag == Some(7) && gaps.missing() == missing && held.as_slice() == bytes
+        }
         None => false,
     }
 }
 
-/// So many places for early messages answer each call as it says.
+/// So many places for early messages answer each call as it says. What wants memory in vain changes
+/// nothing, so it answers the same when it is called again.
 fn run_early(
     rt: &impl Abort,
     alloc: Global,
     size: usize,
     calls: &[EarlyCall],
+    reserves: bool,
 ) -> Result<(), NoMemory> {
     let mut early = Early::new(alloc, size)?;
     for call in calls {
-        match call {
-            Hold(life, no, answer) => {
-                assert!(rt; hold(&mut early, *life, MsgNo(*no)) == *answer);
+        match *call {
+            Hold(life, no, len, answer) => {
+                let mut given = hold(&mut early, life, MsgNo(no), len);
+                if given == Some(Err(EarlyRefused::Memory)) {
+                    given = hold(&mut early, life, MsgNo(no), len);
+                }
+                assert!(rt; given == answer);
             }
-            Add(life, no, bytes) => {
-                let bytes = Bytes::from_slice(alloc, bytes)?;
-                assert!(rt; add(&mut early, *life, MsgNo(*no), bytes)?);
+            Add(life, no, at, bytes, answer) => {
+                let mut given = add(&mut early, (life, MsgNo(no)), at, bytes, reserves);
+                if given.is_err() {
+                    given = add(&mut early, (life, MsgNo(no)), at, bytes, reserves);
+                }
+                assert!(rt; given == Ok(answer));
             }
-            Holds(life, no, bytes) => assert!(rt; holds(&early, *life, MsgNo(*no), bytes)),
+            Missing(life, no, at, len, answer) => {
+                assert!(rt; early.missing(life, MsgNo(no), at, len) == answer);
+            }
             IsHeld(life, no, is_held) => {
-                assert!(rt; early.get(*life, MsgNo(*no)).is_some() == *is_held);
+                assert!(rt; early.get(life, MsgNo(no)).is_some() == is_held);
             }
-            Take(life, no, bytes) => assert!(rt; take(&mut early, *life, MsgNo(*no), bytes)),
-            Forget(life) => early.forget(*life),
-            IsFull(is_full) => assert!(rt; early.is_full() == *is_full),
+            Take(life, no, bytes, missing) => {
+                assert!(rt; take(&mut early, life, MsgNo(no), bytes, missing));
+            }
+            Forget(life) => early.forget(life),
+            IsFull(is_full) => assert!(rt; early.is_full() == is_full),
         }
     }
     Ok(())
@@ -208,27 +246,40 @@ fn places_hold_messages(rt: HostRuntime) -> Result<(), Fail> {
     let one = life(0, 5);
     let one_place = [
         IsFull(false),
-        Hold(one, 0, Some(Ok(()))),
-        IsFull(true),
-        Add(one, 0, *b"ab"),
-        Hold(one, 0, None),
-        Hold(one, 1, Some(Err(EarlyRefused::Full))),
-        Holds(one, 0, *b"ab"),
-        Take(one, 0, *b"ab"),
+        Missing(one, 0, 0, 0, false),
+        Hold(one, 0, 1 << 62, Some(Err(EarlyRefused::Memory))),
         IsHeld(one, 0, false),
-        Hold(one, 1, Some(Ok(()))),
+        Hold(one, 0, 6, Some(Ok(()))),
+        IsFull(true),
+        Hold(one, 0, 6, None),
+        Hold(one, 1, 6, Some(Err(EarlyRefused::Full))),
+        Add(one, 0, 2, b"cd", true),
+        Add(one, 0, 1, b"bc", false),
+        Missing(one, 0, 4, 2, true),
+        Missing(one, 0, 4, 3, false),
+        Add(one, 0, 5, b"fg", false),
+        Add(one, 0, 5, b"f", true),
+        Take(one, 0, b"\0\0cd\0f", 3),
+        IsHeld(one, 0, false),
+        Hold(one, 1, 6, Some(Ok(()))),
+        Add(one, 1, 3, b"def", true),
+        Add(one, 1, 0, b"abc", true),
+        Take(one, 1, b"abcdef", 0),
+        Hold(one, 2, 6, Some(Ok(()))),
         Forget(one),
-        IsHeld(one, 1, false),
+        IsHeld(one, 2, false),
         IsFull(false),
     ];
-    run_early(&rt, rt.alloc(), 1, &one_place)?;
+    for reserves in [false, true] {
+        run_early(&rt, rt.alloc(), 1, &one_place, reserves)?;
+    }
     let (two, older, later, other) = (life(1, 7), life(1, 6), life(1, 8), life(0, 7));
     let lives = [
-        Hold(two, 0, Some(Ok(()))),
-        Hold(two, u32::MAX, Some(Ok(()))),
-        Hold(older, 9, Some(Ok(()))),
-        Hold(later, 0, Some(Ok(()))),
-        Hold(other, 0, Some(Ok(()))),
+        Hold(two, 0, 6, Some(Ok(()))),
+        Hold(two, u32::MAX, 6, Some(Ok(()))),
+        Hold(older, 9, 6, Some(Ok(()))),
+        Hold(later, 0, 6, Some(Ok(()))),
+        Hold(other, 0, 6, Some(Ok(()))),
         IsFull(true),
         Forget(two),
         IsHeld(two, 0, false),
@@ -240,6 +291,6 @@ fn places_hold_messages(rt: HostRuntime) -> Result<(), Fail> {
         Forget(life(2, 0)),
         IsHeld(other, 0, true),
     ];
-    run_early(&rt, rt.alloc(), 5, &lives)?;
+    run_early(&rt, rt.alloc(), 5, &lives, false)?;
     Ok(())
 }

@@ -1,6 +1,6 @@
 //! Which message numbers of a sending life were heard.
-ghost use Rattle.std.specs.Prelude.{◌≡◌, ◌+◌, IfOk, OnErr};
-ghost use Rattle.rdm_window.specs.Window.{none_heard, state_of, after_hear, IsLeastMissing, NextIsTold};
+ghost use Rattle.std.specs.Prelude.{◌≡◌, ◌+◌, ◌<◌, IfOk, OnOk, OnErr};
+ghost use Rattle.rdm_window.specs.Window.{none_heard, state_of, after_hear, with_room, with_spent, IsLeastMissing, NextIsTold};
 
 use crate::ring::Ring;
 use rdm_num::{MsgNo, NoMemory};
@@ -35,7 +35,7 @@ impl Model for Window {
 
     ghost coded = { hearing_code };
 
-    ghost view = { λ w. record { first = w.first; heard = heard_of w.first w.ring; next = w.ring.next } };
+    ghost view = { λ w. record { first = w.first; heard = heard_of w.first w.ring; next = w.ring.next; room = w.ring.room } };
 
     ghost invariant = { λ w. IsWindow w.first w.ring };
 }
@@ -68,6 +68,15 @@ impl Window {
         }
     }
 
+    /// Makes room for one more number to be heard without memory.
+    pub fn reserve(&mut self) -> Result<(), NoMemory>
+        ensures ok { OnOk result (self.new ≡ with_room self.old) }
+        ensures err { OnErr result (self.new ≡ self.old) }
+        ensures least { IsLeastMissing self.new }
+    {
+        self.ring.reserve()
+    }
+
     /// Hears a number, and tells by how much the least number that was not heard rose.
     pub fn hear(&mut self, no: MsgNo) -> Result<u64, NoMemory>
         requires { state_of self.old no.0 ≡ Heard.New }
@@ -75,8 +84,20 @@ impl Window {
         ensures err { OnErr result (self.new ≡ self.old) }
         ensures least { IsLeastMissing self.new }
     {
-        self.ring.mark(no.0)?;
-        Ok(self.ring.advance())
+        self.reserve()?;
+        Ok(self.hear_reserved(no))
+    }
+
+    /// Hears a number, and tells by how much the least number that was not heard rose. It wants no
+    /// memory, and spends one reservation.
+    pub fn hear_reserved(&mut self, no: MsgNo) -> u64
+        requires state { state_of self.old no.0 ≡ Heard.New }
+        requires room { 0 < self.old.room }
+        ensures after { self.new ≡ with_spent (after_hear self.old no.0 result) }
+        ensures least { IsLeastMissing self.new }
+    {
+        self.ring.mark_reserved(no.0);
+        self.ring.advance()
     }
 }
 
