@@ -1,7 +1,7 @@
 ghost use Rattle.std.specs.Prelude.{◌≤◌};
 
-use rdm_top::{Status, job};
 use rdm_io::{MemSink, MemSource};
+use rdm_top::{Status, job};
 use std::alloc::{AllocError, Global};
 use std::test::Fail;
 

@@ -1,10 +1,10 @@
 mod segments;
 
-use rdm_tx::{Cursor, Message};
 use arrayvec::ArrayVec;
 use rdm_hdr::Opt;
 use rdm_num::{EpLimits, Iov, IovEntry, MsgNo, NoMemory, OpId};
 use rdm_pkt::Kind;
+use rdm_tx::{Cursor, Message};
 use std::alloc::Global;
 use std::process::Abort;
 use std::test::Fail;

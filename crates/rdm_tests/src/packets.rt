@@ -1,7 +1,7 @@
 mod table;
 
-use rdm_pkt::{Kind, Packet, choose};
 use rdm_num::EpLimits;
+use rdm_pkt::{Kind, Packet, choose};
 use std::alloc::Global;
 
 /// Whether the bytes are read as a packet that is written as those bytes again.

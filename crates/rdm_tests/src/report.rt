@@ -1,4 +1,3 @@
-use rdm_report::text;
 use rdm_model::{
     Act, Class, DidWhat, End, Ends, Entered, Entry, Handled, History, Next, OpName, PoolName,
     Report, Why, Yet,
@@ -7,6 +6,7 @@ use rdm_num::{
     Bytes, Completion, Connid, DatagramNo, Life, MsgNo, OpId, Outcome, PortNo, RecvNo, RegionNo,
     SendNo, Stamp,
 };
+use rdm_report::text;
 use rdm_wire::{Body, Datagram, Load, NoteBody, ReadAsk, ReadData};
 use std::alloc::{AllocError, Global};
 use std::test::Fail;

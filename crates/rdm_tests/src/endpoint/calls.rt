@@ -1,6 +1,6 @@
 //! Calls at an endpoint, each with what is wanted of it.
-use rdm_ep::{CancelAnswer, Endpoint, HandleAnswer, Inserted, RecvAnswer, SendAnswer};
 use arrayvec::ArrayVec;
+use rdm_ep::{CancelAnswer, Endpoint, HandleAnswer, Inserted, RecvAnswer, SendAnswer};
 use rdm_num::{
     Bytes, Completion, Connid, DatagramNo, EpLimits, Life, NoMemory, OpId, Outcome, Parts, PortNo,
     RecvNo, RecvReq, RegionNo, SendReq, Span, Stamp,

@@ -1,9 +1,9 @@
 //! Messages in several packets, and first parts.
 use super::{CONNID, RAW, content, limits, message};
-use rdm_tx::{Cursor, Message, Span};
 use rdm_hdr::Opt;
 use rdm_num::{EpLimits, NoMemory};
 use rdm_pkt::{Form, Kind, Packet};
+use rdm_tx::{Cursor, Message, Span};
 use std::alloc::Global;
 use std::process::Abort;
 use std::test::Fail;

@@ -4,10 +4,10 @@ mod openings;
 mod others;
 mod reads;
 
-use rdm_pkt::Packet;
 use combinations::COMBINATIONS;
 use openings::OPENINGS;
 use others::OTHERS;
+use rdm_pkt::Packet;
 use reads::READS;
 use std::alloc::{AllocError, Global};
 use std::process::Abort;
