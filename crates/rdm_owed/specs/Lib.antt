@@ -1,0 +1,2 @@
+-- Answers that are owed.
+pub mod Owing
