@@ -17,8 +17,8 @@ use Rattle.rdm_model.specs.Currents.{current}
 use Rattle.rdm_model.specs.Heads.{same_head}
 use Rattle.rdm_model.specs.Heard.{heard_head, is_heard}
 use Rattle.rdm_model.specs.Sources.{is_other, is_malformed, has_raw}
-use Rattle.rdm_model.specs.Targets.{is_bad_key, is_no_op}
-use Rattle.rdm_model.specs.Classes.{is_received, is_other_head, is_mismatch, is_overlap, item_class}
+use Rattle.rdm_model.specs.ClassFacts.{is_received, class_facts}
+use Rattle.rdm_model.specs.Classes.{is_other_head, is_mismatch, is_overlap, item_class, is_bad_key, is_no_op, item_class_by}
 use Rattle.rdm_model.specs.Scenes.{Scene}
 use Rattle.rdm_ep.specs.declared.state.Inbound.{Inbound}
 use Rattle.rdm_ep.specs.View.{EndpointView, current_in}
@@ -41,7 +41,7 @@ by_source a b c d rest = first_case ((a, Some ToOther) ∷ (b, Some FromOther) �
 unfoldable expected_class : Scene → Life → Item → Option Class
 expected_class s from item =
     first_case
-    ((is_bad_key s from item, Some BadKey) ∷ (is_no_op s from item, Some NoOp) ∷ (is_mismatch s from item, Some Mismatch) ∷ (is_overlap s from item, Some Overlap) ∷ [])
+    ((is_bad_key (class_facts s) from item, Some BadKey) ∷ (is_no_op (class_facts s) from item, Some NoOp) ∷ (is_mismatch (class_facts s) from item, Some Mismatch) ∷ (is_overlap (class_facts s) from item, Some Overlap) ∷ [])
     None
 
 -- the class in a scene is by the source, and then by what the life expects
@@ -49,7 +49,7 @@ class_is : (s : Scene) (from : Life) (to : Connid) (item : Item)
     → item_class s from to item
     ≡ by_source (not (is_connid s.now to)) (is_other (current s.log from.port.0) from) (is_malformed from item)
     (is_none (current s.log from.port.0) && not (has_raw item)) (expected_class s from item)
-unfolding item_class by_source expected_class first_case
+unfolding item_class_by by_source expected_class first_case
 class_is s from to item = refl
 
 -- the class by the endpoint is by the source, and then by what it expects

@@ -10,7 +10,7 @@ use Rattle.rdm_model.specs.Deeds.{Deed, open_life, is_connid, of_life}
 use Rattle.rdm_model.specs.Beginnings.{Own}
 use Rattle.rdm_model.specs.Scenes.{Scene, scene}
 use Rattle.rdm_model.specs.Local.{own_scene}
-use Rattle.rdm_model.specs.Classes.{item_class, body_class, class_of}
+use Rattle.rdm_model.specs.Classes.{item_class, body_class, class_of, item_class_by}
 use Rattle.rdm_model.specs.Takes.{taken_answer, class_answer, handled_answer, body_needs_place, is_again_early}
 use Rattle.rdm_ep.specs.View.{EndpointView}
 use Rattle.rdm_ep.specs.Handling.{body_answer}
@@ -41,7 +41,7 @@ machine_open k e d (Between from to load) b q = rw q refl
 
 -- where no life is open, a note is taken and all else is to another life
 closed_agrees : (s : Scene) (k : Kept) (d : Datagram) (body : Body) → d.body ≡ body → s.now ≡ None → k.endpoint ≡ None → HandleAgrees s k d body
-unfolding is_again_early handled_answer class_of body_class item_class first_case is_connid class_answer taken_answer body_needs_place machine_handled life_answer waits_in
+unfolding is_again_early handled_answer class_of body_class item_class_by first_case is_connid class_answer taken_answer body_needs_place machine_handled life_answer waits_in
 closed_agrees s k d (Note note) b n q = record { early = rw (b, q) refl; handled = λ w. rw b refl }
 closed_agrees s k d (Between from to load) b n q = record { early = rw (b, q, n) refl; handled = λ w. rw (b, q, n) refl }
 

@@ -17,7 +17,7 @@ use Rattle.rdm_model.specs.declared.answer.Yet.TheVariants as Yet
 use Rattle.rdm_model.specs.Deeds.{Deed, of_life}
 use Rattle.rdm_model.specs.Beginnings.{Own}
 use Rattle.rdm_model.specs.Notes.{knows_open, was_told}
-use Rattle.rdm_model.specs.Answers.{answer_of}
+use Rattle.rdm_model.specs.Answers.{answer_of, answer_by, insert_answer}
 use Rattle.rdm_model.specs.Scenes.{Scene, scene}
 use Rattle.rdm_model.specs.Local.{own_scene}
 use Rattle.rdm_ep.specs.View.{EndpointView, current_in}
@@ -70,7 +70,7 @@ open_port v k connid e f = ap (λ (o : Own). o.life.port.0) f.own_is
 
 -- an open agrees
 open_agrees : (s : Scene) (b : Bool) (connid : Connid) → Agrees (cond b Memory (Did Plain)) (answer_of s (OpenLife connid))
-unfolding answer_of
+unfolding answer_by insert_answer
 open_agrees s true connid = inl refl
 open_agrees s false connid = inr refl
 
@@ -94,7 +94,7 @@ insert_same v k l connid e h f =
 -- a send agrees
 send_same : (v : PortView) (req : SendReq) (b : Bool) (connid : Connid) (k : Kept) (e : EndpointView) → OpenFacts v k connid e
     → Agrees (cond b (next_of_send (Ep.send_answer e req)) Memory) (answer_of (open_scene_of v connid e) (Send req))
-unfolding answer_of
+unfolding answer_by insert_answer
 send_same v req true connid k e f = inr (send_agrees v.ports (deeds_of v) (of_life connid (deeds_of v)) e req f.keeps)
 send_same v req false connid k e f = inl refl
 
@@ -111,7 +111,7 @@ scene_deeds job v p = deeds_are job v p
 -- an await agrees
 await_agrees : (job : Job) (v : PortView) (k : Kept) (from : PortNo) (what : ℕ) → IsPortOf job v → IsKept v k
     → answer_of (scene_at job v) (Await from what) ≡ cond (is_told k.told from.0 what) (Did Plain) (NotYet Yet.Await)
-unfolding answer_of first_case
+unfolding answer_by insert_answer first_case
 await_agrees job v k from what p h =
     let told : was_told (scene_at job v).port_log from.0 what ≡ is_told k.told from.0 what = ap (λ (ds : List Deed). was_told ds from.0 what) (scene_deeds job v p) ∙ sym (h.told_are from.0 what) in
     ap (λ (b : Bool). cond (not b) (NotYet Yet.Await) (Did Plain)) told ∙ await_same (is_told k.told from.0 what)
@@ -119,7 +119,7 @@ await_agrees job v k from what p h =
 -- what an instruction answers by what the port keeps is what it answers, or it wants memory
 pub answer_agrees : (job : Job) (v : PortView) (k : Kept) (instr : Instr) → IsPortOf job v → IsKept v k
     → (machine_answer v k instr ≡ Memory) ⊎ (answer_of (scene_at job v) instr ≡ machine_answer v k instr)
-unfolding machine_answer answer_of
+unfolding machine_answer answer_by insert_answer
 answer_agrees job v k (OpenLife connid) p h = open_agrees (scene_at job v) (is_some k.endpoint || not (is_new_life k.opened v connid)) connid
 answer_agrees job v k (Insert l) p h = by_endpoint job v k (Insert l) (insert_answer_in k l) p h (λ connid e f. insert_same v k l connid e h f)
 answer_agrees job v k (Reg content) p h =

@@ -16,7 +16,8 @@ use Rattle.rdm_model.specs.Played.{played_world}
 use Rattle.rdm_model.specs.Scenes.{Scene, deeds_at}
 use Rattle.rdm_model.specs.Local.{own_scene}
 use Rattle.rdm_model.specs.Targets.{live_message}
-use Rattle.rdm_model.specs.Classes.{class_of, is_early_receipt}
+use Rattle.rdm_model.specs.ClassFacts.{is_early_receipt}
+use Rattle.rdm_model.specs.Classes.{class_of}
 use Rattle.rdm_model.specs.Takes.{handled_answer}
 use Rattle.rdm_model.specs.Steps.{Does}
 use Rattle.rdm_rows.specs.Shown.{log_at, is_push_of, is_handle_of}

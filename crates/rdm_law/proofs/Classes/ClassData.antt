@@ -27,7 +27,9 @@ use Rattle.rdm_model.specs.Parts.{piece_by, carried_pieces, has_landed}
 use Rattle.rdm_model.specs.Receives.{is_filled}
 use Rattle.rdm_model.specs.Grants.{data_room}
 use Rattle.rdm_model.specs.Sends.{Sent}
-use Rattle.rdm_model.specs.Targets.{live_pair, is_long_shape, is_read_shape, has_shape, is_no_op}
+use Rattle.rdm_model.specs.Targets.{live_pair, is_long_shape, is_read_shape, has_shape}
+use Rattle.rdm_model.specs.ClassFacts.{class_facts}
+use Rattle.rdm_model.specs.Classes.{is_no_op}
 use Rattle.rdm_model.specs.Dues.{is_read}
 use Rattle.rdm_model.specs.Currents.{is_forgotten}
 use Rattle.rdm_model.specs.Lawful.{life_deeds}
@@ -124,7 +126,7 @@ own_room job l = refl
 -- granted bytes that arrive are for a live receive
 pub data_op_free : (job : Job) (history : List Entry) (to from : Life) (recv : OpId) (offset : ℕ) (connid : Connid) (bytes : List ℕ) (d : Datagram)
     → Arrives job history to from (Spelled (CtsData recv offset connid bytes)) d → (ports : ℕ) (port_log : List Deed)
-    → is_no_op (arriving_scene job history to ports port_log) from (Spelled (CtsData recv offset connid bytes)) ≡ false
+    → is_no_op (class_facts (arriving_scene job history to ports port_log)) from (Spelled (CtsData recv offset connid bytes)) ≡ false
 unfolding is_no_op
 data_op_free job history to from recv offset connid bytes d a ports port_log =
     let own = own_of job from in
@@ -150,7 +152,7 @@ data_op_free job history to from recv offset connid bytes d a ports port_log =
 -- read bytes that arrive are for a live receive
 pub given_op_free : (job : Job) (history : List Entry) (to from : Life) (g : ReadData) (d : Datagram)
     → Arrives job history to from (Gives g) d → (ports : ℕ) (port_log : List Deed)
-    → is_no_op (arriving_scene job history to ports port_log) from (Gives g) ≡ false
+    → is_no_op (class_facts (arriving_scene job history to ports port_log)) from (Gives g) ≡ false
 unfolding is_no_op
 given_op_free job history to from g d a ports port_log =
     let w = given_went job history to from g d a.taken in

@@ -29,8 +29,9 @@ use Rattle.rdm_model.specs.Replies.{Reply}
 use Rattle.rdm_model.specs.Scenes.{Scene}
 use Rattle.rdm_model.specs.Sends.{Sent}
 use Rattle.rdm_model.specs.Dues.{progress, is_read, ends_send}
-use Rattle.rdm_model.specs.Targets.{live_send, read_from, is_read_send, is_no_op}
-use Rattle.rdm_model.specs.Classes.{is_number, is_early_end, is_mismatch}
+use Rattle.rdm_model.specs.Targets.{live_send, read_from, is_read_send}
+use Rattle.rdm_model.specs.ClassFacts.{is_number, is_early_end, class_facts}
+use Rattle.rdm_model.specs.Classes.{is_mismatch, is_no_op}
 use Rattle.rdm_model.specs.Lawful.{life_deeds}
 use Rattle.rdm_model.proofs.Numbers.{made, sent_is_of}
 use Rattle.rdm_law.proofs.Replies.Queue.{owed}
@@ -247,7 +248,7 @@ read_send t h = h
 
 -- an end that arrives ends a live read send
 pub end_has_op : (job : Job) (history : List Entry) (j i : Life) (send recv : OpId) (connid : Connid) (d : Datagram) (ports : ℕ) (port_log : List Deed)
-    → Arrives job history j i (Spelled (Eor send recv connid)) d → is_no_op (arriving_scene job history j ports port_log) i (Spelled (Eor send recv connid)) ≡ false
+    → Arrives job history j i (Spelled (Eor send recv connid)) d → is_no_op (class_facts (arriving_scene job history j ports port_log)) i (Spelled (Eor send recv connid)) ≡ false
 unfolding is_no_op
 end_has_op job history j i send recv connid d ports port_log h =
     let e = end_went job history j i send recv connid d h.played h.taken in
@@ -269,7 +270,7 @@ end_in_time s t all none =
 
 -- an end that arrives comes after all was asked for and given
 pub end_agrees : (job : Job) (history : List Entry) (j i : Life) (send recv : OpId) (connid : Connid) (d : Datagram) (ports : ℕ) (port_log : List Deed)
-    → Arrives job history j i (Spelled (Eor send recv connid)) d → is_mismatch (arriving_scene job history j ports port_log) i (Spelled (Eor send recv connid)) ≡ false
+    → Arrives job history j i (Spelled (Eor send recv connid)) d → is_mismatch (class_facts (arriving_scene job history j ports port_log)) i (Spelled (Eor send recv connid)) ≡ false
 unfolding is_mismatch
 end_agrees job history j i send recv connid d ports port_log h =
     let e = end_went job history j i send recv connid d h.played h.taken in

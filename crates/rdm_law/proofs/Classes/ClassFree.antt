@@ -6,8 +6,8 @@ use Rattle.rdm_wire.specs.declared.Datagram.{Datagram}
 use Rattle.rdm_model.specs.declared.job.Job.{Job}
 use Rattle.rdm_model.specs.declared.entry.Entry.{Entry}
 use Rattle.rdm_model.specs.Deeds.{Deed, Item, Spelled, Gives}
-use Rattle.rdm_model.specs.Targets.{is_no_op}
-use Rattle.rdm_model.specs.Classes.{is_mismatch}
+use Rattle.rdm_model.specs.ClassFacts.{class_facts}
+use Rattle.rdm_model.specs.Classes.{is_mismatch, is_no_op}
 use Rattle.rdm_law.proofs.Accounts.Arrives.{Arrives, arriving_scene}
 use Rattle.rdm_law.proofs.Classes.ClassGrants.{cts_op_free, cts_agrees, data_agrees}
 use Rattle.rdm_law.proofs.Classes.ClassLives.{AllFree}
@@ -21,7 +21,7 @@ use Rattle.rdm_law.proofs.Classes.ClassReceipts.{receipt_has_op, receipt_agrees}
 
 -- what arrives names a live operation
 has_op : (job : Job) (history : List Entry) (to from : Life) (item : Item) (d : Datagram) → Arrives job history to from item d → (ports : ℕ) (port_log : List Deed)
-    → is_no_op (arriving_scene job history to ports port_log) from item ≡ false
+    → is_no_op (class_facts (arriving_scene job history to ports port_log)) from item ≡ false
 unfolding is_no_op
 has_op job history to from (Spelled (Cts send recv size connid)) d a ports port_log = cts_op_free job history to from send recv size connid d ports port_log a
 has_op job history to from (Spelled (CtsData recv offset connid bytes)) d a ports port_log = data_op_free job history to from recv offset connid bytes d a ports port_log
@@ -32,7 +32,7 @@ has_op job history to from _ d a ports port_log = refl
 
 -- what arrives agrees with what came before
 agrees : (job : Job) (history : List Entry) (to from : Life) (item : Item) (d : Datagram) → Arrives job history to from item d → (ports : ℕ) (port_log : List Deed)
-    → is_mismatch (arriving_scene job history to ports port_log) from item ≡ false
+    → is_mismatch (class_facts (arriving_scene job history to ports port_log)) from item ≡ false
 unfolding is_mismatch
 agrees job history to from (Spelled (Rtm number tag confirm opt form)) d a ports port_log = rtm_agrees job history to from number tag confirm opt form d a ports port_log
 agrees job history to from (Spelled (CtsData recv offset connid bytes)) d a ports port_log = data_agrees job history to from recv offset connid bytes d ports port_log a

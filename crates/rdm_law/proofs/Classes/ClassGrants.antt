@@ -25,8 +25,9 @@ use Rattle.rdm_model.specs.Grants.{Grant, grants}
 use Rattle.rdm_model.specs.Sends.{Sent}
 use Rattle.rdm_model.specs.Dues.{pieces_in}
 use Rattle.rdm_model.specs.Scenes.{Scene}
-use Rattle.rdm_model.specs.Targets.{live_send, live_pair, is_long, is_long_send, is_no_op}
-use Rattle.rdm_model.specs.Classes.{passes_grants, allowed_bytes, is_wrong_grant, is_mismatch}
+use Rattle.rdm_model.specs.Targets.{live_send, live_pair, is_long, is_long_send}
+use Rattle.rdm_model.specs.ClassFacts.{passes_grants, allowed_bytes, is_wrong_grant, class_facts}
+use Rattle.rdm_model.specs.Classes.{is_mismatch, is_no_op}
 use Rattle.rdm_model.specs.Lawful.{life_deeds}
 use Rattle.rdm_law.proofs.Accounts.Wired.{Played, own_life}
 use Rattle.rdm_law.proofs.Accounts.Known.{account, sends_of}
@@ -103,7 +104,7 @@ long_is kind e = rw e refl
 -- a grant that arrives is not NoOp
 pub cts_op_free : (job : Job) (history : List Entry) (j i : Life) (send recv : OpId) (size : ℕ) (connid : Connid) (d : Datagram) (ports : ℕ) (port_log : List Deed)
     → Arrives job history j i (Spelled (Cts send recv size connid)) d
-    → is_no_op (arriving_scene job history j ports port_log) i (Spelled (Cts send recv size connid)) ≡ false
+    → is_no_op (class_facts (arriving_scene job history j ports port_log)) i (Spelled (Cts send recv size connid)) ≡ false
 unfolding is_no_op is_long_send
 cts_op_free job history j i send recv size connid d ports port_log a =
     let g = grant_here job history j i send recv size connid d a in
@@ -143,7 +144,7 @@ grant_right s t recv size l none =
 -- a grant that arrives is no Mismatch
 pub cts_agrees : (job : Job) (history : List Entry) (j i : Life) (send recv : OpId) (size : ℕ) (connid : Connid) (d : Datagram) (ports : ℕ) (port_log : List Deed)
     → Arrives job history j i (Spelled (Cts send recv size connid)) d
-    → is_mismatch (arriving_scene job history j ports port_log) i (Spelled (Cts send recv size connid)) ≡ false
+    → is_mismatch (class_facts (arriving_scene job history j ports port_log)) i (Spelled (Cts send recv size connid)) ≡ false
 unfolding is_mismatch
 cts_agrees job history j i send recv size connid d ports port_log a =
     let s = arriving_scene job history j ports port_log in
@@ -196,7 +197,7 @@ passes_none s from recv end' (Some p) e h = le-ltb (reach s.own.limits s.ms.head
 -- granted bytes that arrive are no Mismatch
 pub data_agrees : (job : Job) (history : List Entry) (i j : Life) (recv : OpId) (offset : ℕ) (connid : Connid) (bytes : List ℕ) (d : Datagram) (ports : ℕ) (port_log : List Deed)
     → Arrives job history i j (Spelled (CtsData recv offset connid bytes)) d
-    → is_mismatch (arriving_scene job history i ports port_log) j (Spelled (CtsData recv offset connid bytes)) ≡ false
+    → is_mismatch (class_facts (arriving_scene job history i ports port_log)) j (Spelled (CtsData recv offset connid bytes)) ≡ false
 unfolding is_mismatch
 data_agrees job history i j recv offset connid bytes d ports port_log a =
     let s = arriving_scene job history i ports port_log in

@@ -23,7 +23,8 @@ use Rattle.rdm_model.specs.Beginnings.{own_of}
 use Rattle.rdm_model.specs.Heads.{same_option, same_truth, same_iov, same_shape, same_head}
 use Rattle.rdm_model.specs.Heard.{heard_head}
 use Rattle.rdm_model.specs.Sends.{Sent, known_word}
-use Rattle.rdm_model.specs.Classes.{is_other_head, is_received, is_mismatch}
+use Rattle.rdm_model.specs.ClassFacts.{is_received, class_facts}
+use Rattle.rdm_model.specs.Classes.{is_other_head, is_mismatch}
 use Rattle.rdm_model.specs.Lawful.{life_deeds}
 use Rattle.rdm_law.proofs.Accounts.Wired.{own_life, taken_pushed}
 use Rattle.rdm_law.proofs.Accounts.Known.{known_one, known_head, opened}
@@ -84,7 +85,7 @@ head_again job history to from number tag confirm opt form d a (Some was) e =
 -- a packet that opens a message agrees with what was heard
 pub rtm_agrees : (job : Job) (history : List Entry) (to from : Life) (number : MsgNo) (tag : Option ℕ) (confirm : Bool) (opt : Opt) (form : Form) (d : Datagram)
     → Arrives job history to from (Spelled (Rtm number tag confirm opt form)) d → (ports : ℕ) (port_log : List Deed)
-    → is_mismatch (arriving_scene job history to ports port_log) from (Spelled (Rtm number tag confirm opt form)) ≡ false
+    → is_mismatch (class_facts (arriving_scene job history to ports port_log)) from (Spelled (Rtm number tag confirm opt form)) ≡ false
 unfolding is_mismatch
 rtm_agrees job history to from number tag confirm opt form d a ports port_log =
     and_left (is_other_head (heard_head (life_deeds job history to) from number.0) (head_of tag confirm opt form)) (not (is_received (arriving_scene job history to ports port_log) from number.0))
@@ -98,7 +99,7 @@ none_word (Some w) h = absurd (h w refl)
 -- a handshake comes once from each life
 pub shake_agrees : (job : Job) (history : List Entry) (to from : Life) (words : List ℕ) (connid : Connid) (raw : Option PortNo) (d : Datagram)
     → Arrives job history to from (Spelled (Handshake words connid raw)) d → (ports : ℕ) (port_log : List Deed)
-    → is_mismatch (arriving_scene job history to ports port_log) from (Spelled (Handshake words connid raw)) ≡ false
+    → is_mismatch (class_facts (arriving_scene job history to ports port_log)) from (Spelled (Handshake words connid raw)) ≡ false
 unfolding is_mismatch
 shake_agrees job history to from words connid raw d a ports port_log =
     none_word (known_word (life_deeds job history to) from) (λ w e.

@@ -19,7 +19,9 @@ use Rattle.rdm_model.specs.Reads.{asks_of}
 use Rattle.rdm_model.specs.Scenes.{Scene}
 use Rattle.rdm_model.specs.Sends.{Sent}
 use Rattle.rdm_model.specs.Dues.{progress, is_read, ends_send, is_complete, is_over}
-use Rattle.rdm_model.specs.Targets.{live_send, read_from, is_in_iov, is_good_ask, is_bad_key}
+use Rattle.rdm_model.specs.Targets.{live_send, read_from, is_in_iov, is_good_ask}
+use Rattle.rdm_model.specs.ClassFacts.{class_facts}
+use Rattle.rdm_model.specs.Classes.{is_bad_key}
 use Rattle.rdm_model.specs.Lawful.{life_deeds}
 use Rattle.rdm_law.proofs.Replies.Asks.{iov_bytes}
 use Rattle.rdm_law.proofs.Fits.AnswersFit.{ranges_fit}
@@ -99,7 +101,7 @@ good_ask s i a t ask none =
 
 -- an ask that arrives is good, and nothing else is asked that of
 pub bad_key_free : (job : Job) (history : List Entry) (life' from : Life) (item : Item) (d : Datagram) → Arrives job history life' from item d → (ports : ℕ) (port_log : List Deed)
-    → is_bad_key (arriving_scene job history life' ports port_log) from item ≡ false
+    → is_bad_key (class_facts (arriving_scene job history life' ports port_log)) from item ≡ false
 unfolding is_bad_key
 bad_key_free job history j i (Asks a) d h ports port_log =
     let scene' = arriving_scene job history j ports port_log in

@@ -20,9 +20,9 @@ use Rattle.rdm_model.specs.Deeds.{Deed, Item, item_of, log_of, open_life, is_con
 use Rattle.rdm_model.specs.Beginnings.{own_of, port_count}
 use Rattle.rdm_model.specs.Currents.{current}
 use Rattle.rdm_model.specs.Sources.{is_other, is_malformed, has_raw}
-use Rattle.rdm_model.specs.Targets.{is_bad_key, is_no_op}
 use Rattle.rdm_model.specs.Scenes.{Scene, scene}
-use Rattle.rdm_model.specs.Classes.{is_mismatch, is_overlap, item_class, body_class, class_of, body_lives_class, lives_class}
+use Rattle.rdm_model.specs.ClassFacts.{class_facts}
+use Rattle.rdm_model.specs.Classes.{is_mismatch, is_overlap, item_class, body_class, class_of, body_lives_class, lives_class, is_bad_key, is_no_op, item_class_by}
 use Rattle.rdm_model.specs.Local.{own_scene}
 use Rattle.rdm_model.specs.Lawful.{port_deeds, life_deeds}
 use Rattle.rdm_model.specs.Wire.{PushedIn, IsUnhandled, Comes}
@@ -36,10 +36,10 @@ use Rattle.std.proofs.lemmas.Bool.{not-false}
 pub record IsFree (s : Scene) (from : Life) (item : Item) : Type 0 where
   pub well_formed : is_malformed from item ≡ false
   pub known : (is_none (current s.log from.port.0) && not (has_raw item)) ≡ false
-  pub good_key : is_bad_key s from item ≡ false
-  pub has_op : is_no_op s from item ≡ false
-  pub agrees : is_mismatch s from item ≡ false
-  pub new : is_overlap s from item ≡ false
+  pub good_key : is_bad_key (class_facts s) from item ≡ false
+  pub has_op : is_no_op (class_facts s) from item ≡ false
+  pub agrees : is_mismatch (class_facts s) from item ≡ false
+  pub new : is_overlap (class_facts s) from item ≡ false
 
 -- the class by lives
 abbrev lives_case : Bool → Bool → Option Class
@@ -62,13 +62,13 @@ lives_none a b h k = rw (h, k) refl
 
 -- an item for another life is ToOther
 item_other : (s : Scene) (from : Life) (to : Connid) (item : Item) → not (is_connid s.now to) ≡ true → item_class s from to item ≡ Some ToOther
-unfolding item_class
+unfolding item_class_by
 item_other s from to item h = first_true (not (is_connid s.now to)) (Some ToOther) _ None h
 
 -- an item of another life than the current one is FromOther
 item_source : (s : Scene) (from : Life) (to : Connid) (item : Item) → not (is_connid s.now to) ≡ false → is_other (current s.log from.port.0) from ≡ true
     → item_class s from to item ≡ Some FromOther
-unfolding item_class
+unfolding item_class_by
 item_source s from to item h k =
     first_false (not (is_connid s.now to)) (Some ToOther) _ None h ∙ first_true (is_other (current s.log from.port.0) from) (Some FromOther) _ None k
 

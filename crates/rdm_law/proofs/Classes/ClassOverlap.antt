@@ -29,7 +29,8 @@ use Rattle.rdm_model.specs.Heard.{heard_head, is_heard}
 use Rattle.rdm_model.specs.Parts.{piece_by, carried_pieces}
 use Rattle.rdm_model.specs.Sends.{Sent}
 use Rattle.rdm_model.specs.Targets.{live_pair}
-use Rattle.rdm_model.specs.Classes.{came_in_part, came_in_part_of, repeats, is_overlap}
+use Rattle.rdm_model.specs.ClassFacts.{came_in_part, came_in_part_of, class_facts}
+use Rattle.rdm_model.specs.Classes.{repeats, is_overlap}
 use Rattle.rdm_model.specs.Local.{heard_by}
 use Rattle.rdm_model.specs.Lawful.{life_deeds}
 use Rattle.rdm_model.specs.Dues.{Sends}
@@ -153,7 +154,7 @@ rtm_brings ps from number tag confirm opt form = rw (eq-eqb number.0 number.0 re
 -- a packet that opens a heard message repeats nothing
 not_repeated : (job : Job) (history : List Entry) (to from : Life) (number : MsgNo) (tag : Option ℕ) (confirm : Bool) (opt : Opt) (form : Form) (d : Datagram) (ports : ℕ) (port_log : List Deed)
     → Arrives job history to from (Spelled (Rtm number tag confirm opt form)) d → (h : Head) → heard_head (life_deeds job history to) from number.0 ≡ Some h
-    → repeats (arriving_scene job history to ports port_log) from number.0 form ≡ false
+    → repeats (class_facts (arriving_scene job history to ports port_log)) from number.0 form ≡ false
 unfolding repeats piece_of
 not_repeated job history to from number tag confirm opt (F.Medium size offset bytes) d ports port_log a h e =
     let form : Form = F.Medium size offset bytes in
@@ -174,7 +175,7 @@ not_repeated job history to from number tag confirm opt (F.LongRead size send io
 -- a packet that opens a message repeats nothing, heard or not
 heard_not_repeated : (job : Job) (history : List Entry) (to from : Life) (number : MsgNo) (tag : Option ℕ) (confirm : Bool) (opt : Opt) (form : Form) (d : Datagram) (ports : ℕ) (port_log : List Deed)
     → Arrives job history to from (Spelled (Rtm number tag confirm opt form)) d → (o : Option Head) → heard_head (life_deeds job history to) from number.0 ≡ o
-    → (is_heard (life_deeds job history to) from number.0 && repeats (arriving_scene job history to ports port_log) from number.0 form) ≡ false
+    → (is_heard (life_deeds job history to) from number.0 && repeats (class_facts (arriving_scene job history to ports port_log)) from number.0 form) ≡ false
 unfolding is_heard
 heard_not_repeated job history to from number tag confirm opt form d ports port_log a None e = and_left _ _ (ap (λ (o : Option Head). is_some o) e)
 heard_not_repeated job history to from number tag confirm opt form d ports port_log a (Some h) e = and_right _ _ (not_repeated job history to from number tag confirm opt form d ports port_log a h e)
@@ -201,7 +202,7 @@ given_brings ps from g n h = rw h refl
 
 -- what arrives overlaps nothing
 pub overlap_free : (job : Job) (history : List Entry) (to from : Life) (item : Item) (d : Datagram) → Arrives job history to from item d → (ports : ℕ) (port_log : List Deed)
-    → is_overlap (arriving_scene job history to ports port_log) from item ≡ false
+    → is_overlap (class_facts (arriving_scene job history to ports port_log)) from item ≡ false
 unfolding is_overlap
 overlap_free job history to from (Spelled (Rtm number tag confirm opt form)) d a ports port_log =
     or_from _ _ (number_from job history to from number.0 (opened job history to from number tag confirm opt form d a.taken).known)

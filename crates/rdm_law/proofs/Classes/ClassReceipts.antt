@@ -17,8 +17,9 @@ use Rattle.rdm_model.specs.Currents.{is_forgotten}
 use Rattle.rdm_model.specs.Scenes.{Scene}
 use Rattle.rdm_model.specs.Sends.{Sent}
 use Rattle.rdm_model.specs.Dues.{progress, is_read, is_pushed, is_complete, is_over, confirms}
-use Rattle.rdm_model.specs.Targets.{live_message, is_confirmed_send, is_no_op}
-use Rattle.rdm_model.specs.Classes.{is_early_receipt, is_mismatch}
+use Rattle.rdm_model.specs.Targets.{live_message, is_confirmed_send}
+use Rattle.rdm_model.specs.ClassFacts.{is_early_receipt, class_facts}
+use Rattle.rdm_model.specs.Classes.{is_mismatch, is_no_op}
 use Rattle.rdm_model.specs.Lawful.{life_deeds}
 use Rattle.rdm_model.proofs.Pushes.{pushed_of}
 use Rattle.rdm_law.proofs.Replies.Clashes.{Clash}
@@ -71,7 +72,7 @@ confirmed_send t c r = and_from t.message.confirm (not (is_read t.kind)) c (ap n
 
 -- a receipt that arrives completes a live confirmed send
 pub receipt_has_op : (job : Job) (history : List Entry) (j i : Life) (number : MsgNo) (connid : Connid) (d : Datagram) (ports : ℕ) (port_log : List Deed)
-    → Arrives job history j i (Spelled (Receipt number connid)) d → is_no_op (arriving_scene job history j ports port_log) i (Spelled (Receipt number connid)) ≡ false
+    → Arrives job history j i (Spelled (Receipt number connid)) d → is_no_op (class_facts (arriving_scene job history j ports port_log)) i (Spelled (Receipt number connid)) ≡ false
 unfolding is_no_op
 receipt_has_op job history j i number connid d ports port_log h =
     let e = receipt_went job history j i number connid d h.played h.taken in
@@ -84,7 +85,7 @@ not_early s t h = ap not h
 
 -- a receipt that arrives comes after the whole message was pushed
 pub receipt_agrees : (job : Job) (history : List Entry) (j i : Life) (number : MsgNo) (connid : Connid) (d : Datagram) (ports : ℕ) (port_log : List Deed)
-    → Arrives job history j i (Spelled (Receipt number connid)) d → is_mismatch (arriving_scene job history j ports port_log) i (Spelled (Receipt number connid)) ≡ false
+    → Arrives job history j i (Spelled (Receipt number connid)) d → is_mismatch (class_facts (arriving_scene job history j ports port_log)) i (Spelled (Receipt number connid)) ≡ false
 unfolding is_mismatch
 receipt_agrees job history j i number connid d ports port_log h =
     let e = receipt_went job history j i number connid d h.played h.taken in

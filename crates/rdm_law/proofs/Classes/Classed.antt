@@ -8,8 +8,8 @@ use Rattle.rdm_model.specs.Deeds.{Item, is_connid}
 use Rattle.rdm_model.specs.Currents.{current}
 use Rattle.rdm_model.specs.Scenes.{Scene}
 use Rattle.rdm_model.specs.Sources.{is_other, is_malformed, has_raw}
-use Rattle.rdm_model.specs.Targets.{is_bad_key, is_no_op}
-use Rattle.rdm_model.specs.Classes.{is_mismatch, is_overlap, item_class}
+use Rattle.rdm_model.specs.ClassFacts.{class_facts}
+use Rattle.rdm_model.specs.Classes.{is_mismatch, is_overlap, item_class, is_bad_key, is_no_op, item_class_by}
 use Rattle.rdm_law.proofs.Lives.Lives.{first_none}
 
 -- no test of the table holds of a datagram
@@ -18,14 +18,14 @@ pub record IsTaken (s : Scene) (from : Life) (to : Connid) (item : Item) : Type 
   pub from_current : is_other (current s.log from.port.0) from ≡ false
   pub well_formed : is_malformed from item ≡ false
   pub known : (is_none (current s.log from.port.0) && not (has_raw item)) ≡ false
-  pub good_key : is_bad_key s from item ≡ false
-  pub has_op : is_no_op s from item ≡ false
-  pub agrees : is_mismatch s from item ≡ false
-  pub new : is_overlap s from item ≡ false
+  pub good_key : is_bad_key (class_facts s) from item ≡ false
+  pub has_op : is_no_op (class_facts s) from item ≡ false
+  pub agrees : is_mismatch (class_facts s) from item ≡ false
+  pub new : is_overlap (class_facts s) from item ≡ false
 
 -- a datagram that has no class passes each test
 pub taken_parts : (s : Scene) (from : Life) (to : Connid) (item : Item) → item_class s from to item ≡ None → IsTaken s from to item
-unfolding item_class
+unfolding item_class_by
 taken_parts s from to item h =
     let a = first_none _ _ _ h in
     let b = first_none _ _ _ a.1 in
@@ -39,7 +39,7 @@ taken_parts s from to item h =
 
 -- a datagram that passes each test has no class
 pub taken_from : (s : Scene) (from : Life) (to : Connid) (item : Item) → IsTaken s from to item → item_class s from to item ≡ None
-unfolding item_class first_case
+unfolding item_class_by first_case
 taken_from s from to item t =
     let a = t.for_life in
     let b = t.from_current in

@@ -24,8 +24,9 @@ use Rattle.rdm_model.specs.Matches.{pairs}
 use Rattle.rdm_model.specs.Receives.{recv_ends, has_ended}
 use Rattle.rdm_model.specs.Parts.{carried_by, carried_pieces}
 use Rattle.rdm_model.specs.Scenes.{Scene}
-use Rattle.rdm_model.specs.Targets.{live_pair, has_shape, is_long_shape, is_read_shape, is_no_op}
-use Rattle.rdm_model.specs.Classes.{came_in_part, came_in_part_of, repeats, is_overlap}
+use Rattle.rdm_model.specs.Targets.{live_pair, has_shape, is_long_shape, is_read_shape}
+use Rattle.rdm_model.specs.ClassFacts.{came_in_part, came_in_part_of, class_facts}
+use Rattle.rdm_model.specs.Classes.{repeats, is_overlap, is_no_op}
 use Rattle.rdm_model.specs.Lawful.{IsApart}
 use Rattle.rdm_model.specs.Local.{heard_by}
 use Rattle.rdm_model.proofs.Matches.{is_pair_member}
@@ -126,7 +127,7 @@ data_missing s from recv n offset len test None h sh k t = (let x = shaped s tes
 data_missing s from recv n offset len test (Some p) h sh k t = pair_missing s from recv n offset len p h k t
 
 -- a piece of an opening that is not a repeat is missing, where its message was heard of before
-opening_missing : (s : Scene) (from : Life) (n : ℕ) (form : Form) (x : Piece) → repeats s from n form ≡ false → piece_of form ≡ Some x
+opening_missing : (s : Scene) (from : Life) (n : ℕ) (form : Form) (x : Piece) → repeats (class_facts s) from n form ≡ false → piece_of form ≡ Some x
     → is_missing (carried_pieces s.own.limits.first s.ms.head s.log from n) (s.ms.head from n).length x.offset (length x.bytes) ≡ true
 unfolding repeats piece_of
 opening_missing s from n (Medium size offset bytes) x h e =
@@ -148,31 +149,31 @@ and_false false b h = inl refl
 
 -- a packet that opens a message and is taken has new bytes
 rtm_new : (s : Scene) (from : Life) (n : ℕ) (tag : Option ℕ) (confirm : Bool) (opt : Opt) (number : MsgNo) (form : Form) (x : Piece) → number.0 ≡ n
-    → is_overlap s from (Spelled (Rtm number tag confirm opt form)) ≡ false → piece_of form ≡ Some x
+    → is_overlap (class_facts s) from (Spelled (Rtm number tag confirm opt form)) ≡ false → piece_of form ≡ Some x
     → IsApart x (carried_pieces s.own.limits.first s.ms.head s.log from n)
 unfolding is_overlap is_heard
 rtm_new s from n tag confirm opt number form x e h is q m =
-    let o = (or_parts (nat_lt number.0 s.own.limits.first) (is_some (heard_head s.log from number.0) && repeats s from number.0 form) h).1 in
-    elim (and_false (is_some (heard_head s.log from number.0)) (repeats s from number.0 form) o) [
+    let o = (or_parts (nat_lt number.0 s.own.limits.first) (is_some (heard_head s.log from number.0) && repeats (class_facts s) from number.0 form) h).1 in
+    elim (and_false (is_some (heard_head s.log from number.0)) (repeats (class_facts s) from number.0 form) o) [
       | inl a ↦ absurd (
           let heard = carried_heard s.own.limits.first s.ms.head s.log from n q m in
           let not_heard : is_some (heard_head s.log from n) ≡ false = subst (λ k. is_some (heard_head s.log from k) ≡ false) e a in
           cc)
       | inr a ↦
-          let r : repeats s from n form ≡ false = subst (λ k. repeats s from k form ≡ false) e a.1 in
+          let r : repeats (class_facts s) from n form ≡ false = subst (λ k. repeats (class_facts s) from k form ≡ false) e a.1 in
           missing_apart (carried_pieces s.own.limits.first s.ms.head s.log from n) (s.ms.head from n).length x.offset (length x.bytes) q (opening_missing s from n form x r is) m
     ]
 
 -- granted bytes that are taken are missing
-granted_missing : (s : Scene) (from : Life) (n : ℕ) (x : Piece) (recv : OpId) (connid : Connid) → is_no_op s from (Spelled (CtsData recv x.offset connid x.bytes)) ≡ false
-    → is_overlap s from (Spelled (CtsData recv x.offset connid x.bytes)) ≡ false → is_pair (pairs s.own.limits.first s.ms.head s.log) recv.0 from n ≡ true
+granted_missing : (s : Scene) (from : Life) (n : ℕ) (x : Piece) (recv : OpId) (connid : Connid) → is_no_op (class_facts s) from (Spelled (CtsData recv x.offset connid x.bytes)) ≡ false
+    → is_overlap (class_facts s) from (Spelled (CtsData recv x.offset connid x.bytes)) ≡ false → is_pair (pairs s.own.limits.first s.ms.head s.log) recv.0 from n ≡ true
     → is_missing (carried_pieces s.own.limits.first s.ms.head s.log from n) (s.ms.head from n).length x.offset (length x.bytes) ≡ true
 unfolding is_no_op is_overlap
 granted_missing s from n x recv connid op over paired =
     data_missing s from recv.0 n x.offset (length x.bytes) is_long_shape (live_pair s from recv.0) refl (not-false (has_shape s is_long_shape (live_pair s from recv.0)) op) paired over
 
 -- read bytes that are taken are missing
-given_missing : (s : Scene) (from : Life) (n : ℕ) (g : ReadData) → is_no_op s from (Gives g) ≡ false → is_overlap s from (Gives g) ≡ false
+given_missing : (s : Scene) (from : Life) (n : ℕ) (g : ReadData) → is_no_op (class_facts s) from (Gives g) ≡ false → is_overlap (class_facts s) from (Gives g) ≡ false
     → is_pair (pairs s.own.limits.first s.ms.head s.log) g.recv_id.0 from n ≡ true
     → is_missing (carried_pieces s.own.limits.first s.ms.head s.log from n) (s.ms.head from n).length g.at (length g.bytes) ≡ true
 unfolding is_no_op is_overlap
@@ -180,18 +181,18 @@ given_missing s from n g op over paired =
     data_missing s from g.recv_id.0 n g.at (length g.bytes) is_read_shape (live_pair s from g.recv_id.0) refl (not-false (has_shape s is_read_shape (live_pair s from g.recv_id.0)) op) paired over
 
 -- a piece that is brought is apart from those that came
-brought_new : (s : Scene) (from : Life) (n : ℕ) (item : Item) (x : Piece) → is_no_op s from item ≡ false → is_overlap s from item ≡ false
+brought_new : (s : Scene) (from : Life) (n : ℕ) (item : Item) (x : Piece) → is_no_op (class_facts s) from item ≡ false → is_overlap (class_facts s) from item ≡ false
     → Brought (pairs s.own.limits.first s.ms.head s.log) from n item x → IsApart x (carried_pieces s.own.limits.first s.ms.head s.log from n)
 brought_new s from n item x op over (inl b) q m =
-    rtm_new s from n b.tag b.confirm b.opt b.number b.form x b.number_is (subst (λ (i : Item). is_overlap s from i ≡ false) b.is over) b.piece_is q m
+    rtm_new s from n b.tag b.confirm b.opt b.number b.form x b.number_is (subst (λ (i : Item). is_overlap (class_facts s) from i ≡ false) b.is over) b.piece_is q m
 brought_new s from n item x op over (inr (inl b)) q m =
-    let o : is_no_op s from (Spelled (CtsData b.recv x.offset b.connid x.bytes)) ≡ false = subst (λ (i : Item). is_no_op s from i ≡ false) b.is op in
-    let v : is_overlap s from (Spelled (CtsData b.recv x.offset b.connid x.bytes)) ≡ false = subst (λ (i : Item). is_overlap s from i ≡ false) b.is over in
+    let o : is_no_op (class_facts s) from (Spelled (CtsData b.recv x.offset b.connid x.bytes)) ≡ false = subst (λ (i : Item). is_no_op (class_facts s) from i ≡ false) b.is op in
+    let v : is_overlap (class_facts s) from (Spelled (CtsData b.recv x.offset b.connid x.bytes)) ≡ false = subst (λ (i : Item). is_overlap (class_facts s) from i ≡ false) b.is over in
     missing_apart (carried_pieces s.own.limits.first s.ms.head s.log from n) (s.ms.head from n).length x.offset (length x.bytes) q
     (granted_missing s from n x b.recv b.connid o v b.paired) m
 brought_new s from n item x op over (inr (inr b)) q m =
-    let o : is_no_op s from (Gives b.data') ≡ false = subst (λ (i : Item). is_no_op s from i ≡ false) b.is op in
-    let v : is_overlap s from (Gives b.data') ≡ false = subst (λ (i : Item). is_overlap s from i ≡ false) b.is over in
+    let o : is_no_op (class_facts s) from (Gives b.data') ≡ false = subst (λ (i : Item). is_no_op (class_facts s) from i ≡ false) b.is op in
+    let v : is_overlap (class_facts s) from (Gives b.data') ≡ false = subst (λ (i : Item). is_overlap (class_facts s) from i ≡ false) b.is over in
     let g = given_missing s from n b.data' o v b.paired in
     let P : ℕ → List ℕ → Type 0 = λ at bytes. is_missing (carried_pieces s.own.limits.first s.ms.head s.log from n) (s.ms.head from n).length at (length bytes) ≡ true in
     missing_apart (carried_pieces s.own.limits.first s.ms.head s.log from n) (s.ms.head from n).length x.offset (length x.bytes) q

@@ -22,7 +22,8 @@ use Rattle.rdm_model.specs.Matches.{Receive, receives, events_by, matching, pair
 use Rattle.rdm_model.specs.Receives.{has_ended, is_filled, concerns, recv_ends}
 use Rattle.rdm_model.specs.Scenes.{Scene}
 use Rattle.rdm_model.specs.Targets.{live_pair}
-use Rattle.rdm_model.specs.Answers.{answer_of, is_unmatched}
+use Rattle.rdm_model.specs.Facts.{is_unmatched}
+use Rattle.rdm_model.specs.Answers.{answer_of, answer_by}
 use Rattle.rdm_model.specs.Local.{heard_by}
 use Rattle.rdm_model.proofs.SameMatches.{matching_same}
 use Rattle.rdm_model.proofs.Grows.{agree_grows}
@@ -51,7 +52,7 @@ withdraws m bound n r numbered f =
 
 -- a cancel that did is of a posted receive
 pub did_posted : (s : Scene) (recv : RecvNo) (what : DidWhat) → answer_of s (Cancel recv) ≡ DidAnswer what → is_unmatched s recv.0 ≡ true
-unfolding answer_of first_case
+unfolding answer_by first_case
 did_posted s recv what h =
     (elim (is_unmatched s recv.0) as (λ b. cond (not b) (Refused NotPosted) (DidAnswer Plain) ≡ DidAnswer what → b ≡ true) [
       | true ↦ λ k. refl

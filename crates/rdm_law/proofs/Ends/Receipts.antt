@@ -15,8 +15,9 @@ use Rattle.rdm_model.specs.Beginnings.{Own, Messages}
 use Rattle.rdm_model.specs.Sends.{Sent, sends}
 use Rattle.rdm_model.specs.Dues.{Progress, progress, is_pushed, is_over, confirms, live_sends}
 use Rattle.rdm_model.specs.Scenes.{Scene}
-use Rattle.rdm_model.specs.Targets.{live_message, is_confirmed_send, is_no_op}
-use Rattle.rdm_model.specs.Classes.{is_early_receipt, is_mismatch}
+use Rattle.rdm_model.specs.Targets.{live_message, is_confirmed_send}
+use Rattle.rdm_model.specs.ClassFacts.{is_early_receipt}
+use Rattle.rdm_model.specs.Classes.{is_mismatch, is_no_op}
 use Rattle.rdm_model.specs.Local.{heard_by}
 use Rattle.rdm_model.proofs.Pushes.{pushed_of, member_later}
 use Rattle.rdm_model.proofs.Served.{pushed_longer}

@@ -21,7 +21,8 @@ use Rattle.rdm_model.specs.Sends.{Sent, sends}
 use Rattle.rdm_model.specs.Dues.{progress, is_pushed, is_over, ends_send, confirms, live_of, live_sends}
 use Rattle.rdm_model.specs.Completions.{recv_completions, ended_sends, send_completion, completions_by, completions}
 use Rattle.rdm_model.specs.Scenes.{Scene}
-use Rattle.rdm_model.specs.Targets.{live_send, is_read_send, is_no_op}
+use Rattle.rdm_model.specs.Targets.{live_send, is_read_send}
+use Rattle.rdm_model.specs.Classes.{is_no_op}
 use Rattle.rdm_model.specs.Local.{heard_by}
 use Rattle.rdm_model.proofs.Numbers.{NewSent, sends_step, sends_one, send_below, new_number}
 use Rattle.rdm_model.proofs.Pushes.{pushed_of, pushed_step, none_pushed, member_later}

@@ -23,7 +23,8 @@ use Rattle.rdm_model.specs.Beginnings.{Own, Messages}
 use Rattle.rdm_model.specs.Regions.{regions}
 use Rattle.rdm_model.specs.Sends.{Sent, sends_to, new_sent, sent_to_current, bytes_of, sent_by, with_sent, sends}
 use Rattle.rdm_model.specs.Scenes.{Scene}
-use Rattle.rdm_model.specs.Answers.{regions_of, is_out_of_range, has_no_number, has_no_region, send_answer, recv_answer, answer_of}
+use Rattle.rdm_model.specs.Facts.{Facts, facts_of, regions_of}
+use Rattle.rdm_model.specs.Answers.{is_out_of_range, has_no_number, has_no_region, send_answer, recv_answer, answer_of, answer_by}
 use Rattle.rdm_model.specs.Local.{heard_by}
 use Rattle.rdm_law.proofs.Lives.Lives.{life_scene, LifeStep, LifeLocal}
 use Rattle.rdm_law.proofs.Fits.RegionsFit.{sizes, RangeFits, AllRangesFit}
@@ -41,11 +42,11 @@ case_past true why cs last what h = absurd (refused_did why what h)
 case_past false why cs last what h = (refl, h)
 
 -- a send that did has its ranges in their regions, and a number left
-send_answered : (s : Scene) (req : SendReq) (what : DidWhat) → send_answer s req ≡ DidAnswer what
-    → (list_any (λ (p : Span). is_out_of_range s p.region.0 p.at p.len) req.parts ≡ false) × (has_no_number s (current s.log req.to.0) ≡ false)
+send_answered : (f : Facts) (req : SendReq) (what : DidWhat) → send_answer f req ≡ DidAnswer what
+    → (list_any (λ (p : Span). is_out_of_range f p.region.0 p.at p.len) req.parts ≡ false) × (has_no_number f (f.current req.to.0) ≡ false)
 unfolding send_answer
-send_answered s req what h =
-    let a = case_past (list_any (λ (p : Span). has_no_region s p.region.0) req.parts) NoRegion _ _ what h in
+send_answered f req what h =
+    let a = case_past (list_any (λ (p : Span). has_no_region f p.region.0) req.parts) NoRegion _ _ what h in
     let b = case_past _ Range _ _ what a.1 in
     let c = case_past _ NoEntry _ _ what b.1 in
     let d = case_past _ Busy _ _ what c.1 in
@@ -53,21 +54,21 @@ send_answered s req what h =
     (b.0, e.0)
 
 -- so has a receive
-recv_answered : (s : Scene) (req : RecvReq) (what : DidWhat) → recv_answer s req ≡ DidAnswer what → is_out_of_range s req.region.0 req.at req.len ≡ false
+recv_answered : (f : Facts) (req : RecvReq) (what : DidWhat) → recv_answer f req ≡ DidAnswer what → is_out_of_range f req.region.0 req.at req.len ≡ false
 unfolding recv_answer
-recv_answered s req what h =
-    let a = case_past (has_no_region s req.region.0) NoRegion _ _ what h in
+recv_answered f req what h =
+    let a = case_past (has_no_region f req.region.0) NoRegion _ _ what h in
     let b = case_past _ Range _ _ what a.1 in
     b.0
 
 -- what is not out of range ends within its region
-in_range : (s : Scene) (region at len : ℕ) → is_out_of_range s region at len ≡ false → at + len ≤ length (get_or (regions_of s) region [])
+in_range : (s : Scene) (region at len : ℕ) → is_out_of_range (facts_of s) region at len ≡ false → at + len ≤ length (get_or (regions_of s) region [])
 unfolding is_out_of_range
 in_range s region at len h = ltb-false _ _ h
 
 -- so it ends within the size that the region was registered with
 in_sizes : (ports : ℕ) (own : Own) (port_log log : List Deed) (region at len : ℕ) → AllRangesFit log
-    → is_out_of_range (life_scene ports own port_log log) region at len ≡ false → at + len ≤ get_or (sizes log) region 0
+    → is_out_of_range (facts_of (life_scene ports own port_log log)) region at len ≡ false → at + len ≤ get_or (sizes log) region 0
 unfolding regions_of
 in_sizes ports own port_log log region at len fit h =
     let a = in_range (life_scene ports own port_log log) region at len h in
@@ -76,13 +77,13 @@ in_sizes ports own port_log log region at len fit h =
 
 -- a deed of a life has its range in its region
 range_step : (own : Own) (before : List Deed) (d : Deed) → AllRangesFit before → LifeStep own before d → RangeFits before d
-unfolding answer_of
+unfolding answer_by
 range_step own before (Did (Send req)) fit step =
     let s = life_scene step.0 own step.1 before in
-    let none = (send_answered s req step.2 step.3).0 in
-    λ p m. in_sizes step.0 own step.1 before p.region.0 p.at p.len fit (list_any_false (λ (q : Span). is_out_of_range s q.region.0 q.at q.len) req.parts none p m)
+    let none = (send_answered (facts_of s) req step.2 step.3).0 in
+    λ p m. in_sizes step.0 own step.1 before p.region.0 p.at p.len fit (list_any_false (λ (q : Span). is_out_of_range (facts_of s) q.region.0 q.at q.len) req.parts none p m)
 range_step own before (Did (Recv req)) fit step =
-    in_sizes step.0 own step.1 before req.region.0 req.at req.len fit (recv_answered (life_scene step.0 own step.1 before) req step.2 step.3)
+    in_sizes step.0 own step.1 before req.region.0 req.at req.len fit (recv_answered (facts_of (life_scene step.0 own step.1 before)) req step.2 step.3)
 range_step own before _ fit step = tt
 
 -- the ranges of what a life accepted lie in their regions
@@ -153,7 +154,7 @@ AllNumbersFit first [] = Unit {0}
 AllNumbersFit first (d ∷ before) = AllNumbersFit first before × NumberFits first before d
 
 -- a message to a life that has a number left has one
-number_left : (s : Scene) (o : Option Life) (to : Life) → o ≡ Some to → has_no_number s o ≡ false → s.own.limits.first + length (sends_to (sends s.own s.ms s.log) to) < 4294967296
+number_left : (s : Scene) (o : Option Life) (to : Life) → o ≡ Some to → has_no_number (facts_of s) o ≡ false → s.own.limits.first + length (sends_to (sends s.own s.ms s.log) to) < 4294967296
 unfolding has_no_number
 number_left s None to is h = cc
 number_left s (Some l) to is h =
@@ -162,10 +163,10 @@ number_left s (Some l) to is h =
 
 -- a message of a deed has a number
 number_step : (own : Own) (before : List Deed) (d : Deed) → LifeStep own before d → NumberFits own.limits.first before d
-unfolding answer_of
+unfolding answer_by
 number_step own before (Did (Send req)) step = λ to is.
     let s = life_scene step.0 own step.1 before in
-    let a = number_left s (current before req.to.0) to is (send_answered s req step.2 step.3).1 in
+    let a = number_left s (current before req.to.0) to is (send_answered (facts_of s) req step.2 step.3).1 in
     let b = sends_to_count own (heard_by own.limits.first before) before to in
     omega arith
 number_step own before _ step = tt

@@ -30,7 +30,7 @@ use Rattle.rdm_model.specs.Beginnings.{own_of, rank_of, life_at}
 use Rattle.rdm_model.specs.Currents.{inserted_by, last_inserted, seen_by, first_seen, current}
 use Rattle.rdm_model.specs.Notes.{tells_open, opens, knows_open}
 use Rattle.rdm_model.specs.Scenes.{Scene, scene, deeds_at}
-use Rattle.rdm_model.specs.Answers.{answer_of}
+use Rattle.rdm_model.specs.Answers.{answer_of, answer_by, insert_answer}
 use Rattle.rdm_model.specs.Classes.{class_of}
 use Rattle.rdm_model.specs.Steps.{Does}
 use Rattle.rdm_model.specs.Local.{own_scene, Local}
@@ -135,7 +135,7 @@ first_yes false x z cs what h none = refl
 
 -- an insert that did was of a life that the port knew to be open
 insert_knows : (s : Scene) (l : Life) (what : DidWhat) → answer_of s (Insert l) ≡ DidAnswer what → knows_open s.own.life.port.0 s.port_log l ≡ true
-unfolding answer_of
+unfolding answer_by insert_answer
 insert_knows s l what h = not-false (knows_open s.own.life.port.0 s.port_log l) (first_yes (not (knows_open s.own.life.port.0 s.port_log l)) _ _ _ what h (λ e. cc))
 
 -- a scene's life is of its port

@@ -32,7 +32,7 @@ use Rattle.rdm_model.specs.Completions.{completions, poll_count}
 use Rattle.rdm_model.specs.Scenes.{Scene, scene, deeds_at}
 use Rattle.rdm_model.specs.Answers.{answer_of}
 use Rattle.rdm_model.specs.Going.{Going, GoesNote, Goes, due_going, life_going, note_going, going, Bears, IsGoing, GoesNext}
-use Rattle.rdm_model.specs.Classes.{item_class, body_class, class_of}
+use Rattle.rdm_model.specs.Classes.{item_class, body_class, class_of, item_class_by}
 use Rattle.rdm_model.specs.Takes.{class_answer, handled_answer}
 use Rattle.rdm_model.specs.Steps.{Does}
 use Rattle.rdm_model.specs.Local.{heard_by, own_scene, Local}
@@ -190,7 +190,7 @@ taken_class s d (Some class') entered h = cc
 
 -- what a life takes is for it
 pub item_to : (s : Scene) (from : Life) (to : Connid) (item : Item) → item_class s from to item ≡ None → is_connid s.now to ≡ true
-unfolding item_class
+unfolding item_class_by
 item_to s from to item h = not-false (is_connid s.now to) (first_none (not (is_connid s.now to)) ToOther _ h).0
 
 -- a datagram that is taken has no class

@@ -14,7 +14,7 @@ use Rattle.rdm_model.specs.Deeds.{Deed, Did}
 use Rattle.rdm_model.specs.Currents.{inserted_by, last_inserted, first_seen, current, is_current, was_current, is_superseded, other_life, forgotten_by, is_forgotten}
 use Rattle.rdm_model.specs.Sources.{is_other}
 use Rattle.rdm_model.specs.Beginnings.{Own}
-use Rattle.rdm_model.specs.Answers.{answer_of}
+use Rattle.rdm_model.specs.Answers.{answer_of, answer_by, insert_answer}
 use Rattle.rdm_law.proofs.Lives.Lives.{life_scene, LifeStep, LifeLocal}
 use Rattle.rdm_law.proofs.Lives.Held.{Replaced, kept_current, current_port}
 use Rattle.rdm_num.proofs.Lives.{same_life-true, same_life-refl}
@@ -28,7 +28,7 @@ second_false false false x y z what h ny nx = refl
 
 -- an insert that did was of no life that was replaced
 insert_fresh : (ports : ℕ) (own : Own) (port_log log : List Deed) (l : Life) (what : DidWhat) → answer_of (life_scene ports own port_log log) (Insert l) ≡ DidAnswer what → is_superseded log l ≡ false
-unfolding answer_of
+unfolding answer_by insert_answer
 insert_fresh ports own port_log log l what h = second_false _ (is_superseded log l) _ _ _ what h (λ w e. cc) (λ w e. cc)
 
 -- a life that was replaced is superseded

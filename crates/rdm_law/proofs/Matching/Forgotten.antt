@@ -16,7 +16,7 @@ use Rattle.rdm_model.specs.Deeds.{Deed, Did, Took, Item, is_connid}
 use Rattle.rdm_model.specs.Beginnings.{Own, Heads}
 use Rattle.rdm_model.specs.Currents.{current, is_current, forgotten_by, is_forgotten, named_life}
 use Rattle.rdm_model.specs.Sources.{is_other}
-use Rattle.rdm_model.specs.Classes.{item_class}
+use Rattle.rdm_model.specs.Classes.{item_class, item_class_by}
 use Rattle.rdm_model.specs.Matches.{arrival, events_by, matching, pairs}
 use Rattle.rdm_law.proofs.Lives.Lives.{LifeLocal, LifeStep, life_scene, first_none}
 use Rattle.rdm_law.proofs.Lives.Held.{current_port}
@@ -136,7 +136,7 @@ forgets_rest l (k ∷ ks) m h =
 
 -- a datagram that a life takes is not of one that it forgot
 pub took_kept : (own : Own) (before : List Deed) (from l : Life) (item : Item) → LifeLocal own (Took from item ∷ before) → is_forgotten before l ≡ true → from ≡ l → ⊥
-unfolding item_class
+unfolding item_class_by
 took_kept own before from l item local forgotten is =
     let step : LifeStep own before (Took from item) = local.1 in
     let s = life_scene step.0 own step.1 before in

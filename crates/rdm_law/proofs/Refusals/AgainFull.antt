@@ -20,7 +20,8 @@ use Rattle.rdm_model.specs.declared.entry.Entry.{Entry}
 use Rattle.rdm_model.specs.Completions.{tx_count, rx_count, cq_count}
 use Rattle.rdm_model.specs.Deeds.{log_of}
 use Rattle.rdm_model.specs.Scenes.{Scene}
-use Rattle.rdm_model.specs.Answers.{cq_is_full, send_answer, recv_answer, answer_of, is_entry}
+use Rattle.rdm_model.specs.Facts.{facts_of}
+use Rattle.rdm_model.specs.Answers.{cq_is_full, send_answer, recv_answer, answer_of, is_entry, answer_by, insert_answer}
 use Rattle.rdm_model.specs.Settled.{left_at, left_answer, answer_or_worn, instruction_left, is_worn}
 use Rattle.rdm_model.specs.Lawful.{sent_scene}
 use Rattle.rdm_law.specs.Clauses.{IsFull, AgainIsFull}
@@ -43,7 +44,7 @@ again_is a b h = cc
 
 -- the last two cases of an operation are its pools
 by_pools : (s : Scene) (mine pool : PoolName) (full : Bool) (what : DidWhat) → (full ≡ true → IsFull s mine)
-    → first_case ((full, Again mine) ∷ (cq_is_full s, Again Cq) ∷ []) (Did what) ≡ Again pool → IsFull s pool
+    → first_case ((full, Again mine) ∷ (cq_is_full (facts_of s), Again Cq) ∷ []) (Did what) ≡ Again pool → IsFull s pool
 unfolding first_case cq_is_full
 by_pools s mine pool true what own h = subst (IsFull s) (again_is mine pool h) (own refl)
 by_pools s mine pool false what own h =
@@ -53,14 +54,14 @@ by_pools s mine pool false what own h =
     ]) refl h
 
 -- a send
-send_full : (s : Scene) (req : SendReq) (pool : PoolName) → send_answer s req ≡ Again pool → IsFull s pool
+send_full : (s : Scene) (req : SendReq) (pool : PoolName) → send_answer (facts_of s) req ≡ Again pool → IsFull s pool
 unfolding send_answer
 send_full s req pool h =
     by_pools s Tx pool _ _ (leb-true s.own.limits.tx (tx_count s.own s.ms s.log))
     (past_yet _ Yet.Handshake _ _ pool (past_refusal _ Why.NoConfirm _ _ pool (past_refusal _ Why.Numbers _ _ pool (past_refusal _ Why.Busy _ _ pool (past_refusal _ Why.NoEntry _ _ pool (past_refusal _ Why.Range _ _ pool (past_refusal _ Why.NoRegion _ _ pool h)))))))
 
 -- a receive
-recv_full : (s : Scene) (req : RecvReq) (pool : PoolName) → recv_answer s req ≡ Again pool → IsFull s pool
+recv_full : (s : Scene) (req : RecvReq) (pool : PoolName) → recv_answer (facts_of s) req ≡ Again pool → IsFull s pool
 unfolding recv_answer
 recv_full s req pool h =
     by_pools s Rx pool _ _ (leb-true s.own.limits.rx (rx_count s.own s.ms.head s.log))
@@ -87,7 +88,7 @@ cancel_again false pool h = cc
 
 -- an instruction
 answer_full : (s : Scene) (instr : Instr) (pool : PoolName) → answer_of s instr ≡ Again pool → IsFull s pool
-unfolding answer_of
+unfolding answer_by insert_answer
 answer_full s (OpenLife connid) pool h = cc
 answer_full s (Insert life) pool h = absurd (insert_again _ _ pool h)
 answer_full s (Reg content) pool h = cc

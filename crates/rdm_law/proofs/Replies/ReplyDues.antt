@@ -15,7 +15,8 @@ use Rattle.rdm_model.specs.Sends.{Sent, sends}
 use Rattle.rdm_model.specs.Replies.{Reply}
 use Rattle.rdm_model.specs.Dues.{Replies, progress}
 use Rattle.rdm_model.specs.Scenes.{Scene}
-use Rattle.rdm_model.specs.Targets.{live_send, is_good_ask, is_bad_key}
+use Rattle.rdm_model.specs.Targets.{live_send, is_good_ask}
+use Rattle.rdm_model.specs.Classes.{is_bad_key}
 use Rattle.rdm_model.specs.Local.{heard_by}
 use Rattle.rdm_model.proofs.Rows.{overlaps_from}
 use Rattle.rdm_model.proofs.SameRegions.{Agree, agree_before, sends_same}

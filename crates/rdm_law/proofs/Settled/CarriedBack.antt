@@ -19,7 +19,8 @@ use Rattle.rdm_model.specs.Deeds.{Deed, Took, Item, Spelled, Gives}
 use Rattle.rdm_model.specs.Beginnings.{Own, Heads}
 use Rattle.rdm_model.specs.Matches.{pairs}
 use Rattle.rdm_model.specs.Parts.{piece_by, carried_by, carried_pieces}
-use Rattle.rdm_model.specs.Targets.{live_pair, has_shape, is_long_shape, is_read_shape, is_no_op}
+use Rattle.rdm_model.specs.Targets.{live_pair, has_shape, is_long_shape, is_read_shape}
+use Rattle.rdm_model.specs.Classes.{is_no_op}
 use Rattle.rdm_model.specs.Scenes.{Scene}
 use Rattle.rdm_model.specs.Local.{heard_by}
 use Rattle.rdm_model.proofs.Matches.{pair_still, pair_passes, heard_still}

@@ -14,7 +14,9 @@ use Rattle.rdm_model.specs.Matches.{matching, pairs}
 use Rattle.rdm_model.specs.Receives.{is_filled}
 use Rattle.rdm_model.specs.Replies.{Reply, reply, handshake_by, asks_for, end_for, pair_items, pair_replies, given_of, given_by, replies_by}
 use Rattle.rdm_model.specs.Sends.{Sent, sends}
-use Rattle.rdm_model.specs.Targets.{live_send, is_good_ask, is_bad_key}
+use Rattle.rdm_model.specs.Targets.{live_send, is_good_ask}
+use Rattle.rdm_model.specs.ClassFacts.{class_facts}
+use Rattle.rdm_model.specs.Classes.{is_bad_key}
 use Rattle.rdm_model.specs.Scenes.{Scene}
 use Rattle.rdm_model.specs.Local.{heard_by}
 use Rattle.rdm_model.proofs.Matches.{is_pair_member}
@@ -125,7 +127,7 @@ good_send s from a None h = cc
 good_send s from a (Some t) h = (t, refl)
 
 -- a send of that number to that life was there
-ask_sent : (s : Scene) (from : Life) (a : ReadAsk) → is_bad_key s from (Asks a) ≡ false → (t : Sent) × Member t (sends s.own s.ms s.log) × (same_life t.to from && t.number == a.send_id.0 ≡ true)
+ask_sent : (s : Scene) (from : Life) (a : ReadAsk) → is_bad_key (class_facts s) from (Asks a) ≡ false → (t : Sent) × Member t (sends s.own s.ms s.log) × (same_life t.to from && t.number == a.send_id.0 ≡ true)
 unfolding is_bad_key live_send
 ask_sent s from a h =
     let t = good_send s from a (live_send s from a.send_id.0) h in

@@ -16,8 +16,9 @@ use Rattle.rdm_model.specs.Deeds.{Deed, Took, Spelled}
 use Rattle.rdm_model.specs.Beginnings.{Own, Messages}
 use Rattle.rdm_model.specs.Sends.{Sent, sends}
 use Rattle.rdm_model.specs.Grants.{Grant, grants_by, grants, grant_bytes}
-use Rattle.rdm_model.specs.Targets.{live_send, is_long_send, is_no_op}
-use Rattle.rdm_model.specs.Classes.{allowed_bytes, is_wrong_grant, is_mismatch}
+use Rattle.rdm_model.specs.Targets.{live_send, is_long_send}
+use Rattle.rdm_model.specs.ClassFacts.{allowed_bytes, is_wrong_grant}
+use Rattle.rdm_model.specs.Classes.{is_mismatch, is_no_op}
 use Rattle.rdm_model.specs.Scenes.{Scene}
 use Rattle.rdm_model.specs.Dues.{pieces_in, live_sends}
 use Rattle.rdm_model.specs.Local.{heard_by}
