@@ -1,5 +1,5 @@
 -- The class of a datagram by the endpoint is the one that the definitions give it.
-use Rattle.std.proofs.Common.{◌≡◌, ◌≤◌, ℕ, Bool, true, false, not, List, [], ◌∷◌, Option, Some, None, refl, arith, ap, ◌∙◌, sym}
+use Rattle.std.proofs.Common.{◌≡◌, ◌≤◌, ℕ, Bool, true, false, cond, not, List, [], ◌∷◌, Option, Some, None, refl, arith, ap, ◌∙◌, sym}
 use Rattle.std.specs.Prelude.{◌&&◌, ◌||◌, ◌==◌, nat_le, nat_lt, is_none, is_some}
 use Rattle.std.proofs.lemmas.Bool.{and_parts, false_from_ne_true, eqb-true, le-leb, le-ltb}
 use Rattle.rdm_lists.specs.Lists.{Member, first_case}
@@ -17,7 +17,7 @@ use Rattle.rdm_model.specs.Currents.{current}
 use Rattle.rdm_model.specs.Heads.{same_head}
 use Rattle.rdm_model.specs.Heard.{heard_head, is_heard}
 use Rattle.rdm_model.specs.Sources.{is_other, is_malformed, has_raw}
-use Rattle.rdm_model.specs.ClassFacts.{is_received, class_facts}
+use Rattle.rdm_model.specs.ClassFacts.{is_received, awaited_head, class_facts}
 use Rattle.rdm_model.specs.Classes.{is_other_head, is_mismatch, is_overlap, item_class, is_bad_key, is_no_op, item_class_by}
 use Rattle.rdm_model.specs.Scenes.{Scene}
 use Rattle.rdm_ep.specs.declared.state.Inbound.{Inbound}
@@ -97,17 +97,18 @@ message_class log v from number head bytes keeps u low h =
     rw (a, b, c, u) refl
 
 -- a message that was not heard of has no other head
-unheard_no_other : (o : Option Head) (head : Head) (b : Bool) → o ≡ None → (is_other_head o head && b) ≡ false
+unheard_no_other : (received : Bool) (o : Option Head) (head : Head) → o ≡ None → is_other_head (cond received None o) head ≡ false
 unfolding is_other_head
-unheard_no_other o head b e = rw e refl
+unheard_no_other true o head e = refl
+unheard_no_other false o head e = rw e refl
 
 -- what the life expects of an eager item is what the endpoint does
 expected_agrees : (ports : ℕ) (port_log log : List Deed) (v : EndpointView) (from : Life) (item : Item) → IsEagerItem v.own log from item → Keeps log v
     → expected_class (life_scene ports v.own port_log log) from item ≡ load_class v from item
-unfolding expected_class first_case load_class head_of is_bad_key is_no_op is_mismatch is_overlap
+unfolding expected_class first_case load_class head_of is_bad_key is_no_op is_mismatch is_overlap awaited_head
 expected_agrees ports port_log log v from (Spelled (Rtm number tag confirm opt (Eager bytes))) h keeps =
     let no : heard_head log from number.0 ≡ None = unheard log from from number.0 number.0 refl refl h.2 in
-    let a = unheard_no_other (heard_head log from number.0) (head_of tag confirm opt (Eager bytes)) (not (is_received (life_scene ports v.own port_log log) from number.0)) no in
+    let a = unheard_no_other (is_received (life_scene ports v.own port_log log) from number.0) (heard_head log from number.0) (head_of tag confirm opt (Eager bytes)) no in
     let b : nat_lt number.0 v.own.limits.first ≡ false = le-ltb number.0 v.own.limits.first (let e = h.1 in omega arith) in
     let c = h.2 in
     (rw (a, b, c) refl) ∙ sym (message_class log v from number.0 (head_of tag confirm opt (Eager bytes)) bytes keeps h.0 h.1 h.2)

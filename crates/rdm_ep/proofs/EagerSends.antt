@@ -65,7 +65,7 @@ IsOfOne s = (s.kind ≡ Eager) × (s.message.confirm ≡ false)
 
 -- a send of one packet is so whatever its headers
 new_eager : (own : Own) (before : List Deed) (n m : ℕ) (req : SendReq) (to : Life) (rs : List (List ℕ)) → FitsOnePacket own req
-    → IsOfOne (new_sent own before n m req to (bytes_of rs req.parts))
+    → IsOfOne (new_sent own (known_word before to) n m req to (bytes_of rs req.parts))
 unfolding new_sent
 new_eager own before n m req to rs h =
     let raw : Bool = wants_raw (known_word before to) in

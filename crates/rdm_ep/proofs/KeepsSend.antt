@@ -42,7 +42,7 @@ outbound_by own req to number message known regions =
 -- the send that a deed makes to a life
 abbrev pub send_to : Own → List Deed → SendReq → Life → Sent
 send_to own log req to =
-    new_sent own log (length (own_sends own log)) (length (sends_to (own_sends own log) to)) req to (bytes_of (own_regions own log) req.parts)
+    new_sent own (known_word log to) (length (own_sends own log)) (length (sends_to (own_sends own log) to)) req to (bytes_of (own_regions own log) req.parts)
 
 -- the send of the definitions, as the endpoint keeps it
 send_to_is : (own : Own) (log : List Deed) (req : SendReq) (to : Life)

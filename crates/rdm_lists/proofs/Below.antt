@@ -1,11 +1,12 @@
 -- The numbers below a bound.
-use Rattle.std.proofs.Common.{[], arith, inl, inr, suc, ℕ, ◌≡◌, ◌<◌, ◌⊎◌, Bool, ap, true, zero, ◌∙◌, refl, map, ◌∷◌, add-one, length, ◌-◌, get_or, sym}
+use Rattle.std.proofs.Common.{[], arith, inl, inr, suc, ℕ, ◌≡◌, ◌<◌, ◌⊎◌, Bool, ap, true, false, Some, None, zero, ◌∙◌, refl, map, ◌∷◌, add-one, length, ◌-◌, get_or, sym}
 use Rattle.std.proofs.lemmas.Bool.{cases_eq, and_parts, and_from, cases_lt}
 use Rattle.rdm_lists.specs.Lists.{each_below, below, Member}
 use Rattle.std.proofs.lemmas.List.{map-append, length_push, get_or_append_left, get_or_push}
-use Rattle.rdm_lists.proofs.Members.{member-append_left, member-append_right, member-append_cases}
+use Rattle.rdm_lists.proofs.Members.{member-append_left, member-append_right, member-append_cases, member_find}
 use Rattle.std.specs.List.{list_all}
-use Rattle.std.proofs.lemmas.List.Folds.{list_all-append}
+use Rattle.std.specs.Prelude.{find, is_some}
+use Rattle.std.proofs.lemmas.List.Folds.{list_all-append, find-append}
 
 -- a number below n + 1 is n or below n
 pub last_or_less : (k n : ℕ) → k < suc n → (k ≡ n) ⊎ (k < n)
@@ -97,3 +98,32 @@ all_below p (suc n) k h l =
       | inl less ↦ all_below p n k parts.0 less
       | inr more ↦ (let e : k ≡ n = omega arith in ap p e ∙ (and_parts (p n) true parts.1).0)
     ]
+
+-- where no number is found, each one below the bound fails the test
+pub none_below : (t : ℕ → Bool) (n : ℕ) → find t (below n) ≡ None → (k : ℕ) → k < n → t k ≡ false
+none_below t n none k less =
+    (elim (t k) as (λ b. t k ≡ b → b ≡ false) [
+      | true ↦ λ is. (let found : true ≡ false = sym (member_find t k (below n) (below_member n k less) is) ∙ ap is_some none in cc)
+      | false ↦ λ is. refl
+    ])
+    refl
+
+-- where each number below the bound fails the test, none is found
+pub nothing_below : (t : ℕ → Bool) (n : ℕ) → ((k : ℕ) → k < n → t k ≡ false) → find t (below n) ≡ None
+unfolding below
+nothing_below t zero fails = refl
+nothing_below t (suc n) fails =
+    find-append t (below n) (n ∷ []) ∙ rw (nothing_below t n (λ k less. fails k (omega arith)), fails n (omega arith))
+
+-- a number that passes where no lesser one does is the one that is found
+pub least_below : (t : ℕ → Bool) (n k : ℕ) → k < n → t k ≡ true → ((j : ℕ) → j < k → t j ≡ false) → find t (below n) ≡ Some k
+unfolding below
+least_below t zero k less is before = absurd (omega arith)
+least_below t (suc n) k less is before =
+    find-append t (below n) (n ∷ [])
+    ∙ (elim (last_or_less k n less) [
+      | inl last ↦
+          let here : t n ≡ true = ap t (sym last) ∙ is in
+          rw (nothing_below t n (λ j l. before j (omega arith)), here, last)
+      | inr lower ↦ rw (least_below t n k lower is before)
+    ])

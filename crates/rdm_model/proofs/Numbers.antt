@@ -25,12 +25,12 @@ pub record NewSent (own : Own) (ms : Messages) (before : List Deed) (sents : Lis
   pub to : Life
   pub by : d ≡ Did (Send req)
   pub current : current before req.to.0 ≡ Some to
-  pub is : s ≡ new_sent own before (length sents) (length (sends_to sents to)) req to (bytes_of (regions own.limits.first ms before) req.parts)
+  pub is : s ≡ new_sent own (known_word before to) (length sents) (length (sends_to sents to)) req to (bytes_of (regions own.limits.first ms before) req.parts)
 
 -- a send to the current life is the only one
 sent_to_is : (own : Own) (before : List Deed) (sents : List Sent) (req : SendReq) (o : Option Life) (bytes : List ℕ)
     → (sent_to_current own before sents req o bytes ≡ [])
-    ⊎ ((to : Life) × (o ≡ Some to) × (sent_to_current own before sents req o bytes ≡ new_sent own before (length sents) (length (sends_to sents to)) req to bytes ∷ []))
+    ⊎ ((to : Life) × (o ≡ Some to) × (sent_to_current own before sents req o bytes ≡ new_sent own (known_word before to) (length sents) (length (sends_to sents to)) req to bytes ∷ []))
 unfolding sent_to_current
 sent_to_is own before sents req None bytes = inl refl
 sent_to_is own before sents req (Some to) bytes = inr (to, refl, refl)
@@ -106,7 +106,7 @@ send_below own ms log s m = slice_get_within (sends own ms log) s.number s (send
 
 -- a message of a new send has the next number to its life
 pub new_placed : (own : Own) (before : List Deed) (sents : List Sent) (n : ℕ) (req : SendReq) (to : Life) (bytes : List ℕ) (s : Sent)
-    → s ≡ new_sent own before n (length (sends_to sents to)) req to bytes
+    → s ≡ new_sent own (known_word before to) n (length (sends_to sents to)) req to bytes
     → (s.to ≡ to) × (s.message.no.0 ≡ own.limits.first + length (sends_to sents s.to))
 unfolding new_sent
 new_placed own before sents n req to bytes s e =
@@ -175,7 +175,7 @@ IsOf own before s =
     × (s.kind ≡ choose (length s.message.bytes) (is_some s.req.tag) (is_some s.req.cq_data) (wants_raw (known_word before s.to)) own.features (known_word before s.to) own.limits)
 
 -- the parts of a new send
-pub new_is_of : (own : Own) (before : List Deed) (n m : ℕ) (req : SendReq) (to : Life) (bytes : List ℕ) → IsOf own before (new_sent own before n m req to bytes)
+pub new_is_of : (own : Own) (before : List Deed) (n m : ℕ) (req : SendReq) (to : Life) (bytes : List ℕ) → IsOf own before (new_sent own (known_word before to) n m req to bytes)
 unfolding new_sent
 new_is_of own before n m req to bytes = (refl, refl, refl, refl, refl)
 

@@ -1,5 +1,5 @@
 -- What the class of a datagram depends on. A scene tells it; so does whatever keeps it.
-use Rattle.std.specs.Prelude.{ℕ, ◌+◌, ◌-◌, Bool, true, false, not, ◌&&◌, ◌||◌, ◌==◌, nat_lt, length, Option, Some, None}
+use Rattle.std.specs.Prelude.{ℕ, ◌+◌, ◌-◌, Bool, true, false, not, ◌&&◌, ◌||◌, ◌==◌, nat_lt, if◌then◌else◌, length, Option, Some, None}
 use Rattle.std.specs.List.{list_any}
 use Rattle.rdm_num.specs.Pieces.{is_missing, piece_bytes}
 use Rattle.rdm_num.specs.Lives.{same_life}
@@ -30,10 +30,9 @@ pub record ClassFacts : Type 0 where
   -- the current life of a port; what is known of a life's features
   pub current : (port : ℕ) → Option Life
   pub known : Life → Option ℕ
-  -- the head of a message that was heard of; whether it was, and whether a receive of it has completed
+  -- the head of a message that was heard of, as long as no receive has completed with it; whether a message was heard of
   pub head : Life → ℕ → Option Head
   pub is_heard : Life → ℕ → Bool
-  pub is_received : Life → ℕ → Bool
   -- whether some bytes of a message have come already or lie outside it
   pub came_in_part : Life → (number offset len : ℕ) → Bool
   -- live sends: whether one takes grants, an end, or a receipt
@@ -60,6 +59,10 @@ is_filled_end source n _ = false
 -- a receive of the message has completed
 unfoldable pub is_received : Scene → Life → ℕ → Bool
 is_received s source n = list_any (is_filled_end source n) (recv_ends s.own.limits.first s.ms.head s.log)
+
+-- the head of a message that was heard of, as long as no receive has completed with it
+unfoldable pub awaited_head : Scene → Life → ℕ → Option Head
+awaited_head s source n = if is_received s source n then None else heard_head s.log source n
 
 -- granted bytes that pass what the first part and the windows allow
 unfoldable pub passes_grants : Scene → (end' : ℕ) → Option Pair → Bool
@@ -112,9 +115,8 @@ class_facts s =
       first = s.own.limits.first;
       current = current s.log;
       known = known_word s.log;
-      head = heard_head s.log;
+      head = λ source number. awaited_head s source number;
       is_heard = λ source number. is_heard s.log source number;
-      is_received = λ source number. is_received s source number;
       came_in_part = λ source number offset len. came_in_part s source number offset len;
       takes_grants = λ to send. is_long_send (live_send s to send);
       takes_end = λ to send. is_read_send (live_send s to send);

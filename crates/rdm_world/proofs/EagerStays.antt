@@ -21,7 +21,8 @@ use Rattle.rdm_law.proofs.Eager.EagerPlayed.{EagerWorld, new_eager_world, eager_
 use Rattle.rdm_law.proofs.Played.PlayedSteps.{choices_keep}
 use Rattle.rdm_ep.specs.Eager.{IsEagerItem}
 use Rattle.rdm_port.specs.Built.{IsBuiltBody}
-use Rattle.rdm_world.specs.Shows.{IsBuiltWorld, StaysBuilt}
+use Rattle.rdm_world.specs.Shows.{StaysBuilt}
+use Rattle.rdm_world.proofs.Inboxes.{Holds, holds_keeps, new_holds}
 
 -- what the law calls eager is what the endpoint takes
 same_item : (own : Own) (log : List Deed) (from : Life) (item : Item) → Law.IsEagerItem own log from item → IsEagerItem own log from item
@@ -34,13 +35,12 @@ same_body : (own : Own) (log : List Deed) (d : Datagram) (body : Body) → Waiti
 same_body own log d (Note note) h = h
 same_body own log d (Between from to load) h = same_item own log (life d.src from) (item_of load) h
 
--- an eager world is built
-eager_built : (job : Job) (lives : ℕ → Connid) (w : World) → IsTrue (is_fair law_ops job) → EagerJob job lives → EagerWorld job lives w → IsBuiltWorld job w
-eager_built job lives w fair plain p port d m =
-    same_body (scene_in job w port).own (scene_in job w port).log d d.body (waiting_built job lives w port d fair plain p m)
-
 -- each world of such a job that choices reach is built
 pub eager_stays_built : (job : Job) (lives : ℕ → Connid) → IsTrue (is_fair law_ops job) → EagerJob job lives → StaysBuilt job new_world
 eager_stays_built job lives fair plain cs ranks =
-    eager_built job lives (after_choices job new_world cs) fair plain
-    (choices_keep job (EagerWorld job lives) (eager_keeps job lives fair plain) cs new_world ranks (new_eager_world job lives))
+    let w = after_choices job new_world cs in
+    let eager = choices_keep job (EagerWorld job lives) (eager_keeps job lives fair plain) cs new_world ranks (new_eager_world job lives) in
+    record {
+      built = λ port d m. same_body (scene_in job w port).own (scene_in job w port).log d d.body (waiting_built job lives w port d fair plain eager m);
+      short = choices_keep job (Holds job) (holds_keeps job) cs new_world ranks (new_holds job);
+    }

@@ -143,7 +143,7 @@ picked_built : (job : Job) (w : World) (r pick : ℕ) (d : Datagram) → IsBuilt
     → IsBuiltDatagram job (port_in job (after_fetch job w r) r) d
 unfolding after_fetch scene_at scene_in
 picked_built job w r pick d built is =
-    built r d (waits job w r d (slice_get-member ((after_fetch job w r).stashes r) (place_of (port_in job (after_fetch job w r) r) pick) d is))
+    built.built r d (waits job w r d (slice_get-member ((after_fetch job w r).stashes r) (place_of (port_in job (after_fetch job w r) r) pick) d is))
 
 -- how many datagrams are in the stash after a fetch
 fetched_length : (job : Job) (w : World) (r : ℕ) → length ((after_fetch job w r).stashes r) ≡ length (w.stashes r) + min job.inbox (length (w.queues r))

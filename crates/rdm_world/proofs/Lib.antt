@@ -8,6 +8,7 @@ pub mod PushSteps
 pub mod HandleSteps
 -- Worlds that are reached, and the rounds:
 pub mod Reached
+pub mod Inboxes
 pub mod Visiting
 pub mod Trying
 pub mod Settling

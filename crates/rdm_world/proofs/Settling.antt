@@ -10,7 +10,18 @@ use Rattle.rdm_world.specs.Views.{WorldView}
 use Rattle.rdm_world.specs.Shows.{IsWorld, StaysBuilt, has_changed}
 use Rattle.rdm_world.specs.Steps.{Makes, Reaches}
 use Rattle.rdm_world.proofs.Reached.{stays_keeps}
-use Rattle.rdm_world.proofs.Trying.{stops, goes_on}
+
+-- where the test holds it ends
+stops : (b : Bool) (u : World) (go_on : World → World) → b ≡ true → stop_if b u go_on ≡ u
+unfolding stop_if
+stops true u go_on h = refl
+stops false u go_on h = cc
+
+-- where it does not, it goes on
+goes_on : (b : Bool) (u : World) (go_on : World → World) → b ≡ false → stop_if b u go_on ≡ go_on u
+unfolding stop_if
+goes_on true u go_on h = cc
+goes_on false u go_on h = refl
 
 -- a round and what follows
 rounds_then : (k : ℕ) (job : Job) (v : World) → rounds (suc k) job v ≡ stop_if ((round_of job v).changes == v.changes) (round_of job v) (rounds k job)

@@ -6,8 +6,8 @@ use Rattle.rdm_model.specs.declared.job.Choice.{Choice}
 use Rattle.rdm_model.specs.Beginnings.{port_count}
 use Rattle.rdm_model.specs.Jobs.{choice_rank}
 use Rattle.rdm_model.specs.Worlds.{World, after_choice}
-use Rattle.rdm_model.specs.Played.{handle_any, visit_of, visits_of, round_of}
-use Rattle.rdm_law.proofs.Played.PlayedSteps.{Keeps, first_handle_keeps, visit_keeps}
+use Rattle.rdm_model.specs.Played.{first_pick, handle_any, visit_of, visits_of, round_of}
+use Rattle.rdm_law.proofs.Played.PlayedSteps.{Keeps, visit_keeps}
 use Rattle.rdm_world.specs.Views.{WorldView}
 use Rattle.rdm_world.specs.Shows.{IsWorld, StaysBuilt, has_changed}
 use Rattle.rdm_world.specs.Steps.{Steps, Makes}
@@ -23,8 +23,8 @@ choice_keeping c job P keeps w few h = keeps w c few h
 
 -- tries to handle
 pub handle_keeping : (r : ℕ) → Keeping (suc r) (λ job w. handle_any job w r)
-unfolding handle_any
-handle_keeping r job P keeps w few h = first_handle_keeps job P keeps (length (w.stashes r) + length (w.queues r) + 1) r 0 w few h
+unfolding handle_any choice_rank
+handle_keeping r job P keeps w few h = keeps w (Choice.Handle r (first_pick job w r)) few h
 
 -- a visit
 pub visit_keeping : (r : ℕ) → Keeping (suc r) (λ job w. visit_of job w r)

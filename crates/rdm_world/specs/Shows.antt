@@ -25,9 +25,10 @@ pub record IsWorld (job : Job) (w : World) (v : WorldView) : Type 0 where
   pub queues : (i : ℕ) → get_or v.wire.queues i [] ≡ w.queues i
   pub beyond : (i : ℕ) → port_count job ≤ i → (w.logs i ≡ []) × (w.stashes i ≡ [])
 
--- each datagram in a stash or a queue is built for the open life of its port
-abbrev pub IsBuiltWorld : Job → World → Type 0
-IsBuiltWorld job w = (port : ℕ) (d : Datagram) → Member d (w.stashes port ++ w.queues port) → IsBuiltBody (scene_in job w port).own (scene_in job w port).log d d.body
+-- each datagram in a stash or a queue is built for the open life of its port, and no queue has more than an inbox holds
+pub record IsBuiltWorld (job : Job) (w : World) : Type 0 where
+  pub built : (port : ℕ) (d : Datagram) → Member d (w.stashes port ++ w.queues port) → IsBuiltBody (scene_in job w port).own (scene_in job w port).log d d.body
+  pub short : (port : ℕ) → length (w.queues port) ≤ job.inbox
 
 -- the choices are of so many ranks
 abbrev pub AreOfRanks : (ports : ℕ) → List Choice → Type 0

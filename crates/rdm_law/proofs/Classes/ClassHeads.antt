@@ -1,7 +1,7 @@
 -- What opens a message tells the head that was heard, and a life greets another once: no Mismatch.
-use Rattle.std.proofs.Common.{Bool, ◌≡◌, ℕ, true, false, not, List, [], ◌∷◌, Option, Some, None, refl, inl, sym, ◌∙◌, ap, subst}
+use Rattle.std.proofs.Common.{Bool, ◌≡◌, ℕ, true, false, cond, List, [], ◌∷◌, Option, Some, None, refl, inl, sym, ◌∙◌, ap, subst}
 use Rattle.std.specs.Prelude.{is_some, ◌==◌}
-use Rattle.std.proofs.lemmas.Bool.{and_from, and_left, eq-eqb, not_from_true}
+use Rattle.std.proofs.lemmas.Bool.{and_from, eq-eqb, not_from_true}
 use Rattle.rdm_num.specs.declared.numbers.PortNo.{PortNo}
 use Rattle.rdm_num.specs.declared.numbers.Life.{Life}
 use Rattle.rdm_num.specs.declared.numbers.MsgNo.{MsgNo}
@@ -23,7 +23,7 @@ use Rattle.rdm_model.specs.Beginnings.{own_of}
 use Rattle.rdm_model.specs.Heads.{same_option, same_truth, same_iov, same_shape, same_head}
 use Rattle.rdm_model.specs.Heard.{heard_head}
 use Rattle.rdm_model.specs.Sends.{Sent, known_word}
-use Rattle.rdm_model.specs.ClassFacts.{is_received, class_facts}
+use Rattle.rdm_model.specs.ClassFacts.{is_received, awaited_head, class_facts}
 use Rattle.rdm_model.specs.Classes.{is_other_head, is_mismatch}
 use Rattle.rdm_model.specs.Lawful.{life_deeds}
 use Rattle.rdm_law.proofs.Accounts.Wired.{own_life, taken_pushed}
@@ -82,13 +82,19 @@ head_again job history to from number tag confirm opt form d a (Some was) e =
     let heads : was ≡ head_of tag confirm opt form = k.head_is ∙ ap (λ (s : Sent). message_head job.limits s.message s.kind) same ∙ sym o.head_is in
     not_from_true (same_head was (head_of tag confirm opt form)) (subst (λ (h : Head). same_head was h ≡ true) heads (same_head-refl was))
 
+-- so it does as long as its head is kept
+kept_or_not : (received : Bool) (o : Option Head) (head : Head) → is_other_head o head ≡ false → is_other_head (cond received None o) head ≡ false
+unfolding is_other_head
+kept_or_not true o head same = refl
+kept_or_not false o head same = same
+
 -- a packet that opens a message agrees with what was heard
 pub rtm_agrees : (job : Job) (history : List Entry) (to from : Life) (number : MsgNo) (tag : Option ℕ) (confirm : Bool) (opt : Opt) (form : Form) (d : Datagram)
     → Arrives job history to from (Spelled (Rtm number tag confirm opt form)) d → (ports : ℕ) (port_log : List Deed)
     → is_mismatch (class_facts (arriving_scene job history to ports port_log)) from (Spelled (Rtm number tag confirm opt form)) ≡ false
-unfolding is_mismatch
+unfolding is_mismatch awaited_head
 rtm_agrees job history to from number tag confirm opt form d a ports port_log =
-    and_left (is_other_head (heard_head (life_deeds job history to) from number.0) (head_of tag confirm opt form)) (not (is_received (arriving_scene job history to ports port_log) from number.0))
+    kept_or_not (is_received (arriving_scene job history to ports port_log) from number.0) (heard_head (life_deeds job history to) from number.0) (head_of tag confirm opt form)
     (head_again job history to from number tag confirm opt form d a (heard_head (life_deeds job history to) from number.0) refl)
 
 -- what cannot be there is not

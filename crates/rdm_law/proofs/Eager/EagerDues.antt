@@ -24,7 +24,7 @@ use Rattle.rdm_model.specs.Deeds.{Deed, Did, Took, Item, Spelled, Asks}
 use Rattle.rdm_model.specs.Beginnings.{Own, Messages, Heads, no_head}
 use Rattle.rdm_model.specs.Heard.{head_by, heard_head}
 use Rattle.rdm_model.specs.Regions.{regions}
-use Rattle.rdm_model.specs.Sends.{Sent, sends_to, new_sent, bytes_of, sends}
+use Rattle.rdm_model.specs.Sends.{Sent, sends_to, new_sent, bytes_of, sends, known_word}
 use Rattle.rdm_model.specs.Replies.{Reply, asks_for, receipt_for, end_for}
 use Rattle.rdm_model.specs.Local.{heads_by}
 use Rattle.rdm_model.proofs.Numbers.{sends_keep}
@@ -146,7 +146,7 @@ pub record EagerSent (own : Own) (lives : ℕ → Connid) (s : Sent) : Type 0 wh
 
 -- a new send of such a request is eager
 new_eager : (own : Own) (lives : ℕ → Connid) (before : List Deed) (count messages : ℕ) (req : SendReq) (to : Life) (bytes : List ℕ) → IsTheLife lives to → FitsOnePacket own.limits req
-    → EagerSent own lives (new_sent own before count messages req to bytes)
+    → EagerSent own lives (new_sent own (known_word before to) count messages req to bytes)
 unfolding new_sent
 new_eager own lives before count messages req to bytes is fits = record { to = is; fits = fits; silent = fits.0 }
 

@@ -8,7 +8,7 @@ use Rattle.rdm_model.specs.declared.job.Instr.TheVariants.{Send}
 use Rattle.rdm_model.specs.Deeds.{Deed, Did}
 use Rattle.rdm_model.specs.Beginnings.{Own, Messages}
 use Rattle.rdm_model.specs.Regions.{regions}
-use Rattle.rdm_model.specs.Sends.{Sent, sends, sends_to, bytes_of, new_sent}
+use Rattle.rdm_model.specs.Sends.{Sent, sends, sends_to, bytes_of, new_sent, known_word}
 use Rattle.rdm_model.proofs.Numbers.{NewSent, sends_keep}
 use Rattle.rdm_law.proofs.Replies.Asks.{iov_bytes}
 use Rattle.rdm_law.proofs.Fits.Spans.{IsInside, span_total, spans_size, read_list_total}
@@ -21,7 +21,7 @@ IsSized s = iov_bytes s.message.iov ≡ length s.message.bytes
 
 -- a send of so many bytes has them in its read list
 made_sized : (own : Own) (before : List Deed) (count messages : ℕ) (req : SendReq) (to : Life) (bytes : List ℕ) → length bytes ≡ span_total req.parts
-    → IsSized (new_sent own before count messages req to bytes)
+    → IsSized (new_sent own (known_word before to) count messages req to bytes)
 unfolding new_sent iov_bytes
 made_sized own before count messages req to bytes e = read_list_total req.parts ∙ sym e
 

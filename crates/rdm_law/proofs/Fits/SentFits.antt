@@ -116,7 +116,7 @@ request_fits ports req h =
 made_fits : (own : Own) (before : List Deed) (count messages : ℕ) (req : SendReq) (to : Life) (bytes : List ℕ) → count < 4294967296
     → own.limits.first + messages < 4294967296 → RequestFits req → AreBytes bytes → length bytes ≡ span_total req.parts
     → ((p : Span) → Member p req.parts → SpanFits p)
-    → SentFits own (new_sent own before count messages req to bytes)
+    → SentFits own (new_sent own (known_word before to) count messages req to bytes)
 unfolding new_sent
 made_fits own before count messages req to bytes below within fit bs size spans = record {
   number = below;

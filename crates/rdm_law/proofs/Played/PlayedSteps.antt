@@ -1,5 +1,5 @@
 -- What each choice of a rank keeps holds of the world that a job ends in.
-use Rattle.std.proofs.Common.{◌≡◌, ℕ, zero, suc, ◌+◌, ◌<◌, Bool, true, false, nat_lt, ltb-true, List, [], ◌∷◌, length, refl, arith, inl, inr, IsTrue}
+use Rattle.std.proofs.Common.{◌≡◌, ℕ, zero, suc, ◌<◌, Bool, true, false, nat_lt, ltb-true, List, [], ◌∷◌, refl, inl, inr, IsTrue}
 use Rattle.std.proofs.lemmas.Bool.{and_parts}
 use Rattle.std.specs.List.{list_all}
 use Rattle.rdm_lists.specs.Lists.{Member, below}
@@ -8,7 +8,7 @@ use Rattle.rdm_model.specs.declared.job.Choice.{Choice}
 use Rattle.rdm_model.specs.Beginnings.{port_count}
 use Rattle.rdm_model.specs.Jobs.{is_fair, choices_fit, choice_rank}
 use Rattle.rdm_model.specs.Worlds.{World, new_world, after_choice, after_choices}
-use Rattle.rdm_model.specs.Played.{stop_if, is_last_try, try_then, after_first_handle, handle_any, visit_of, visits_of, round_of, unless_quiet, rounds, round_bound, played_world}
+use Rattle.rdm_model.specs.Played.{stop_if, first_pick, handle_any, visit_of, visits_of, round_of, unless_quiet, rounds, round_bound, played_world}
 use Rattle.rdm_lists.proofs.Below.{member_below}
 
 -- each choice of a rank keeps it
@@ -21,26 +21,16 @@ unfolding stop_if
 stop_keeps P true w go_on here there = here
 stop_keeps P false w go_on here there = there
 
--- tries to handle
-pub first_handle_keeps : (job : Job) (P : World → Type 0) → Keeps job P → (fuel port pick : ℕ) (w : World) → port < port_count job → P w → P (after_first_handle fuel job port pick w)
-unfolding after_first_handle try_then after_choice choice_rank
-first_handle_keeps job P keeps zero port pick w is h = h
-first_handle_keeps job P keeps (suc fuel) port pick w is h =
-    let v = after_choice job w (Choice.Handle port pick) in
-    let now : P v = keeps w (Choice.Handle port pick) is h in
-    stop_keeps P (is_last_try port pick w v) v (after_first_handle fuel job port (pick + 1)) now (first_handle_keeps job P keeps fuel port (pick + 1) v is now)
-
 -- a port's part of a round
 pub visit_keeps : (job : Job) (P : World → Type 0) → Keeps job P → (port : ℕ) (w : World) → port < port_count job → P w → P (visit_of job w port)
 unfolding visit_of handle_any choice_rank
 visit_keeps job P keeps port w is h =
     let a = after_choice job w (Choice.Next port) in
     let b = after_choice job a (Choice.Push port) in
-    let n = length (b.stashes port) + length (b.queues port) + 1 in
-    let c = after_first_handle n job port 0 b in
+    let c = handle_any job b port in
     let pa : P a = keeps w (Choice.Next port) is h in
     let pb : P b = keeps a (Choice.Push port) is pa in
-    let pc : P c = first_handle_keeps job P keeps n port 0 b is pb in
+    let pc : P c = keeps b (Choice.Handle port (first_pick job b port)) is pb in
     keeps c (Choice.Poll port) is pc
 
 -- the parts of some ports

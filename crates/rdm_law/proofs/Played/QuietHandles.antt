@@ -1,7 +1,10 @@
 -- A port that looks at its whole stash and changes nothing: why it could not.
-use Rattle.std.proofs.Common.{◌≡◌, ℕ, zero, suc, ◌+◌, ◌<◌, ◌≤◌, ◌%◌, min, max, Bool, true, false, not, ◌||◌, nat_le, leb-true, eq-eqb, List, [], ◌∷◌, ◌++◌, length, take, drop, slice_get, Option, Some, None, refl, arith, inl, inr, sym, ◌∙◌, ap, subst, append-nil, mod-eq_of_lt}
-use Rattle.std.specs.Prelude.{◌==◌}
-use Rattle.std.proofs.lemmas.Bool.{cases_lt}
+use Rattle.std.proofs.Common.{◌≡◌, ℕ, zero, suc, ◌+◌, ◌<◌, ◌≤◌, ◌%◌, min, max, Bool, true, false, not, ◌||◌, eq-eqb, List, [], ◌∷◌, ◌++◌, length, take, drop, slice_get, Option, Some, None, refl, arith, inl, inr, sym, ◌∙◌, ap, subst, append-nil, mod-eq_of_lt}
+use Rattle.std.specs.Prelude.{◌==◌, find, unwrap_or}
+use Rattle.std.proofs.lemmas.Bool.{cases_lt, ne_eqb}
+use Rattle.rdm_lists.specs.Lists.{below}
+use Rattle.rdm_lists.proofs.Below.{none_below}
+use Rattle.rdm_lists.proofs.Members.{find_member}
 use Rattle.rdm_wire.specs.declared.Datagram.{Datagram}
 use Rattle.rdm_model.specs.declared.job.Job.{Job}
 use Rattle.rdm_model.specs.declared.job.Choice.{Choice}
@@ -13,11 +16,11 @@ use Rattle.rdm_model.specs.Takes.{is_again_early}
 use Rattle.rdm_model.specs.Settled.{is_worn_by}
 use Rattle.rdm_model.specs.Local.{own_scene}
 use Rattle.rdm_model.specs.Worlds.{World, scene_in, with_entry, after_fetch, with_handle, after_handle_at, after_pick, step_handle, after_choice}
-use Rattle.rdm_model.specs.Played.{stop_if, is_last_try, try_then, after_first_handle, handle_any}
-use Rattle.rdm_law.proofs.Played.Apart.{put_at_case}
+use Rattle.rdm_model.specs.Played.{can_handle, first_pick, handle_any}
+use Rattle.rdm_law.proofs.Played.Apart.{put_at_case, put_at_here}
 use Rattle.rdm_law.proofs.Played.Sound.{chosen}
 use Rattle.rdm_law.proofs.Played.Quiet.{Still, still_refl, still_then, Outcome, PlaceQuiet, none_some, some_same, next_outcome, push_outcome, poll_outcome}
-use Rattle.rdm_law.proofs.Played.PlayedSteps.{Keeps, first_handle_keeps}
+use Rattle.rdm_law.proofs.Played.PlayedSteps.{Keeps}
 
 -- no step makes fewer changes
 pub at_most : (w v : World) (Why : Type 0) → Outcome w v Why → w.changes ≤ v.changes
@@ -43,15 +46,15 @@ take_none : (n : ℕ) → ◌≡◌ {A = List Datagram} (take n []) []
 take_none zero = refl
 take_none (suc n) = refl
 
--- the second of two tests of which the first is denied
-not_or : (a b : Bool) → a ≡ true → (not a || b) ≡ true → b ≡ true
-not_or true b h k = k
-not_or false b h k = cc
-
 -- a fetch of something is a change
 fetch_moves : (job : Job) (w : World) (port : ℕ) → 0 < min job.inbox (length (w.queues port)) → w.changes < (after_fetch job w port).changes
 unfolding after_fetch
 fetch_moves job w port moved = omega arith
+
+-- a fetch leaves the logs
+fetched_log : (job : Job) (w : World) (port : ℕ) → (after_fetch job w port).logs port ≡ w.logs port
+unfolding after_fetch
+fetched_log job w port = refl
 
 -- a fetch of an empty queue
 fetch_still : (job : Job) (w : World) (port : ℕ) → w.queues port ≡ [] → Still w (after_fetch job w port)
@@ -156,91 +159,83 @@ choice_grows job w (Choice.Poll port) some = at_most w _ _ (poll_outcome job w p
 pub grows_keeps : (job : Job) (n : ℕ) → 0 < job.inbox → Keeps job (λ (w : World). n ≤ w.changes)
 grows_keeps job n some w c rank h = let more = choice_grows job w c some in omega arith
 
--- each place from a pick on
-abbrev pub PlacesQuiet : Job → ℕ → World → ℕ → Type 0
-PlacesQuiet job port w pick = (k : ℕ) → pick ≤ k → k < length (w.stashes port) → PlaceQuiet job port (w.logs port) (w.stashes port) k
+-- an entry is seen by the length of the log
+longer : (m n : ℕ) → m ≡ suc n → not (m == n) ≡ false → ⊥
+longer m n is h =
+    let more : m == n ≡ false = ne_eqb m n (λ e. absurd (omega arith)) in
+    let wrong : true ≡ false = ap not (sym more) ∙ h in
+    cc
 
--- where the last try changed nothing no place is left after it
-same_length : (job : Job) (port pick : ℕ) (w v : World) → Still w v → is_last_try port pick w v ≡ true → length (w.stashes port) ≤ pick + 1
-unfolding is_last_try
-same_length job port pick w v s last =
-    let logs : (length (v.logs port) == length (w.logs port)) ≡ true = eq-eqb _ _ (ap (λ (l : List Entry). length l) (s.logs port)) in
-    let rest : nat_le (length (v.stashes port)) (pick + 1) ≡ true = not_or (length (v.logs port) == length (w.logs port)) _ logs last in
-    let bound : length (v.stashes port) ≤ pick + 1 = leb-true _ _ rest in
-    let same : length (v.stashes port) ≡ length (w.stashes port) = ap (λ (ds : List Datagram). length ds) (s.stashes port) in
-    omega arith
+-- where no entry is made, the datagram at the place can't be handled
+idle_place : (job : Job) (u : World) (port place : ℕ) (o : Option Datagram) → slice_get (u.stashes port) place ≡ o
+    → not (length ((with_handle job u port place o).logs port) == length (u.logs port)) ≡ false → PlaceQuiet job port (u.logs port) (u.stashes port) place
+unfolding with_handle with_entry scene_in
+idle_place job u port place None is none = λ d h. absurd (none_some is h)
+idle_place job u port place (Some d) is none =
+    let scene = own_scene job port (deeds_at job port (u.logs port)) in
+    chosen (λ v. not (length (v.logs port) == length (u.logs port)) ≡ false → PlaceQuiet job port (u.logs port) (u.stashes port) place)
+    (is_again_early class_of scene d || is_worn_by job (u.logs port) d) u _
+    (λ stays same other h.
+    let is_it : d ≡ other = some_same is h in
+    let P : Datagram → Type 0 = λ x. (is_again_early class_of scene x || is_worn_by job (u.logs port) x) ≡ true in
+    subst P is_it stays)
+    (λ runs same. absurd (longer _ (length (u.logs port)) (ap (λ (l : List Entry). length l) (put_at_here port _ u.logs)) same))
+    none
 
--- where a test holds the world is the first one, and else the other
-stopped : (P : World → Type 0) (b : Bool) (v : World) (go_on : World → World) → (b ≡ true → P v) → (b ≡ false → P (go_on v)) → P (stop_if b v go_on)
-unfolding stop_if
-stopped P true v go_on h k = h refl
-stopped P false v go_on h k = k refl
+-- what a pick that makes no entry says of the place in the stash, once it has fetched
+idle_pick : (job : Job) (w : World) (port pick : ℕ) → can_handle job w port pick ≡ false → pick < length ((after_fetch job w port).stashes port)
+    → PlaceQuiet job port ((after_fetch job w port).logs port) ((after_fetch job w port).stashes port) pick
+unfolding can_handle step_handle after_pick after_handle_at
+idle_pick job w port pick none within =
+    let u = after_fetch job w port in
+    let place = pick % max 1 (length (u.stashes port)) in
+    let logs : u.logs port ≡ w.logs port = fetched_log job w port in
+    let made : not (length ((with_handle job u port place (slice_get (u.stashes port) place)).logs port) == length (u.logs port)) ≡ false =
+    ap (λ (l : List Entry). not (length ((with_handle job u port place (slice_get (u.stashes port) place)).logs port) == length l)) logs ∙ none in
+    let same : place ≡ pick = mod-eq_of_lt (omega arith) in
+    subst (λ (n : ℕ). PlaceQuiet job port (u.logs port) (u.stashes port) n) same (idle_place job u port place (slice_get (u.stashes port) place) refl made)
 
--- tries from a pick on
-tries_outcome : (job : Job) (fuel port pick : ℕ) (w : World) → 0 < job.inbox → port < port_count job → length (w.stashes port) ≤ pick + fuel
-    → Outcome w (after_first_handle fuel job port pick w) (PlacesQuiet job port w pick)
-unfolding after_first_handle try_then
-tries_outcome job zero port pick w some rank enough = inr (still_refl w, λ k low high. absurd (omega arith))
-tries_outcome job (suc fuel) port pick w some rank enough =
-    let v = step_handle job w port pick in
-    let last = after_first_handle fuel job port (pick + 1) v in
-    let Goal : World → Type 0 = λ u. Outcome w u (PlacesQuiet job port w pick) in
-    let grown : v.changes ≤ last.changes = first_handle_keeps job (λ (u : World). v.changes ≤ u.changes) (grows_keeps job v.changes some) fuel port (pick + 1) v rank (omega arith) in
+-- a handling that makes an entry is a change
+entry_changes : (job : Job) (w : World) (port pick : ℕ) → 0 < job.inbox → can_handle job w port pick ≡ true → w.changes < (step_handle job w port pick).changes
+unfolding can_handle
+entry_changes job w port pick some made =
     elim (try_outcome job w port pick some) [
-      | inl less ↦ stopped Goal (is_last_try port pick w v) v (after_first_handle fuel job port (pick + 1)) (λ is. inl less) (λ is. inl (omega arith))
+      | inl less ↦ less
       | inr a ↦
-          let same : length (v.stashes port) ≡ length (w.stashes port) = ap (λ (ds : List Datagram). length ds) (a.0.stashes port) in
-          stopped Goal (is_last_try port pick w v) v (after_first_handle fuel job port (pick + 1))
-          (λ is.
-          let short = same_length job port pick w v a.0 is in
-          inr (
-            a.0,
-            λ k low high. (let at : pick ≡ k = omega arith in
-                subst (λ (n : ℕ). PlaceQuiet job port (w.logs port) (w.stashes port) n) at (a.1.1 (omega arith))),
-          ))
-          (λ is. elim (tries_outcome job fuel port (pick + 1) v some rank (omega arith)) [
-            | inl less ↦ (let e = a.0.changes in inl (omega arith))
-            | inr b ↦ inr (
-              still_then w v last a.0 b.0,
-              λ k low high.
-                  elim (cases_lt pick k) [
-                    | inl more ↦ still_place job port w v k a.0 (b.1 k (omega arith) (omega arith))
-                    | inr least ↦ (let at : pick ≡ k = omega arith in subst (λ (n : ℕ). PlaceQuiet job port (w.logs port) (w.stashes port) n) at (a.1.1 (omega arith)))
-                  ],
-            )
-          ])
+          let same : (length ((step_handle job w port pick).logs port) == length (w.logs port)) ≡ true = eq-eqb _ _ (ap (λ (l : List Entry). length l) (a.0.logs port)) in
+          let wrong : true ≡ false = sym made ∙ ap not same in
+          cc
     ]
 
--- the queue of a port is empty, and nothing in its stash can be handled
+-- nothing in the stash of a port can be handled
+abbrev pub PlacesQuiet : Job → ℕ → World → Type 0
+PlacesQuiet job port w = (k : ℕ) → k < length (w.stashes port) → PlaceQuiet job port (w.logs port) (w.stashes port) k
+
+-- and its queue is empty
 abbrev pub HandleQuiet : Job → ℕ → World → Type 0
-HandleQuiet job port w = (w.queues port ≡ []) × PlacesQuiet job port w 0
+HandleQuiet job port w = (w.queues port ≡ []) × PlacesQuiet job port w
 
--- tries of which there is at least one
-handle_suc : (job : Job) (fuel : ℕ) (w : World) (port : ℕ) → 0 < job.inbox → port < port_count job → length (w.stashes port) ≤ fuel
-    → Outcome w (after_first_handle (suc fuel) job port 0 w) (HandleQuiet job port w)
-unfolding after_first_handle try_then
-handle_suc job fuel w port some rank enough =
-    let v = step_handle job w port 0 in
-    let last = after_first_handle fuel job port (0 + 1) v in
-    let final = stop_if (is_last_try port 0 w v) v (after_first_handle fuel job port (0 + 1)) in
-    let grown : v.changes ≤ last.changes = first_handle_keeps job (λ (u : World). v.changes ≤ u.changes) (grows_keeps job v.changes some) fuel port (0 + 1) v rank (omega arith) in
-    let after : v.changes ≤ final.changes = stopped (λ (u : World). v.changes ≤ u.changes) (is_last_try port 0 w v) v (after_first_handle fuel job port (0 + 1)) (λ is. omega arith) (λ is. grown) in
-    elim (try_outcome job w port 0 some) [
-      | inl less ↦ (let more : w.changes < final.changes = omega arith in inl more)
-      | inr a ↦ elim (tries_outcome job (suc fuel) port 0 w some rank (omega arith)) [
-        | inl more ↦ inl more
-        | inr b ↦ inr (b.0, (a.1.0, b.1))
-      ]
-    ]
-
--- tries over the whole stash, of which the first fetches
-handle_all : (job : Job) (fuel : ℕ) (w : World) (port : ℕ) → 0 < job.inbox → port < port_count job → length (w.stashes port) ≤ fuel
-    → Outcome w (after_first_handle (fuel + 1) job port 0 w) (HandleQuiet job port w)
-handle_all job fuel w port some rank enough =
-    let more : fuel + 1 ≡ suc fuel = omega arith in
-    subst (λ (n : ℕ). Outcome w (after_first_handle n job port 0 w) (HandleQuiet job port w)) (sym more) (handle_suc job fuel w port some rank enough)
+-- where no pick makes an entry and the queue is empty, nothing in the stash can be handled
+none_handled : (job : Job) (w : World) (port : ℕ) → w.queues port ≡ [] → find (can_handle job w port) (below (length ((after_fetch job w port).stashes port))) ≡ None → HandleQuiet job port w
+none_handled job w port empty none = (
+  empty,
+  λ k within.
+      let u = after_fetch job w port in
+      let still : Still w u = fetch_still job w port empty in
+      let fits : k < length (u.stashes port) = subst (λ (ds : List Datagram). k < length ds) (sym (still.stashes port)) within in
+      still_place job port w u k still (idle_pick job w port k (none_below (can_handle job w port) _ none k fits) fits),
+)
 
 -- a port that handles what it can
-pub handle_any_outcome : (job : Job) (w : World) (port : ℕ) → 0 < job.inbox → port < port_count job → Outcome w (handle_any job w port) (HandleQuiet job port w)
-unfolding handle_any after_first_handle try_then
-handle_any_outcome job w port some rank = handle_all job (length (w.stashes port) + length (w.queues port)) w port some rank (omega arith)
+pub handle_any_outcome : (job : Job) (w : World) (port : ℕ) → 0 < job.inbox → Outcome w (handle_any job w port) (HandleQuiet job port w)
+unfolding handle_any first_pick after_choice
+handle_any_outcome job w port some =
+    let found = find (can_handle job w port) (below (length ((after_fetch job w port).stashes port))) in
+    (elim found as (λ o. found ≡ o → Outcome w (step_handle job w port (unwrap_or o 0)) (HandleQuiet job port w)) [
+      | Some pick ↦ λ is. inl (entry_changes job w port pick some (find_member (can_handle job w port) pick _ is).1)
+      | None ↦ λ is. elim (try_outcome job w port 0 some) [
+        | inl less ↦ inl less
+        | inr a ↦ inr (a.0, none_handled job w port a.1.0 is)
+      ]
+    ])
+    refl

@@ -24,7 +24,7 @@ pub record VisitQuiet (job : Job) (port : ℕ) (w : World) : Type 0 where
   pub push : PushQuiet job port (w.logs port) w.queues
   pub poll : PollQuiet job port (w.logs port)
   pub queue : w.queues port ≡ []
-  pub places : PlacesQuiet job port w 0
+  pub places : PlacesQuiet job port w
 
 -- what is so of a world is so of one that it left as it was
 still_push : (job : Job) (port : ℕ) (w v : World) → Still w v → PushQuiet job port (v.logs port) v.queues → PushQuiet job port (w.logs port) w.queues
@@ -41,8 +41,8 @@ still_visit job port w v s q = record {
   push = still_push job port w v s q.push;
   poll = subst (PollQuiet job port) (s.logs port) q.poll;
   queue = sym (s.queues port) ∙ q.queue;
-  places = λ k low high.
-      still_place job port w v k s (q.places k low (subst (λ (ds : List Datagram). k < length ds) (sym (s.stashes port)) high));
+  places = λ k high.
+      still_place job port w v k s (q.places k (subst (λ (ds : List Datagram). k < length ds) (sym (s.stashes port)) high));
 }
 
 -- and back
@@ -52,7 +52,7 @@ still_back w v s = record { changes = sym s.changes; logs = λ p. sym (s.logs p)
 -- so of what it could handle
 still_handle : (job : Job) (port : ℕ) (w v : World) → Still w v → HandleQuiet job port v → HandleQuiet job port w
 still_handle job port w v s h =
-    (sym (s.queues port) ∙ h.0, λ k low high. still_place job port w v k s (h.1 k low (subst (λ (ds : List Datagram). k < length ds) (sym (s.stashes port)) high)))
+    (sym (s.queues port) ∙ h.0, λ k high. still_place job port w v k s (h.1 k (subst (λ (ds : List Datagram). k < length ds) (sym (s.stashes port)) high)))
 
 -- one step after another
 one_then : (w v u : World) (A B C : Type 0) → Outcome w v A → Outcome v u B → (Still w v → A → B → C) → Outcome w u C
@@ -73,7 +73,7 @@ visit_outcome job w port some rank =
     let H = HandleQuiet job port w in
     let two : Outcome w b (N × U) = one_then w a b N (PushQuiet job port (a.logs port) a.queues) (N × U) (next_outcome job w port) (push_outcome job a port)
     (λ s n u. (n, still_push job port w a s u)) in
-    let three : Outcome w c (N × U × H) = one_then w b c (N × U) (HandleQuiet job port b) (N × U × H) two (handle_any_outcome job b port some rank)
+    let three : Outcome w c (N × U × H) = one_then w b c (N × U) (HandleQuiet job port b) (N × U × H) two (handle_any_outcome job b port some)
     (λ s nu h. (nu.0, nu.1, still_handle job port w b s h)) in
     one_then w c d (N × U × H) (PollQuiet job port (c.logs port)) (VisitQuiet job port w) three (poll_outcome job c port)
     (λ s nuh p. record {

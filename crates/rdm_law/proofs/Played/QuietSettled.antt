@@ -95,7 +95,7 @@ waits_quiet job w history port d s joint played q m =
     let here : Member d (w.stashes port ++ w.queues port) = waits_by_logs w.logs (waiting_in w) history port d s.delivers joint played.wire m in
     let stash : Member d (w.stashes port) = subst (λ (ds : List Datagram). Member d ds) (ap (λ (ds : List Datagram). w.stashes port ++ ds) q.queue ∙ append-nil (w.stashes port)) here in
     let at = member_at d (w.stashes port) stash in
-    let place = q.places at.0 (omega arith) (slice_get_within (w.stashes port) at.0 d at.1) d at.1 in
+    let place = q.places at.0 (slice_get_within (w.stashes port) at.0 d at.1) d at.1 in
     let P : List Entry → Type 0 = λ log. (is_again_early class_of (own_scene job port (deeds_at job port log)) d || is_worn_by job log d) ≡ true in
     let own : (is_again_early class_of (own_scene job port (deeds_at job port (log_of port history))) d || is_worn_by job (log_of port history) d) ≡ true =
     subst P (sym (joint.logs_are port)) place in

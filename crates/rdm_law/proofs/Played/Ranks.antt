@@ -14,7 +14,7 @@ use Rattle.rdm_model.specs.Beginnings.{Own, Messages, Heads}
 use Rattle.rdm_model.specs.Currents.{inserted_by, last_inserted, seen_by, first_seen, current}
 use Rattle.rdm_model.specs.Notes.{OwedNote, note_to, notes_by, notes, next_note}
 use Rattle.rdm_model.specs.Matches.{pairs}
-use Rattle.rdm_model.specs.Sends.{Sent, sends_to, new_sent, bytes_of, sends}
+use Rattle.rdm_model.specs.Sends.{Sent, sends_to, new_sent, bytes_of, sends, known_word}
 use Rattle.rdm_model.specs.Regions.{regions}
 use Rattle.rdm_model.specs.Replies.{Reply}
 use Rattle.rdm_model.specs.Dues.{Due, Replies, Sends, progress, due}
@@ -87,7 +87,7 @@ current_is P port log l h is =
     ]
 
 -- a new send goes to its life
-new_to : (P : Life → Type 0) (own : Own) (before : List Deed) (count messages : ℕ) (req : SendReq) (to : Life) (bytes : List ℕ) → P to → P (new_sent own before count messages req to bytes).to
+new_to : (P : Life → Type 0) (own : Own) (before : List Deed) (count messages : ℕ) (req : SendReq) (to : Life) (bytes : List ℕ) → P to → P (new_sent own (known_word before to) count messages req to bytes).to
 unfolding new_sent
 new_to P own before count messages req to bytes h = h
 
