@@ -128,17 +128,24 @@ kept_receive own log r =
       matched = option_map (matched_of own log) (pair_of own log r);
     }
 
--- what is kept is what the definitions say. Of a life that was forgotten nothing is asked
-pub record Keeps (own : Own) (log : List Deed) (v : Kept) : Type 0 where
+-- ---- what each field is; of a life that was forgotten nothing is asked
+
+-- counts, regions and lives
+pub record KeepsLives (own : Own) (log : List Deed) (v : Kept) : Type 0 where
   pub own_is : v.own ≡ own
   pub region_count_is : v.region_count ≡ length (own_regions own log)
   pub region_size_is : (region : ℕ) → v.region_size region ≡ length (get_or (own_regions own log) region [])
-  pub home_is : (region place : ℕ) → v.home region place ≡ (if is_out own log region place then None else region_byte own log region place)
   pub current_is : (port : ℕ) → v.current port ≡ current log port
   pub superseded_is : (life : Life) → v.superseded life ≡ is_superseded log life
   pub met_is : (life : Life) → is_forgotten log life ≡ false → (v.peers life).met ≡ list_any (meets own life) log
   pub known_is : (life : Life) → is_forgotten log life ≡ false → (v.peers life).known ≡ known_word log life
   pub messages_are : (life : Life) → is_forgotten log life ≡ false → (v.peers life).messages ≡ length (sends_to (own_sends own log) life)
+  pub send_count_is : v.send_count ≡ length (own_sends own log)
+  pub receive_count_is : v.receive_count ≡ length (receives log)
+  pub poll_count_is : v.poll_count ≡ poll_count log
+
+-- messages that were heard of, and the matcher's lists
+pub record KeepsMatching (own : Own) (log : List Deed) (v : Kept) : Type 0 where
   pub heard_is : (life : Life) → is_forgotten log life ≡ false → (number : ℕ) → (v.peers life).heard number ≡ is_heard log life number
   pub next_is : (life : Life) → is_forgotten log life ≡ false → is_next_message own.limits.first log life (v.peers life).next ≡ true
   pub posted_is : v.posted ≡ (own_matching own log).posted
@@ -147,10 +154,25 @@ pub record Keeps (own : Own) (log : List Deed) (v : Kept) : Type 0 where
   pub early_of_is : (life : Life) → is_forgotten log life ≡ false
       → v.early_of life ≡ length (filter (λ (m : Name). waits_early own log m && same_life m.life life) (heard_names log))
   pub early_count_is : v.early_count ≡ early_count own (told own log).head log
-  pub sends_are : v.sends ≡ map (kept_send own log) (live_sends own (told own log) log)
+
+-- live receives, and the bytes that are not out with them
+pub record KeepsReceives (own : Own) (log : List Deed) (v : Kept) : Type 0 where
+  pub home_is : (region place : ℕ) → v.home region place ≡ (if is_out own log region place then None else region_byte own log region place)
   pub receives_are : v.receives ≡ map (kept_receive own log) (own_live_receives own log)
+
+-- live sends
+pub record KeepsSends (own : Own) (log : List Deed) (v : Kept) : Type 0 where
+  pub sends_are : v.sends ≡ map (kept_send own log) (live_sends own (told own log) log)
+
+-- what goes out and what is polled
+pub record KeepsOwed (own : Own) (log : List Deed) (v : Kept) : Type 0 where
   pub owed_is : v.owed ≡ (own_progress own log).replies
   pub completions_are : v.completions ≡ drop (poll_count log) (completions own (told own log) log)
-  pub send_count_is : v.send_count ≡ length (own_sends own log)
-  pub receive_count_is : v.receive_count ≡ length (receives log)
-  pub poll_count_is : v.poll_count ≡ poll_count log
+
+-- all that is kept is what the definitions say
+pub record Keeps (own : Own) (log : List Deed) (v : Kept) : Type 0 where
+  pub lives : KeepsLives own log v
+  pub matching : KeepsMatching own log v
+  pub receives : KeepsReceives own log v
+  pub sends : KeepsSends own log v
+  pub owed : KeepsOwed own log v
