@@ -26,7 +26,7 @@ use Rattle.rdm_model.specs.Heard.{head_by, entering, entered_of}
 use Rattle.rdm_model.specs.Matches.{Receive, receives}
 use Rattle.rdm_model.specs.Completions.{early_count}
 use Rattle.rdm_model.specs.Classes.{body_class, class_of}
-use Rattle.rdm_model.specs.Takes.{taken_answer, class_answer, handled_answer, is_met, needs_place, body_needs_place, is_again_early}
+use Rattle.rdm_model.specs.Takes.{taken_answer, class_answer, handled_answer, is_met, needs_place, needs_place_by, body_needs_place, is_again_early}
 use Rattle.rdm_model.specs.Local.{heard_by}
 use Rattle.rdm_ep.specs.declared.answer.HandleAnswer.TheVariants as HandleA
 use Rattle.rdm_ep.specs.declared.state.Posted.{Posted}
@@ -87,7 +87,7 @@ met_agrees ports port_log log v from number tag confirm opt bytes h keeps =
 places_agree : (ports : ℕ) (port_log log : List Deed) (v : EndpointView) (from : Life) (item : Item) → IsEager v.own log → IsEagerItem v.own log from item → Keeps log v
     → (needs_place (life_scene ports v.own port_log log) from item && nat_le v.own.limits.early (early_count v.own (heard_by v.own.limits.first log).head log))
     ≡ needs_place_in v from item
-unfolding needs_place needs_place_in early_is_full
+unfolding needs_place_by needs_place_in early_is_full
 places_agree ports port_log log v from (Spelled (Rtm number tag confirm opt (Eager bytes))) h p k =
     let a = p.2 in
     let m = met_agrees ports port_log log v from number tag confirm opt bytes h k in

@@ -7,14 +7,13 @@ use Rattle.rdm_num.specs.Pieces.{overlaps}
 use Rattle.rdm_num.specs.declared.numbers.Life.{Life}
 use Rattle.rdm_num.specs.declared.parts.Span.{Span}
 use Rattle.rdm_num.specs.declared.head.Head.{Head}
-use Rattle.rdm_pkt.specs.declared.Packet.TheVariants.{Rtm}
 use Rattle.rdm_wire.specs.declared.ReadAsk.{ReadAsk}
 use Rattle.rdm_match.specs.declared.PostedRecv.{PostedRecv}
 use Rattle.rdm_match.specs.Matcher.{accepts, is_recv}
 use Rattle.rdm_model.specs.ClassFacts.{ClassFacts}
-use Rattle.rdm_model.specs.Deeds.{Item, Spelled}
 use Rattle.rdm_model.specs.Dues.{is_read}
 use Rattle.rdm_model.specs.Facts.{Facts}
+use Rattle.rdm_model.specs.Takes.{PlaceFacts}
 use Rattle.rdm_model.specs.Targets.{is_long, is_long_shape, is_read_shape, read_from, is_in_iov}
 use Rattle.rdm_life.specs.Kept.{Kept, EarlyMessage, LiveSend, LiveReceive, Matched}
 use Rattle.rdm_life.specs.Sending.{is_sent, is_send_of}
@@ -165,8 +164,11 @@ is_met_in v from number tag =
     (v.peers from).next == number
     && list_any (λ (r : PostedRecv). accepts r (record { life = from; no = record { 0 = number }; tag = tag })) v.posted
 
--- a packet of a message that was not heard of, which would have to wait, and no place is left
-unfoldable pub waits_for_place : Kept → Life → Item → Bool
-waits_for_place v from (Spelled (Rtm number tag confirm opt form)) =
-    not ((v.peers from).heard number.0) && not (is_met_in v from number.0 tag) && nat_le v.own.limits.early v.early_count
-waits_for_place v from _ = false
+-- what it depends on whether a datagram has to wait
+abbrev pub place_facts_in : Kept → PlaceFacts
+place_facts_in v =
+    record {
+      is_heard = λ source number. (v.peers source).heard number;
+      is_met = λ source number tag. is_met_in v source number tag;
+      is_full = nat_le v.own.limits.early v.early_count;
+    }

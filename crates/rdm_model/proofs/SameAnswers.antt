@@ -13,7 +13,7 @@ use Rattle.rdm_model.specs.Scenes.{Scene}
 use Rattle.rdm_model.specs.Facts.{Facts, facts_of, port_facts, regions_of, meets_receive, meets_send, is_unmatched}
 use Rattle.rdm_model.specs.Answers.{answer_by, answer_of}
 use Rattle.rdm_model.specs.Going.{life_going, going}
-use Rattle.rdm_model.specs.Takes.{is_met, needs_place, body_needs_place}
+use Rattle.rdm_model.specs.Takes.{is_met, needs_place, needs_place_by, body_needs_place}
 use Rattle.rdm_model.proofs.SameMatches.{matching_same}
 use Rattle.rdm_model.proofs.SameReceives.{live_receives_same}
 use Rattle.rdm_model.proofs.SameRegions.{Agree, regions_same, sends_same}
@@ -66,7 +66,7 @@ is_met_same s ns from number tag a = let m = matching_same s.own.limits.first s.
 
 -- an item needs an early place by both or by neither
 needs_place_same : (s : Scene) (ns : Messages) (from : Life) (item : Item) → AgreesIn s ns → needs_place s from item ≡ needs_place (by_account s ns) from item
-unfolding needs_place
+unfolding needs_place_by
 needs_place_same s ns from (Spelled (Rtm number tag confirm opt form)) a = let m = is_met_same s ns from number.0 tag a in rw m refl
 needs_place_same s ns from _ a = refl
 

@@ -29,7 +29,7 @@ use Rattle.rdm_model.specs.Going.{Goes, due_going}
 use Rattle.rdm_model.specs.Classes.{class_of, lives_class}
 use Rattle.rdm_model.specs.Scenes.{Scene, scene, deeds_at}
 use Rattle.rdm_model.specs.Steps.{last_stamp, clock, Does, Classing}
-use Rattle.rdm_model.specs.Takes.{taken_answer, class_answer, handled_answer, needs_place, body_needs_place, is_again_early, is_met}
+use Rattle.rdm_model.specs.Takes.{taken_answer, class_answer, handled_answer, needs_place, needs_place_by, body_needs_place, is_again_early, is_met}
 use Rattle.rdm_model.specs.Local.{own_scene}
 use Rattle.rdm_model.specs.Wire.{PushedIn, Comes}
 use Rattle.rdm_model.specs.Settled.{waiting_datagrams, is_worn, is_worn_by, is_settled}
@@ -115,7 +115,7 @@ IsUnheard log from _ = ⊥
 
 -- what needs a place opens a message that was not heard of
 unheard : (s : Scene) (from : Life) (item : Item) → needs_place s from item ≡ true → IsUnheard s.log from item
-unfolding needs_place
+unfolding needs_place_by
 unheard s from (Spelled (Rtm number tag confirm opt form)) h = not-true (is_heard s.log from number.0) (and_parts (not (is_heard s.log from number.0)) (not (is_met s from number.0 tag)) h).0
 unheard s from _ h = cc
 
