@@ -1,15 +1,10 @@
 -- The pairs that a deed makes, and what follows from it for what is kept: statements that several proofs stand on.
-use Rattle.std.proofs.Common.{◌≡◌, ℕ, false, List, [], ◌∷◌, ◌++◌, drop, length, map, Option}
-use Rattle.rdm_num.specs.declared.numbers.Life.{Life}
-use Rattle.rdm_num.specs.declared.head.Head.{Head}
-use Rattle.rdm_num.specs.declared.request.RecvReq.{RecvReq}
-use Rattle.rdm_pkt.specs.declared.Form.{Form}
-use Rattle.rdm_pkt.specs.Heads.{head_of}
-use Rattle.rdm_match.specs.Matcher.{Matching, Pair, Post, after, run}
+use Rattle.std.proofs.Common.{◌≡◌, List, [], ◌∷◌, ◌++◌}
+use Rattle.rdm_match.specs.Matcher.{Matching, Pair, run}
 use Rattle.rdm_model.specs.Beginnings.{Own}
 use Rattle.rdm_model.specs.Deeds.{Deed}
 use Rattle.rdm_model.specs.Matches.{events_by}
-use Rattle.rdm_life.specs.Kept.{Kept, Peer, with_peer}
+use Rattle.rdm_life.specs.Kept.{Kept}
 use Rattle.rdm_life.specs.Keeps.{told, own_matching, own_pairs}
 use Rattle.rdm_life.specs.Landing.{meet}
 

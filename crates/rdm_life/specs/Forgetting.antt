@@ -1,5 +1,5 @@
 -- What is kept once lives are forgotten.
-use Rattle.std.specs.Prelude.{ℕ, ◌-◌, Bool, true, false, not, ◌||◌, if◌then◌else◌, List, ◌++◌, map, filter, sum_by, Option, Some, None}
+use Rattle.std.specs.Prelude.{◌-◌, Bool, true, false, not, ◌||◌, if◌then◌else◌, List, ◌++◌, map, filter, sum_by, Option, Some, None}
 use Rattle.std.specs.List.{list_any}
 use Rattle.rdm_num.specs.Lives.{same_life}
 use Rattle.rdm_num.specs.declared.numbers.Life.{Life}

@@ -11,7 +11,7 @@ use Rattle.rdm_pkt.specs.Heads.{head_of, piece_of}
 use Rattle.rdm_model.specs.declared.job.Instr.{Instr}
 use Rattle.rdm_model.specs.declared.job.Instr.TheVariants.{Insert, Reg, Send, Recv, Cancel}
 use Rattle.rdm_model.specs.Beginnings.{Own}
-use Rattle.rdm_model.specs.Deeds.{Deed, Did, PushedNote, Pushed, TookNote, Took, Polled, Nothing, Item, Spelled, Asks, Gives}
+use Rattle.rdm_model.specs.Deeds.{Deed, Did, Pushed, Took, Polled, Item, Spelled, Asks, Gives}
 use Rattle.rdm_model.specs.Grants.{first_part_in}
 use Rattle.rdm_life.specs.Kept.{Kept, Peer, EarlyMessage, LiveReceive, Matched, nothing_kept, with_peer, is_send}
 use Rattle.rdm_life.specs.Memory.{after_reg}

@@ -8,7 +8,7 @@ use Rattle.rdm_pkt.specs.declared.Packet.{Packet}
 use Rattle.rdm_pkt.specs.Openings.{openings}
 use Rattle.rdm_match.specs.Matcher.{Matching, Pair, is_recv}
 use Rattle.rdm_wire.specs.declared.ReadAsk.{ReadAsk}
-use Rattle.rdm_model.specs.Beginnings.{Own, Heads, Messages}
+use Rattle.rdm_model.specs.Beginnings.{Own, Messages}
 use Rattle.rdm_model.specs.ClassFacts.{is_number}
 use Rattle.rdm_model.specs.Completions.{Name, completions, poll_count, heard_names, is_matched, early_count}
 use Rattle.rdm_model.specs.Currents.{current, is_superseded, is_forgotten}
@@ -16,7 +16,7 @@ use Rattle.rdm_model.specs.Deeds.{Deed}
 use Rattle.rdm_model.specs.Dues.{Progress, pieces_in, progress, live_sends}
 use Rattle.rdm_model.specs.Grants.{Grant, first_part, granted_bytes, grants, grant_bytes}
 use Rattle.rdm_model.specs.Heard.{is_heard, is_next_message}
-use Rattle.rdm_model.specs.Local.{heads_by, heard_by}
+use Rattle.rdm_model.specs.Local.{heard_by}
 use Rattle.rdm_model.specs.Matches.{Receive, receives, matching, pairs}
 use Rattle.rdm_model.specs.Parts.{carried_pieces}
 use Rattle.rdm_model.specs.Reads.{asks_of}

@@ -1,10 +1,9 @@
 -- How the bytes of messages land, and what that makes owed.
-use Rattle.std.specs.Prelude.{ℕ, ◌+◌, ◌-◌, min, Bool, true, false, not, ◌&&◌, ◌||◌, ◌==◌, nat_lt, if◌then◌else◌, List, [], ◌∷◌, ◌++◌, length, map, filter, find, flat_map, Option, Some, None, option_map, is_some, unwrap_or}
+use Rattle.std.specs.Prelude.{ℕ, ◌+◌, ◌-◌, min, Bool, true, false, not, ◌&&◌, ◌||◌, nat_lt, if◌then◌else◌, List, [], ◌∷◌, ◌++◌, length, map, filter, find, flat_map, Option, Some, None, option_map, is_some, unwrap_or}
 use Rattle.std.specs.List.{list_any}
 use Rattle.rdm_lists.specs.Lists.{below, each_below}
 use Rattle.rdm_num.specs.Lives.{same_life}
 use Rattle.rdm_num.specs.Pieces.{Piece, byte_in}
-use Rattle.rdm_num.specs.declared.numbers.Life.{Life}
 use Rattle.rdm_num.specs.declared.numbers.OpId.{OpId}
 use Rattle.rdm_num.specs.declared.completion.Completion.{Completion}
 use Rattle.rdm_num.specs.declared.completion.Completion.TheVariants.{Recv}

@@ -7,7 +7,6 @@ use Rattle.rdm_num.specs.declared.numbers.PortNo.{PortNo}
 use Rattle.rdm_num.specs.declared.request.RecvReq.{RecvReq}
 use Rattle.rdm_num.specs.declared.completion.Completion.TheVariants.{Recv}
 use Rattle.rdm_num.specs.declared.completion.Outcome.TheVariants.{Cancelled}
-use Rattle.rdm_match.specs.declared.Arrived.{Arrived}
 use Rattle.rdm_match.specs.Matcher.{Matching, Event, Post, Arrive, after, run, is_recv}
 use Rattle.rdm_model.specs.Matches.{Receive}
 use Rattle.rdm_life.specs.Kept.{Kept, Peer, EarlyMessage, LiveReceive, is_receive, with_peer}
