@@ -1,6 +1,6 @@
 -- Whether an end comes too early, as its send is kept.
-use Rattle.std.proofs.Common.{◌≡◌, ℕ, ◌+◌, ◌-◌, ◌≤◌, min, Bool, true, false, cond, not, ◌&&◌, ◌||◌, nat_lt, nat_le, leb-true, lt-ltb, List, [], ◌∷◌, length, filter, Option, Some, None, refl, arith, inl, inr, sym, ◌∙◌, ap, subst}
-use Rattle.std.specs.Prelude.{◌==◌, if◌then◌else◌, option_map, find}
+use Rattle.std.proofs.Common.{◌≡◌, ℕ, ◌+◌, ◌≤◌, Bool, true, false, cond, not, ◌&&◌, ◌||◌, nat_lt, nat_le, leb-true, lt-ltb, List, [], ◌∷◌, length, filter, Option, Some, None, refl, arith, inl, inr, sym, ◌∙◌, ap, subst}
+use Rattle.std.specs.Prelude.{◌==◌, option_map, find}
 use Rattle.std.specs.List.{list_any}
 use Rattle.std.proofs.lemmas.Bool.{and_parts, eqb-true, not-false}
 use Rattle.rdm_lists.specs.Lists.{Member, each_below}
@@ -9,10 +9,7 @@ use Rattle.rdm_num.specs.Lives.{same_life}
 use Rattle.rdm_num.specs.declared.numbers.Life.{Life}
 use Rattle.rdm_num.specs.declared.lists.IovEntry.{IovEntry}
 use Rattle.rdm_num.proofs.Lives.{same_life-true}
-use Rattle.rdm_num.specs.declared.limits.EpLimits.{EpLimits}
-use Rattle.rdm_pkt.specs.Choice.{choose, eager_room, both_have, read_feature, runt_feature}
 use Rattle.rdm_pkt.specs.declared.Kind.{Kind}
-use Rattle.rdm_pkt.specs.declared.Kind.TheVariants.{Eager, Medium, LongCts, LongRead, Runt}
 use Rattle.rdm_wire.specs.declared.ReadAsk.{ReadAsk}
 use Rattle.rdm_model.specs.Beginnings.{Own}
 use Rattle.rdm_model.specs.ClassFacts.{is_number, is_early_end}
@@ -28,7 +25,7 @@ use Rattle.rdm_model.proofs.Numbers.{sends_one, made, sent_is_of}
 use Rattle.rdm_law.proofs.Lives.Lives.{life_scene, LifeStep, LifeLocal}
 use Rattle.rdm_law.proofs.Accounts.WasDue.{own_sends}
 use Rattle.rdm_law.proofs.Classes.Classed.{taken_parts}
-use Rattle.rdm_law.proofs.Classes.ClassEnds.{asks_all_apart}
+use Rattle.rdm_law.proofs.Classes.ClassEnds.{asks_all_apart, read_within}
 use Rattle.rdm_law.proofs.Ends.LiveSends.{live_parts}
 use Rattle.rdm_law.proofs.Ends.SentSizes.{sent_sized}
 use Rattle.rdm_law.proofs.Fits.AnswersFit.{ranges_fit}
@@ -42,28 +39,6 @@ use Rattle.rdm_life.specs.Sending.{is_asked}
 use Rattle.rdm_life.proofs.AskedPlaces.{counted_is, counted_places}
 use Rattle.rdm_life.proofs.AskFacts.{named}
 use Rattle.rdm_life.proofs.SendFacts.{send_to_life_is}
-
--- what is read of a message begins within it
-read_within : (n : ℕ) (tagged cq_data raw : Bool) (own : ℕ) (known : Option ℕ) (limits : EpLimits) → read_from (choose n tagged cq_data raw own known limits) ≤ n
-unfolding choose read_from
-read_within n tagged cq_data raw own known limits =
-    elim (nat_le n (eager_room tagged cq_data raw limits)) as (λ a. read_from (if a then Eager
-    else if both_have read_feature own known && nat_le limits.read_limit n
-    then (if nat_lt 0 limits.runt && both_have runt_feature own known then Runt (min limits.runt (n - 1)) else LongRead)
-    else if nat_le n limits.medium then Medium
-    else LongCts) ≤ n) [
-      | true ↦ omega arith
-      | false ↦ elim (both_have read_feature own known && nat_le limits.read_limit n) as (λ b. read_from (if b
-          then (if nat_lt 0 limits.runt && both_have runt_feature own known then Runt (min limits.runt (n - 1)) else LongRead)
-          else if nat_le n limits.medium then Medium
-          else LongCts) ≤ n) [
-            | true ↦ elim (nat_lt 0 limits.runt && both_have runt_feature own known) as (λ c. read_from (if c then Runt (min limits.runt (n - 1)) else LongRead) ≤ n) [
-              | true ↦ omega arith
-              | false ↦ omega arith
-            ]
-            | false ↦ elim (nat_le n limits.medium) as (λ c. read_from (if c then Medium else LongCts) ≤ n) [ true ↦ omega arith | false ↦ omega arith ]
-          ]
-    ]
 
 -- an ask of that send that a deed took
 ask_taken : (to : Life) (n : ℕ) (d : Deed) (a : ReadAsk) → Member a (asked_by to n d) → (d ≡ Took to (Asks a)) × (a.send_id.0 ≡ n)

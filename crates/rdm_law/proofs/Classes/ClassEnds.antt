@@ -84,7 +84,7 @@ asks_all_apart (d ∷ before) peer send a =
     ]
 
 -- what is read of a message begins within it
-read_within : (n : ℕ) (tagged cq_data raw : Bool) (own : ℕ) (known : Option ℕ) (limits : EpLimits) → read_from (choose n tagged cq_data raw own known limits) ≤ n
+pub read_within : (n : ℕ) (tagged cq_data raw : Bool) (own : ℕ) (known : Option ℕ) (limits : EpLimits) → read_from (choose n tagged cq_data raw own known limits) ≤ n
 unfolding choose read_from
 read_within n tagged cq_data raw own known limits =
     elim (nat_le n (eager_room tagged cq_data raw limits)) as (λ a. read_from (if a then Eager
