@@ -81,6 +81,9 @@ pub mod ReceivesQuiet
 pub mod ReceivesReg
 pub mod ReceivesCancel
 pub mod ReceivesSteps
+-- Deeds that make pairs or bring bytes:
+-- which pairs they are of, and what is kept once the bytes landed
+pub mod Settling
 -- What is owed and the completions, but for the same deeds and pushes:
 pub mod Owing
 pub mod Idle
