@@ -8,7 +8,7 @@ use Rattle.rdm_life.specs.Memory.{is_place_of}
 use Rattle.rdm_life.proofs.Writes.{put_before, put_after, changed_here, changed_there}
 
 -- past the end there is none
-get_or_past : {A : Type 0} (xs : List A) (n : ℕ) (d : A) → length xs ≤ n → get_or xs n d ≡ d
+pub get_or_past : {A : Type 0} (xs : List A) (n : ℕ) (d : A) → length xs ≤ n → get_or xs n d ≡ d
 get_or_past [] n d h = refl
 get_or_past (x ∷ xs) zero d h = absurd (omega arith)
 get_or_past (x ∷ xs) (suc n) d h = get_or_past xs n d (omega arith)

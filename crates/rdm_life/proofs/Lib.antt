@@ -75,6 +75,7 @@ pub mod Back
 -- what ends write
 pub mod Writes
 pub mod EndBytes
+pub mod EndsWritten
 -- what the deeds make of them
 pub mod ReceivesStart
 pub mod ReceivesQuiet

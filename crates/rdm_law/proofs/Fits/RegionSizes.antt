@@ -23,7 +23,7 @@ put_length at bytes region h =
     omega arith
 
 -- what is put within one of the regions leaves all sizes
-change_at_sizes : (at : ℕ) (bytes : List ℕ) (n : ℕ) (rs : List (List ℕ)) → at + length bytes ≤ get_or (map length rs) n 0
+pub change_at_sizes : (at : ℕ) (bytes : List ℕ) (n : ℕ) (rs : List (List ℕ)) → at + length bytes ≤ get_or (map length rs) n 0
     → map length (change_at (put at bytes) n rs) ≡ map length rs
 unfolding change_at
 change_at_sizes at bytes n [] h = refl
@@ -31,7 +31,7 @@ change_at_sizes at bytes zero (r ∷ rs) h = ap (λ (k : ℕ). k ∷ map length 
 change_at_sizes at bytes (suc n) (r ∷ rs) h = ap (λ (ks : List ℕ). length r ∷ ks) (change_at_sizes at bytes n rs h)
 
 -- what an end writes fits into the receive's range
-written_length : (ms : Messages) (e : RecvEnd) (req : RecvReq) → length (written_by ms e req) ≤ req.len
+pub written_length : (ms : Messages) (e : RecvEnd) (req : RecvReq) → length (written_by ms e req) ≤ req.len
 unfolding written_by kept_bytes
 written_length ms (Filled p) req = let a = length-take req.len (ms.bytes p.message.life p.message.no.0) in omega arith
 written_length ms (Withdrawn n) req = omega arith
