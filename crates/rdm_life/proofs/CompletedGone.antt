@@ -50,7 +50,7 @@ abbrev kept_gone : LiveReceive → Completion
 kept_gone r = Recv (record { 0 = r.receive.number }) GoneOutcome
 
 -- an accepted receive is found by its number
-numbered_so : (log : List Deed) (r : Receive) → Member r (receives log) → receive_numbered (receives log) r.number ≡ Some r
+pub numbered_so : (log : List Deed) (r : Receive) → Member r (receives log) → receive_numbered (receives log) r.number ≡ Some r
 unfolding receive_numbered
 numbered_so log r m =
     let t : Receive → Bool = λ x. x.number == r.number in
@@ -109,7 +109,7 @@ of_is own log n old (Some p) f =
     ]) refl
 
 -- a kept receive concerns a life where the receive does
-concerns_is : (own : Own) (log : List Deed) (old : Life) (r : Receive) → concerns (old ∷ []) (kept_receive own log r) ≡ is_concerned (own_pairs own log) old r
+pub concerns_is : (own : Own) (log : List Deed) (old : Life) (r : Receive) → concerns (old ∷ []) (kept_receive own log r) ≡ is_concerned (own_pairs own log) old r
 unfolding concerns is_concerned kept_receive
 concerns_is own log old r =
     let a = names_is r.posted.from old in
@@ -127,12 +127,12 @@ unfolding is_of_one is_among
 of_none None = refl
 of_none (Some m) = refl
 
-none_concerned : (r : LiveReceive) → concerns [] r ≡ false
+pub none_concerned : (r : LiveReceive) → concerns [] r ≡ false
 unfolding concerns
 none_concerned r = let a = names_none r.receive.posted.from in let b = of_none r.matched in rw (a, b) refl
 
 -- tests in either order
-both_ways : (a b : Bool) → (a && b) ≡ (b && a)
+pub both_ways : (a b : Bool) → (a && b) ≡ (b && a)
 both_ways true true = refl
 both_ways true false = refl
 both_ways false true = refl
@@ -166,7 +166,7 @@ unfolding recv_completions
 gone_nobody own log v d = ap (map kept_gone) (filter_nothing (concerns []) v.receives (λ r m. none_concerned r))
 
 -- one life at most is another one
-most_one : (life : Life) (o : Option Life) → (other_life life o ≡ []) ⊎ ((old : Life) × (other_life life o ≡ old ∷ []))
+pub most_one : (life : Life) (o : Option Life) → (other_life life o ≡ []) ⊎ ((old : Life) × (other_life life o ≡ old ∷ []))
 unfolding other_life
 most_one life None = inl refl
 most_one life (Some old) =
@@ -188,7 +188,7 @@ gone_lives own log v d life o same k =
     ]
 
 -- the receives that an insert ends
-insert_ends : (own : Own) (log : List Deed) (life : Life)
+pub insert_ends : (own : Own) (log : List Deed) (life : Life)
     → new_ends own (Did (Insert life)) log ≡ flat_map (gone_with own.limits.first (told own (Did (Insert life) ∷ log)).head log (own_ends own log)) (other_life life (current log life.port.0))
 unfolding recv_ends_by withdrawn_by forgotten_by
 insert_ends own log life =
@@ -196,7 +196,7 @@ insert_ends own log life =
     rw n refl
 
 -- an insert accepts no receive
-insert_receives : (log : List Deed) (life : Life) → receives (Did (Insert life) ∷ log) ≡ receives log
+pub insert_receives : (log : List Deed) (life : Life) → receives (Did (Insert life) ∷ log) ≡ receives log
 unfolding receives with_received received_by
 insert_receives log life = append-nil (receives log)
 

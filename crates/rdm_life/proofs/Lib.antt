@@ -81,6 +81,7 @@ pub mod ReceivesStart
 pub mod ReceivesQuiet
 pub mod ReceivesReg
 pub mod ReceivesCancel
+pub mod ReceivesInsert
 pub mod ReceivesSteps
 -- Deeds that make pairs or bring bytes:
 -- which pairs they are of, and what is kept once the bytes landed
