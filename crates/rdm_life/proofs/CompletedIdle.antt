@@ -54,7 +54,7 @@ unfolding recv_completions
 no_received own d log i w f = ap (recv_completions (told own (d ∷ log)) (receives (d ∷ log))) (no_ends own d log i w f)
 
 -- the completions after it are those of sends
-only_sends : (own : Own) (d : Deed) (log : List Deed) (new : List Completion) → IsIdle d → withdrawn_by d ≡ [] → forgotten_by log d ≡ []
+pub only_sends : (own : Own) (d : Deed) (log : List Deed) (new : List Completion) → IsIdle d → withdrawn_by d ≡ [] → forgotten_by log d ≡ []
     → new ≡ map (send_completion (d ∷ log)) (new_over own d log) → own_completions own (d ∷ log) ≡ own_completions own log ++ new
 only_sends own d log new i w f e =
     completed own d log

@@ -86,13 +86,14 @@ pub mod ReceivesSteps
 -- Deeds that make pairs or bring bytes:
 -- which pairs they are of, and what is kept once the bytes landed
 pub mod Settling
--- What is owed and the completions, but for the same deeds and pushes:
+-- What is owed and the completions, but for the same deeds:
 pub mod Owing
 pub mod Idle
 pub mod OwedIdle
 pub mod Completing
 pub mod CompletedIdle
 pub mod CompletedGone
+pub mod CompletedPushed
 pub mod KeepsOwed
 -- What answers depend on:
 pub mod FactsKept

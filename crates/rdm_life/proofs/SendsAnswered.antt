@@ -62,7 +62,7 @@ unfolding due next_due reply_due
 reply_is_due own log r h = ap (λ (o : Option Reply). reply_due o (next_send own log (own_progress own log).packets (own_sends own log))) h
 
 -- then no packet of a send goes out
-reply_packets : (own : Own) (log : List Deed) (r : Reply) (n : ℕ) → slice_get (own_progress own log).replies 0 ≡ Some r → own_packets own (Pushed ∷ log) n ≡ own_packets own log n
+pub reply_packets : (own : Own) (log : List Deed) (r : Reply) (n : ℕ) → slice_get (own_progress own log).replies 0 ≡ Some r → own_packets own (Pushed ∷ log) n ≡ own_packets own log n
 unfolding after_due
 reply_packets own log r n h = packets_after own log (Replies r) n (reply_is_due own log r h)
 

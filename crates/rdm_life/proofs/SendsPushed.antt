@@ -32,12 +32,12 @@ use Rattle.rdm_life.proofs.SendTargets.{live_sent}
 use Rattle.rdm_life.proofs.SendWords.{answer_count, kept_by, kept_is}
 
 -- the send whose packet is due
-record FirstSend (own : Own) (log : List Deed) : Type 0 where
-  sent : Sent
-  packet : Packet
-  found : first_next own log ≡ Some sent
-  next : next_packet own log sent (own_packets own log sent.number) ≡ Some packet
-  is_due : due own (told own log) log ≡ Some (Sends sent packet)
+pub record FirstSend (own : Own) (log : List Deed) : Type 0 where
+  pub sent : Sent
+  pub packet : Packet
+  pub found : first_next own log ≡ Some sent
+  pub next : next_packet own log sent (own_packets own log sent.number) ≡ Some packet
+  pub is_due : due own (told own log) log ≡ Some (Sends sent packet)
 
 -- a packet that is due
 packet_found : (s : Sent) (t : Due) (o : Option Packet) → send_due s o None ≡ Some t → (p : Packet) × (o ≡ Some p) × (t ≡ Sends s p)
@@ -55,7 +55,7 @@ send_found own log t (Some s) e h d =
     record { sent = s; packet = p.0; found = e; next = p.1; is_due = d ∙ ap Some p.2 }
 
 -- where no reply is owed, what is due is of a send
-first_send : (own : Own) (log : List Deed) (t : Due) → slice_get (own_progress own log).replies 0 ≡ None → due own (told own log) log ≡ Some t → FirstSend own log
+pub first_send : (own : Own) (log : List Deed) (t : Due) → slice_get (own_progress own log).replies 0 ≡ None → due own (told own log) log ≡ Some t → FirstSend own log
 unfolding due next_due reply_due
 first_send own log t none h =
     let e = ap (λ (o : Option Reply). reply_due o (next_send own log (own_progress own log).packets (own_sends own log))) none ∙ own_next_send own log in
@@ -67,7 +67,7 @@ nothing_first [] h = refl
 nothing_first (x ∷ xs) h = cc
 
 -- another send gets no packet
-others_same : (own : Own) (log : List Deed) (s : Sent) (p : Packet) (n : ℕ) → due own (told own log) log ≡ Some (Sends s p) → (n ≡ s.number → ⊥) → own_packets own (Pushed ∷ log) n ≡ own_packets own log n
+pub others_same : (own : Own) (log : List Deed) (s : Sent) (p : Packet) (n : ℕ) → due own (told own log) log ≡ Some (Sends s p) → (n ≡ s.number → ⊥) → own_packets own (Pushed ∷ log) n ≡ own_packets own log n
 unfolding after_due
 others_same own log s p n h other =
     packets_after own log (Sends s p) n h
@@ -85,7 +85,7 @@ one_or_none true x = refl
 one_or_none false x = refl
 
 -- the send whose packet goes out goes on so, or is over
-sent_goes : (own : Own) (log : List Deed) (s : Sent) (p : Packet) → LifeLocal own log → slice_get (own_progress own log).replies 0 ≡ None → Member s (own_live own log)
+pub sent_goes : (own : Own) (log : List Deed) (s : Sent) (p : Packet) → LifeLocal own log → slice_get (own_progress own log).replies 0 ≡ None → Member s (own_live own log)
     → next_packet own log s (own_packets own log s.number) ≡ Some p → due own (told own log) log ≡ Some (Sends s p)
     → after_packet own (kept_send own log s) ≡ cond (not (own_over own (Pushed ∷ log) s)) (kept_send own (Pushed ∷ log) s ∷ []) []
 unfolding after_packet
