@@ -31,6 +31,7 @@ use Rattle.rdm_life.specs.Kept.{Kept, LiveSend}
 use Rattle.rdm_life.specs.Keeps.{told, kept_send, Keeps, KeepsSends}
 use Rattle.rdm_life.specs.Sending.{is_sent, is_send_of}
 use Rattle.rdm_life.specs.Facts.{send_passes, class_facts_in}
+use Rattle.rdm_life.proofs.HasBytes.{FormHasBytes, HasBytes}
 use Rattle.rdm_life.proofs.SendFacts.{send_of_message_is, takes_grants_is, takes_end_is, takes_receipt_is}
 use Rattle.rdm_life.proofs.AskFacts.{may_be_asked_is}
 use Rattle.rdm_life.proofs.GrantFacts.{is_wrong_grant_is}
@@ -39,17 +40,6 @@ use Rattle.rdm_life.proofs.SentWhole.{is_sent_is}
 use Rattle.rdm_life.proofs.MessageStands.{stands, head_is}
 use Rattle.rdm_life.proofs.CameFacts.{came_in_part_is}
 use Rattle.rdm_life.proofs.ReceiveFacts.{has_shape_is, passes_grants_is, came_in_part_of_is}
-
--- a segment that has some byte, as packets have it
-abbrev pub FormHasBytes : Form → Type 0
-FormHasBytes (Medium size offset bytes) = 0 < length bytes
-FormHasBytes (Runt size send iov runt offset bytes) = 0 < length bytes
-FormHasBytes _ = Unit {0}
-
--- what comes has bytes where it is a segment
-abbrev pub HasBytes : Item → Type 0
-HasBytes (Spelled (Rtm number tag confirm opt form)) = FormHasBytes form
-HasBytes _ = Unit {0}
 
 -- whether a receipt comes too early, of a send that is there
 receipt_of : (own : Own) (ports : ℕ) (port_log log : List Deed) (o : Option Sent) → ((t : Sent) → o ≡ Some t → Member t (sends own (told own log) log))

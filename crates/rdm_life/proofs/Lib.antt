@@ -1,6 +1,8 @@
 -- Proofs.
 -- what one deed makes of the pairs
 pub mod Made
+-- what comes has bytes where it is a segment
+pub mod HasBytes
 -- Lives, regions and counts:
 -- which steps leave them
 pub mod LivesLeft
