@@ -88,6 +88,8 @@ pub mod ReceivesSteps
 -- Deeds that make pairs or bring bytes:
 -- which pairs they are of, and what is kept once the bytes landed
 pub mod Settling
+-- what those pairs owe and complete
+pub mod SettledPairs
 -- What is owed and the completions, but for the same deeds:
 pub mod Owing
 pub mod Idle

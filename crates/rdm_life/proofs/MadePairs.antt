@@ -31,7 +31,7 @@ abbrev pub name_of : Pair → Name
 name_of p = named p.message.life p.message.no.0
 
 -- a pair that the deed makes is one of those after it
-made_after : (own : Own) (d : Deed) (before : List Deed) (p : Pair) → Member p (made own d before) → Member p (own_pairs own (d ∷ before))
+pub made_after : (own : Own) (d : Deed) (before : List Deed) (p : Pair) → Member p (made own d before) → Member p (own_pairs own (d ∷ before))
 made_after own d before p m = subst (λ (ps : List Pair). Member p ps) (sym (pairs_added own d before)) (member-append_right p (own_pairs own before) (made own d before) m)
 
 -- a list that lacks a receive
@@ -89,7 +89,7 @@ matched_after_is own d before m =
     ∙ list_any-append (λ (p : Pair). same_life p.message.life m.life && p.message.no.0 == m.number) (own_pairs own before) (made own d before)
 
 -- lists of pairs that are apart are distinct
-apart_distinct : (ps : List Pair) → PairsApart ps → AreDistinct ps
+pub apart_distinct : (ps : List Pair) → PairsApart ps → AreDistinct ps
 apart_distinct [] apart = tt
 apart_distinct (p ∷ ps) apart = (λ m. lacks_it p.recv.id.0 ps p apart.0 m refl, apart_distinct ps apart.1)
 

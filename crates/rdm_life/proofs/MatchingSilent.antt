@@ -71,7 +71,7 @@ unfolding is_forgotten
 still_forgotten before d life none = ap (λ (ls : List Life). is_forgotten before life || list_any (same_life life) ls) none ∙ or_none (is_forgotten before life)
 
 -- no receive was paired with a message that was not matched
-unpaired : (ps : List Pair) (recv : ℕ) (life : Life) (n : ℕ) → is_matched ps (named life n) ≡ false → is_pair ps recv life n ≡ false
+pub unpaired : (ps : List Pair) (recv : ℕ) (life : Life) (n : ℕ) → is_matched ps (named life n) ≡ false → is_pair ps recv life n ≡ false
 unfolding is_matched is_pair
 unpaired ps recv life n unmatched =
     let test : Pair → Bool = λ (p : Pair). is_recv recv p.recv && same_life p.message.life life && p.message.no.0 == n in
