@@ -7,20 +7,16 @@ use Rattle.rdm_pkt.specs.declared.Packet.{Packet}
 use Rattle.rdm_model.specs.Beginnings.{Own}
 use Rattle.rdm_model.specs.Deeds.{Deed, Item}
 use Rattle.rdm_model.specs.Dues.{Due, next_packet, send_due, reply_due, next_due, due}
-use Rattle.rdm_model.specs.Going.{Going, Goes, due_going}
+use Rattle.rdm_model.specs.Going.{due_going}
 use Rattle.rdm_model.specs.Replies.{Reply}
 use Rattle.rdm_model.specs.Sends.{Sent}
 use Rattle.rdm_law.proofs.Lives.Lives.{LifeLocal}
 use Rattle.rdm_life.specs.Kept.{Kept}
 use Rattle.rdm_life.specs.Keeps.{told, own_progress, kept_send, Keeps}
-use Rattle.rdm_life.specs.Sending.{send_next, item_of_send, item_of_found, first_of, goes_out}
+use Rattle.rdm_life.specs.Sending.{going_to, send_next, item_of_send, item_of_found, first_of, goes_out}
 use Rattle.rdm_life.proofs.GoesSends.{packet_next_is, has_next, first_next, send_next_is, due_of, own_next_send}
 use Rattle.rdm_life.proofs.OwnSends.{own_live, own_packets}
 use Rattle.rdm_life.proofs.SendTargets.{live_sent}
-
--- what goes to a life, as a datagram
-abbrev pub going_to : Option (Life × Item) → Option Going
-going_to o = option_map (λ (x : Life × Item). Goes x.0 x.1) o
 
 -- a packet of a send
 packet_going : (own : Own) (log : List Deed) (s : Sent) (o : Option Packet) → due_going (send_due s o None) ≡ going_to (item_of_send own (kept_send own log s) o)

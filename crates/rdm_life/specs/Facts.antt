@@ -1,5 +1,5 @@
 -- What answers and classes depend on, as it is kept.
-use Rattle.std.specs.Prelude.{ℕ, ◌+◌, ◌-◌, Bool, true, false, not, ◌&&◌, ◌||◌, ◌==◌, nat_lt, nat_le, length, find, Option, Some, None, option_map, is_some}
+use Rattle.std.specs.Prelude.{ℕ, ◌+◌, ◌-◌, if◌then◌else◌, List, [], Bool, true, false, not, ◌&&◌, ◌||◌, ◌==◌, nat_lt, nat_le, length, find, Option, Some, None, option_map, is_some}
 use Rattle.std.specs.List.{list_any}
 use Rattle.rdm_lists.specs.Lists.{each_below}
 use Rattle.rdm_num.specs.Lives.{same_life}
@@ -17,7 +17,11 @@ use Rattle.rdm_model.specs.Takes.{PlaceFacts}
 use Rattle.rdm_model.specs.Targets.{is_long, is_long_shape, is_read_shape, read_from, is_in_iov}
 use Rattle.rdm_life.specs.Kept.{Kept, EarlyMessage, LiveSend, LiveReceive, Matched}
 use Rattle.rdm_life.specs.Sending.{is_sent, is_send_of}
-use Rattle.rdm_life.specs.Handling.{receive_of}
+use Rattle.rdm_life.specs.Handling.{receive_of, opened_by}
+use Rattle.rdm_life.specs.Receiving.{numbers_in, hear}
+use Rattle.rdm_pkt.specs.declared.Packet.TheVariants.{Rtm}
+use Rattle.rdm_pkt.specs.Heads.{head_of}
+use Rattle.rdm_model.specs.Deeds.{Item, Spelled}
 
 -- the range shares a place with that of a live receive
 unfoldable pub meets_receive_in : Kept → (region at len : ℕ) → Bool
@@ -172,3 +176,9 @@ place_facts_in v =
       is_met = λ source number tag. is_met_in v source number tag;
       is_full = nat_le v.own.limits.early v.early_count;
     }
+
+-- the numbers that enter by what is taken from a life: a new message lets all enter that were heard of, up to the first number that was not
+unfoldable pub entered_in : Kept → Life → Item → List ℕ
+entered_in v from (Spelled (Rtm number tag confirm opt form)) =
+    if (v.peers from).heard number.0 then [] else numbers_in (hear from number.0 (opened_by (head_of tag confirm opt form) form) v) from
+entered_in v from _ = []

@@ -11,3 +11,5 @@ pub mod Handling
 pub mod Keeps
 -- and what answers and classes depend on
 pub mod Facts
+-- what holds of it for each local log
+pub mod Laws

@@ -79,12 +79,14 @@ heard_run (suc most) heard from = if heard from then suc (heard_run most heard (
 abbrev pub entering_in : Kept → Life → ℕ
 entering_in v source = heard_run v.early_count (v.peers source).heard (v.peers source).next
 
+-- their numbers
+abbrev pub numbers_in : Kept → Life → List ℕ
+numbers_in v source = map (λ k. (v.peers source).next + k) (below (entering_in v source))
+
 -- the messages of a life enter that were heard of, up to the first number that was not
 unfoldable pub enter : Life → Kept → Kept
 enter source v =
-    let count : ℕ = entering_in v source in
-    let numbers : List ℕ = map (λ k. (v.peers source).next + k) (below count) in
-    with_matching (run (lists_in v) (map (arrival_in v source) numbers)) (with_peer source (λ (p : Peer). record p { next = p.next + count }) v)
+    with_matching (run (lists_in v) (map (arrival_in v source) (numbers_in v source))) (with_peer source (λ (p : Peer). record p { next = p.next + entering_in v source }) v)
 
 -- a message was heard of, and is early
 unfoldable pub hear : Life → (number : ℕ) → EarlyMessage → Kept → Kept

@@ -15,6 +15,7 @@ use Rattle.rdm_pkt.specs.Openings.{openings}
 use Rattle.rdm_wire.specs.declared.ReadAsk.{ReadAsk}
 use Rattle.rdm_model.specs.Beginnings.{Own}
 use Rattle.rdm_model.specs.Deeds.{Item, Spelled}
+use Rattle.rdm_model.specs.Going.{Going, Goes}
 use Rattle.rdm_model.specs.Dues.{pieces_in, is_read}
 use Rattle.rdm_model.specs.Grants.{data_room}
 use Rattle.rdm_model.specs.Replies.{Reply, given_of}
@@ -97,6 +98,10 @@ first_of (Some r) others = Some (r.to, r.item)
 -- what goes out next, and to which life
 unfoldable pub goes_out : Kept → Option (Life × Item)
 goes_out v = first_of (slice_get v.owed 0) (item_of_found v.own (send_next v))
+
+-- the same as it goes from a port
+abbrev pub going_to : Option (Life × Item) → Option Going
+going_to o = option_map (λ (x : Life × Item). Goes x.0 x.1) o
 
 -- ---- what a push leaves
 

@@ -1,0 +1,59 @@
+-- What holds of an endpoint's record, for each life of a port whose log is right by itself.
+use Rattle.std.specs.Prelude.{◌≡◌, ℕ, List, Some, None, slice_get}
+use Rattle.rdm_num.specs.declared.numbers.Life.{Life}
+use Rattle.rdm_num.specs.declared.numbers.Connid.{Connid}
+use Rattle.rdm_wire.specs.declared.Load.{Load}
+use Rattle.rdm_model.specs.declared.job.Job.{Job}
+use Rattle.rdm_model.specs.declared.job.Instr.{Instr}
+use Rattle.rdm_model.specs.declared.entry.Entry.{Entry}
+use Rattle.rdm_model.specs.Answers.{answer_of, answer_by}
+use Rattle.rdm_model.specs.Beginnings.{own_of, life_at}
+use Rattle.rdm_model.specs.Classes.{item_class_by, item_class}
+use Rattle.rdm_model.specs.Deeds.{Took, item_of, of_life, open_life}
+use Rattle.rdm_model.specs.Dues.{due}
+use Rattle.rdm_model.specs.Facts.{port_facts}
+use Rattle.rdm_model.specs.Going.{due_going}
+use Rattle.rdm_model.specs.Heard.{entering}
+use Rattle.rdm_model.specs.Local.{own_scene, Local}
+use Rattle.rdm_model.specs.Scenes.{Scene, deeds_at}
+use Rattle.rdm_model.specs.Steps.{next_completion}
+use Rattle.rdm_model.specs.Takes.{needs_place_by, needs_place, place_facts}
+use Rattle.rdm_life.specs.Kept.{Kept}
+use Rattle.rdm_life.specs.Keeps.{Keeps}
+use Rattle.rdm_life.specs.Facts.{facts_in, class_facts_in, place_facts_in, entered_in}
+use Rattle.rdm_life.specs.Handling.{kept}
+use Rattle.rdm_life.specs.Sending.{goes_out, going_to}
+
+-- Each field that is kept of the deeds of a life is what the definitions say.
+abbrev pub RecordIsKept : Type 0
+RecordIsKept =
+    (job : Job) (port : ℕ) (connid : Connid) (log : List Entry)
+    → Local job port log
+    → Keeps (own_of job (life_at port (Some connid))) (of_life connid (deeds_at job port log)) (kept (own_of job (life_at port (Some connid))) (of_life connid (deeds_at job port log)))
+
+-- what is kept of the deeds of a scene
+abbrev pub kept_in : Scene → Kept
+kept_in s = kept s.own s.log
+
+-- What is kept answers all that a scene does.
+pub record AnswersAs (s : Scene) (v : Kept) : Type 0 where
+  -- each instruction is answered as by the definitions
+  pub answers : (instr : Instr) → answer_by (port_facts s) (facts_in v) instr ≡ answer_of s instr
+  -- what comes has the class that they give it
+  pub classes : (from : Life) (to : Connid) (load : Load) → item_class_by (class_facts_in v) from to (item_of load) ≡ item_class s from to (item_of load)
+  -- where no class fits, it needs an early place where it does by the definitions, and they are all taken where they say so
+  pub places : (from : Life) (to : Connid) (load : Load) → item_class s from to (item_of load) ≡ None → needs_place_by (place_facts_in v) from (item_of load) ≡ needs_place s from (item_of load)
+  pub fulls : (place_facts_in v).is_full ≡ (place_facts s).is_full
+  -- where no class fits, the messages enter that enter by the definitions
+  pub enters : (from : Life) (to : Connid) (load : Load) → item_class s from to (item_of load) ≡ None → entered_in v from (item_of load) ≡ entering s.own.limits.first (Took from (item_of load)) s.log from
+  -- what goes out next is what is due, and what is polled next is the first completion that was not
+  pub goes : due_going (due s.own s.ms s.log) ≡ going_to (goes_out v)
+  pub polls : slice_get v.completions 0 ≡ next_completion s
+
+-- What is kept of an open life answers all that its scene does.
+abbrev pub FactsAreKept : Type 0
+FactsAreKept =
+    (job : Job) (port : ℕ) (connid : Connid) (log : List Entry)
+    → Local job port log
+    → open_life (deeds_at job port log) ≡ Some connid
+    → AnswersAs (own_scene job port (deeds_at job port log)) (kept_in (own_scene job port (deeds_at job port log)))
