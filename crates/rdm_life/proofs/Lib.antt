@@ -101,6 +101,8 @@ pub mod CompletedPushed
 pub mod KeepsOwed
 -- What answers depend on:
 pub mod FactsKept
+-- and the numbers that enter
+pub mod EnteredKept
 -- What the class of an item depends on:
 pub mod SendFacts
 pub mod AskFacts

@@ -75,7 +75,7 @@ matching_start own = record {
 }
 
 -- a packet of a message that was heard of changes nothing that was heard
-same_heard : (from : Life) (number : MsgNo) (tag : Option ℕ) (confirm : Bool) (opt : Opt) (form : Form) (before : List Deed) → is_heard before from number.0 ≡ true
+pub same_heard : (from : Life) (number : MsgNo) (tag : Option ℕ) (confirm : Bool) (opt : Opt) (form : Form) (before : List Deed) → is_heard before from number.0 ≡ true
     → (life : Life) (n : ℕ) → is_heard (Took from (Spelled (Rtm number tag confirm opt form)) ∷ before) life n ≡ is_heard before life n
 same_heard from number tag confirm opt form before heard life n =
     heard_of from life number tag confirm opt form before n

@@ -74,7 +74,7 @@ tag_is own before v from number tag confirm opt form e f unheard head r k past t
     ]
 
 -- the next number stays as a message is heard of
-next_here : (from : Life) (number : MsgNo) (e : EarlyMessage) (v : Kept) → ((hear from number.0 e v).peers from).next ≡ (v.peers from).next
+pub next_here : (from : Life) (number : MsgNo) (e : EarlyMessage) (v : Kept) → ((hear from number.0 e v).peers from).next ≡ (v.peers from).next
 unfolding hear
 next_here from number e v =
     ap (λ (b : Bool). (cond b (record (v.peers from) { heard = λ n. (v.peers from).heard n || n == number.0 }) (v.peers from)).next) (same_life-refl from)
