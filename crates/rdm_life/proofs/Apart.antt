@@ -124,19 +124,21 @@ received_one (Did (Recv req)) before q r (inr never) b = elim never [ ]
 received_one (Did (Recv req)) before q r (inl a) (inr never) = elim never [ ]
 received_one _ before q r a b = elim a [ ]
 
+-- receives that have a place in common are one, where each was live before a deed or was accepted by it
+pub apart_with : (own : Own) (d : Deed) (before : List Deed) (q r : Receive) (region place : ℕ) → LifeStep own before d
+    → (Member q (own_live_receives own before) → Member r (own_live_receives own before) → q ≡ r)
+    → Member q (own_live_receives own before) ⊎ Member q (received_by (receives before) before d)
+    → Member r (own_live_receives own before) ⊎ Member r (received_by (receives before) before d)
+    → is_place_of q.req region place ≡ true → is_place_of r.req region place ≡ true → q ≡ r
+apart_with own d before q r region place step old (inl a) (inl b) h i = old a b
+apart_with own d before q r region place step old (inl a) (inr b) h i = absurd (received_apart own d before r q region place step b a i h)
+apart_with own d before q r region place step old (inr a) (inl b) h i = absurd (received_apart own d before q r region place step a b h i)
+apart_with own d before q r region place step old (inr a) (inr b) h i = received_one d before q r a b
+
 -- live receives that have a place in common are one
 pub ranges_apart : (own : Own) (log : List Deed) → LifeLocal own log → (q r : Receive) (region place : ℕ) → Member q (own_live_receives own log) → Member r (own_live_receives own log)
     → is_place_of q.req region place ≡ true → is_place_of r.req region place ≡ true → q ≡ r
 unfolding receives
 ranges_apart own [] local q r region place m k h i = elim (live_is own [] q m).0 [ ]
 ranges_apart own (d ∷ before) local q r region place m k h i =
-    elim (live_was own d before q m) [
-      | inl a ↦ elim (live_was own d before r k) [
-        | inl b ↦ ranges_apart own before local.0 q r region place a b h i
-        | inr b ↦ absurd (received_apart own d before r q region place local.1 b a i h)
-      ]
-      | inr a ↦ elim (live_was own d before r k) [
-        | inl b ↦ absurd (received_apart own d before q r region place local.1 a b h i)
-        | inr b ↦ received_one d before q r a b
-      ]
-    ]
+    apart_with own d before q r region place local.1 (λ a b. ranges_apart own before local.0 q r region place a b h i) (live_was own d before q m) (live_was own d before r k) h i

@@ -25,7 +25,7 @@ abbrev pieces_of : Own → List Deed → Life → ℕ → List Piece
 pieces_of own log source n = carried_pieces own.limits.first (told own log).head log source n
 
 -- of a message of which all bytes came, some bytes of each range came or lie outside
-all_came : (ps : List Piece) (size offset len : ℕ) → covers ps size ≡ true → 0 < len → is_missing ps size offset len ≡ false
+pub all_came : (ps : List Piece) (size offset len : ℕ) → covers ps size ≡ true → 0 < len → is_missing ps size offset len ≡ false
 unfolding covers is_missing
 all_came ps size offset len all some =
     false_unless (nat_le (offset + len) size && each_below (λ k. not (is_some (byte_at ps (offset + k)))) len) (λ is.

@@ -150,7 +150,7 @@ some_cond true o x h = (refl, h)
 some_cond false o x h = cc
 
 -- a byte of a piece stands at its offset or after it
-byte_starts : (q : Piece) (place b : ℕ) → byte_in q place ≡ Some b → q.offset ≤ place
+pub byte_starts : (q : Piece) (place b : ℕ) → byte_in q place ≡ Some b → q.offset ≤ place
 byte_starts q place b h =
     elim (cases_lt place q.offset) [ inl a ↦ absurd (let n = byte_in_before q place a in cc) | inr a ↦ a ]
 
@@ -241,7 +241,7 @@ first_brings (LongRead size send iov) x place b long piece is = cc
 first_brings (Runt size send iov runt offset bytes) x place b long piece is = cc
 
 -- the pair of a live receive, by the account of the life
-live_is : (s : Scene) (from : Life) (recv : ℕ) (q : Pair) → live_pair s from recv ≡ Some q → Member q (pairs s.own.limits.first s.ms.head s.log) × (q.recv.id.0 ≡ recv)
+pub live_is : (s : Scene) (from : Life) (recv : ℕ) (q : Pair) → live_pair s from recv ≡ Some q → Member q (pairs s.own.limits.first s.ms.head s.log) × (q.recv.id.0 ≡ recv)
 unfolding live_pair is_recv
 live_is s from recv q h =
     let ended = has_ended (recv_ends s.own.limits.first s.ms.head s.log) recv in

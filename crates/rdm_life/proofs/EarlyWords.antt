@@ -1,5 +1,5 @@
 -- How what is known of an early message moves at a deed.
-use Rattle.std.proofs.Common.{◌≡◌, ℕ, Bool, cond, not, ◌&&◌, List, [], ◌∷◌, ◌++◌, Option, Some, None, refl, sym, ◌∙◌, ap, option_to_list}
+use Rattle.std.proofs.Common.{◌≡◌, ℕ, Bool, cond, not, ◌&&◌, true, false, List, [], ◌∷◌, ◌++◌, Option, Some, None, refl, sym, ◌∙◌, ap, option_to_list}
 use Rattle.std.specs.Prelude.{unwrap_or}
 use Rattle.std.proofs.Math.Path.{fun_ext}
 use Rattle.rdm_lists.specs.Lists.{or_else}
@@ -73,24 +73,49 @@ pub first_still : (d : Deed) (before : List Deed) (life : Life) (n : ℕ) → fi
 unfolding first_part first_part_taken
 first_still d before life n none = ap (λ (o : Option ℕ). unwrap_or (or_else (first_part_taken before life n) o) 0) none ∙ ap (λ (o : Option ℕ). unwrap_or o 0) (or_else-none (first_part_taken before life n))
 
+-- a message as far as it came
+abbrev pub so_far : Own → List Deed → Life → ℕ → EarlyMessage
+so_far own log life n = record { head = (told own log).head life n; came = λ place. byte_came own log life n place; first_part = first_part log life n }
+
+-- a message by its parts
+abbrev pub message_by : Head → (ℕ → Option ℕ) → ℕ → EarlyMessage
+message_by head came first = record { head = head; came = came; first_part = first }
+
+-- a deed that tells nothing of a message and brings no bytes of it leaves it as far as it came
+pub so_far_still : (own : Own) (d : Deed) (before : List Deed) (life : Life) (n : ℕ) → head_by life n d ≡ None → first_part_by life n d ≡ None → carried_by (own_pairs own before) life n d ≡ None
+    → so_far own (d ∷ before) life n ≡ so_far own before life n
+so_far_still own d before life n no_head' no_part no_bytes =
+    ap (λ (h : Head). message_by h (λ place. byte_came own (d ∷ before) life n place) (first_part (d ∷ before) life n)) (told_still own d before life n no_head')
+    ∙ ap (λ (f : ℕ → Option ℕ). message_by ((told own before).head life n) f (first_part (d ∷ before) life n)) (fun_ext (λ place. came_still own d before life n place no_bytes))
+    ∙ ap (λ (k : ℕ). message_by ((told own before).head life n) (λ place. byte_came own before life n place) k) (first_still d before life n no_part)
+
+-- a message that was heard of and not matched is early
+abbrev pub early_of : (heard matched : Bool) → EarlyMessage → Option EarlyMessage
+early_of heard matched e = cond (heard && not matched) (Some e) None
+
 -- an early message by what is known of it
 abbrev pub early_made : (heard matched : Bool) → Head → (ℕ → Option ℕ) → ℕ → Option EarlyMessage
-early_made heard matched head came first = cond (heard && not matched) (Some (record { head = head; came = came; first_part = first })) None
+early_made heard matched head came first = early_of heard matched (message_by head came first)
 
 -- so it is defined
 pub early_is_made : (own : Own) (log : List Deed) (life : Life) (n : ℕ)
-    → early_message own log life n ≡ early_made (is_heard log life n) (is_matched (own_pairs own log) (named life n)) ((told own log).head life n) (λ place. byte_came own log life n place) (first_part log life n)
+    → early_message own log life n ≡ early_of (is_heard log life n) (is_matched (own_pairs own log) (named life n)) (so_far own log life n)
 unfolding early_message
 early_is_made own log life n = refl
+
+-- a message that was heard of and not matched is early, as far as it came
+pub early_where : (own : Own) (log : List Deed) (life : Life) (n : ℕ) → is_heard log life n ≡ true → is_matched (own_pairs own log) (named life n) ≡ false → early_message own log life n ≡ Some (so_far own log life n)
+early_where own log life n heard unmatched =
+    early_is_made own log life n
+    ∙ ap (λ (b : Bool). early_of b (is_matched (own_pairs own log) (named life n)) (so_far own log life n)) heard
+    ∙ ap (λ (b : Bool). early_of true b (so_far own log life n)) unmatched
 
 -- a deed that tells nothing of a message, brings no bytes of it and does not match it leaves it as it was
 pub early_still : (own : Own) (d : Deed) (before : List Deed) (life : Life) (n : ℕ) → head_by life n d ≡ None → first_part_by life n d ≡ None → carried_by (own_pairs own before) life n d ≡ None
     → is_matched (own_pairs own (d ∷ before)) (named life n) ≡ is_matched (own_pairs own before) (named life n) → early_message own (d ∷ before) life n ≡ early_message own before life n
 early_still own d before life n no_head' no_part no_bytes same_match =
     early_is_made own (d ∷ before) life n
-    ∙ ap (λ (b : Bool). early_made b (is_matched (own_pairs own (d ∷ before)) (named life n)) ((told own (d ∷ before)).head life n) (λ place. byte_came own (d ∷ before) life n place) (first_part (d ∷ before) life n)) (still_heard before d life n no_head')
-    ∙ ap (λ (b : Bool). early_made (is_heard before life n) b ((told own (d ∷ before)).head life n) (λ place. byte_came own (d ∷ before) life n place) (first_part (d ∷ before) life n)) same_match
-    ∙ ap (λ (h : Head). early_made (is_heard before life n) (is_matched (own_pairs own before) (named life n)) h (λ place. byte_came own (d ∷ before) life n place) (first_part (d ∷ before) life n)) (told_still own d before life n no_head')
-    ∙ ap (λ (f : ℕ → Option ℕ). early_made (is_heard before life n) (is_matched (own_pairs own before) (named life n)) ((told own before).head life n) f (first_part (d ∷ before) life n)) (fun_ext (λ place. came_still own d before life n place no_bytes))
-    ∙ ap (λ (k : ℕ). early_made (is_heard before life n) (is_matched (own_pairs own before) (named life n)) ((told own before).head life n) (λ place. byte_came own before life n place) k) (first_still d before life n no_part)
+    ∙ ap (λ (b : Bool). early_of b (is_matched (own_pairs own (d ∷ before)) (named life n)) (so_far own (d ∷ before) life n)) (still_heard before d life n no_head')
+    ∙ ap (λ (b : Bool). early_of (is_heard before life n) b (so_far own (d ∷ before) life n)) same_match
+    ∙ ap (early_of (is_heard before life n) (is_matched (own_pairs own before) (named life n))) (so_far_still own d before life n no_head' no_part no_bytes)
     ∙ sym (early_is_made own before life n)

@@ -1,8 +1,8 @@
 -- Proofs.
 -- what one deed makes of the pairs
 pub mod Made
--- what comes has bytes where it is a segment
-pub mod HasBytes
+-- packets that are taken meet their conditions
+pub mod TakenFits
 -- Lives, regions and counts:
 -- which steps leave them
 pub mod LivesLeft
@@ -88,8 +88,27 @@ pub mod ReceivesSteps
 -- Deeds that make pairs or bring bytes:
 -- which pairs they are of, and what is kept once the bytes landed
 pub mod Settling
--- what those pairs owe and complete
+-- the receive of each such pair, and what is so of it
 pub mod SettledPairs
+-- what those pairs complete, and what they make owed
+pub mod SettledDone
+pub mod SettledOwed
+-- what came lies within its message
+pub mod TakenWithin
+-- which receives they fill, what that writes, and what is kept of the others
+pub mod SettledEnds
+pub mod SettledBytes
+pub mod SettledReceives
+-- receives and messages that meet
+pub mod Meets
+pub mod MeetsReceive
+pub mod MeetsPacket
+-- a piece that lands in its receive
+pub mod LandedPiece
+-- granted bytes and read bytes
+pub mod LandedBytes
+-- and more of a message that was heard of
+pub mod LandedMore
 -- What is owed and the completions, but for the same deeds:
 pub mod Owing
 pub mod Idle
@@ -119,3 +138,8 @@ pub mod SentWhole
 pub mod Classed
 -- and it needs a place where what is kept says so
 pub mod Placed
+-- So all of it is kept after every local log, and answers as the definitions do.
+pub mod LandedKept
+pub mod MeetsKept
+pub mod RecordKept
+pub mod FactsLaw

@@ -46,17 +46,24 @@ pub find_nothing : {A : Type 0} (t : A → Bool) (xs : List A) → ((x : A) → 
 find_nothing t [] h = refl
 find_nothing t (x ∷ xs) h = (let e = h x (inl refl) in rw e (find_nothing t xs (λ y m. h y (inr m))))
 
+-- the live receives after a deed are those that it doesn't end, of all that had not ended before it
+pub live_after : (own : Own) (d : Deed) (before : List Deed)
+    → own_live_receives own (d ∷ before) ≡ filter (λ (r : Receive). not (has_ended (new_ends own d before) r.number)) (unended (own_ends own before) (receives (d ∷ before)))
+unfolding has_ended
+live_after own d before =
+    let olds = own_ends own before in
+    let news = new_ends own d before in
+    let all = receives (d ∷ before) in
+    live_are own (d ∷ before)
+    ∙ ap (λ (es : List RecvEnd). unended es all) (ends_step own d before)
+    ∙ filter_same (λ (r : Receive). not (has_ended (olds ++ news) r.number)) (λ (r : Receive). not (has_ended olds r.number) && not (has_ended news r.number)) all
+    (λ r. ap not (any_both (λ e. ended_recv e == r.number) olds news) ∙ not_or (has_ended olds r.number) (has_ended news r.number))
+    ∙ filter_both (λ (r : Receive). not (has_ended olds r.number)) (λ (r : Receive). not (has_ended news r.number)) all
+
 -- the live receives after a deed that accepts none are those that it doesn't end
 pub live_left : (own : Own) (d : Deed) (before : List Deed) → received_by (receives before) before d ≡ []
     → own_live_receives own (d ∷ before) ≡ filter (λ (r : Receive). not (has_ended (new_ends own d before) r.number)) (own_live_receives own before)
-unfolding has_ended
 live_left own d before unposted =
-    let olds = own_ends own before in
-    let news = new_ends own d before in
-    live_are own (d ∷ before)
-    ∙ ap (λ (es : List RecvEnd). unended es (receives (d ∷ before))) (ends_step own d before)
-    ∙ ap (unended (olds ++ news)) (no_receive_more d before unposted)
-    ∙ filter_same (λ (r : Receive). not (has_ended (olds ++ news) r.number)) (λ (r : Receive). not (has_ended olds r.number) && not (has_ended news r.number)) (receives before)
-    (λ r. ap not (any_both (λ e. ended_recv e == r.number) olds news) ∙ not_or (has_ended olds r.number) (has_ended news r.number))
-    ∙ filter_both (λ (r : Receive). not (has_ended olds r.number)) (λ (r : Receive). not (has_ended news r.number)) (receives before)
-    ∙ ap (filter (λ (r : Receive). not (has_ended news r.number))) (sym (live_are own before))
+    live_after own d before
+    ∙ ap (λ (rs : List Receive). filter (λ (r : Receive). not (has_ended (new_ends own d before) r.number)) (unended (own_ends own before) rs)) (no_receive_more d before unposted)
+    ∙ ap (filter (λ (r : Receive). not (has_ended (new_ends own d before) r.number))) (sym (live_are own before))

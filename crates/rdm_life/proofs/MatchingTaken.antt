@@ -26,7 +26,7 @@ use Rattle.rdm_model.specs.Parts.{piece_by, carried_by, carried_pieces}
 use Rattle.rdm_law.proofs.Accounts.Carried.{carried_heard}
 use Rattle.rdm_life.specs.Keeps.{told, own_pairs, byte_came, early_message}
 use Rattle.rdm_life.specs.Handling.{byte_by, opened_by, with_more}
-use Rattle.rdm_life.proofs.EarlyWords.{came_after, early_is_made, early_made, early_still}
+use Rattle.rdm_life.proofs.EarlyWords.{came_after, so_far, message_by, early_where, early_is_made, early_made, early_still}
 use Rattle.rdm_life.proofs.MessageFacts.{named}
 use Rattle.rdm_life.proofs.NewMessage.{heard_by_packet}
 use Rattle.rdm_life.proofs.NewEntered.{head_later, head_new}
@@ -87,13 +87,13 @@ unfolding head_by
 other_head from life number tag confirm opt form n out = ap (λ (b : Bool). then_some b (head_of tag confirm opt form)) (other_packet from life number n out)
 
 -- nor of its first part
-other_part : (from life : Life) (number : MsgNo) (tag : Option ℕ) (confirm : Bool) (opt : Opt) (form : Form) (n : ℕ) → (same_life life from && n == number.0) ≡ false
+pub other_part : (from life : Life) (number : MsgNo) (tag : Option ℕ) (confirm : Bool) (opt : Opt) (form : Form) (n : ℕ) → (same_life life from && n == number.0) ≡ false
     → first_part_by life n (Took from (Spelled (Rtm number tag confirm opt form))) ≡ None
 unfolding first_part_by
 other_part from life number tag confirm opt form n out = ap (λ (b : Bool). cond b (first_part_in form) None) (other_packet from life number n out)
 
 -- and brings none of its bytes
-other_bytes : (ps : List Pair) (from life : Life) (number : MsgNo) (tag : Option ℕ) (confirm : Bool) (opt : Opt) (form : Form) (n : ℕ) → (same_life life from && n == number.0) ≡ false
+pub other_bytes : (ps : List Pair) (from life : Life) (number : MsgNo) (tag : Option ℕ) (confirm : Bool) (opt : Opt) (form : Form) (n : ℕ) → (same_life life from && n == number.0) ≡ false
     → carried_by ps life n (Took from (Spelled (Rtm number tag confirm opt form))) ≡ None
 unfolding carried_by piece_by
 other_bytes ps from life number tag confirm opt form n out =
@@ -139,27 +139,31 @@ no_part [] from n unheard = refl
 no_part (d ∷ before) from n unheard = (let p = none_parts (heard_head before from n) (head_by from n d) unheard in
     ap (λ (o : Option ℕ). or_else o (first_part_by from n d)) (no_part before from n p.0) ∙ part_told d from n p.1)
 
--- the new message is early, as its packet says
-pub new_early : (own : Own) (from : Life) (number : MsgNo) (tag : Option ℕ) (confirm : Bool) (opt : Opt) (form : Form) (before : List Deed) → is_heard before from number.0 ≡ false
-    → is_matched (own_pairs own (Took from (Spelled (Rtm number tag confirm opt form)) ∷ before)) (named from number.0) ≡ false
-    → early_message own (Took from (Spelled (Rtm number tag confirm opt form)) ∷ before) from number.0 ≡ Some (opened_by (head_of tag confirm opt form) form)
+-- the new message is as far as its packet brings it
+pub new_so_far : (own : Own) (from : Life) (number : MsgNo) (tag : Option ℕ) (confirm : Bool) (opt : Opt) (form : Form) (before : List Deed) → is_heard before from number.0 ≡ false
+    → so_far own (Took from (Spelled (Rtm number tag confirm opt form)) ∷ before) from number.0 ≡ opened_by (head_of tag confirm opt form) form
 unfolding first_part first_part_taken
-new_early own from number tag confirm opt form before unheard unmatched =
+new_so_far own from number tag confirm opt form before unheard =
     let d : Deed = Took from (Spelled (Rtm number tag confirm opt form)) in
-    let heard : is_heard (d ∷ before) from number.0 ≡ true =
-    heard_by_packet from number tag confirm opt form before number.0 ∙ ap (λ (b : Bool). b || number.0 == number.0) unheard ∙ eq-eqb number.0 number.0 refl in
     let came : (λ place. byte_came own (d ∷ before) from number.0 place) ≡ byte_by (piece_of form) =
     fun_ext (λ place. came_after own d before from number.0 place ∙ ap (λ (o : Option ℕ). or_else o (byte_by (carried_by (own_pairs own before) from number.0 d) place)) (none_came own before from number.0 place unheard)
     ∙ ap (λ (o : Option Piece). or_else None (byte_by o place)) (own_bytes (own_pairs own before) from number tag confirm opt form) ∙ none_first (byte_by (piece_of form) place)) in
     let part : first_part (d ∷ before) from number.0 ≡ unwrap_or (first_part_in form) 0 =
     ap (λ (o : Option ℕ). unwrap_or (or_else o (first_part_by from number.0 d)) 0) (no_part before from number.0 unheard)
     ∙ ap (λ (o : Option ℕ). unwrap_or (or_else None o) 0) (own_part from number tag confirm opt form) ∙ ap (λ (o : Option ℕ). unwrap_or o 0) (none_first (first_part_in form)) in
-    early_is_made own (d ∷ before) from number.0
-    ∙ ap (λ (b : Bool). early_made b (is_matched (own_pairs own (d ∷ before)) (named from number.0)) ((told own (d ∷ before)).head from number.0) (λ place. byte_came own (d ∷ before) from number.0 place) (first_part (d ∷ before) from number.0)) heard
-    ∙ ap (λ (b : Bool). early_made true b ((told own (d ∷ before)).head from number.0) (λ place. byte_came own (d ∷ before) from number.0 place) (first_part (d ∷ before) from number.0)) unmatched
-    ∙ ap (λ (h : Head). early_made true false h (λ place. byte_came own (d ∷ before) from number.0 place) (first_part (d ∷ before) from number.0)) (head_new own from number tag confirm opt form before unheard)
-    ∙ ap (λ (f : ℕ → Option ℕ). early_made true false (head_of tag confirm opt form) f (first_part (d ∷ before) from number.0)) came
-    ∙ ap (λ (k : ℕ). early_made true false (head_of tag confirm opt form) (byte_by (piece_of form)) k) part
+    ap (λ (h : Head). message_by h (λ place. byte_came own (d ∷ before) from number.0 place) (first_part (d ∷ before) from number.0)) (head_new own from number tag confirm opt form before unheard)
+    ∙ ap (λ (f : ℕ → Option ℕ). message_by (head_of tag confirm opt form) f (first_part (d ∷ before) from number.0)) came
+    ∙ ap (λ (k : ℕ). message_by (head_of tag confirm opt form) (byte_by (piece_of form)) k) part
+
+-- it is early, as its packet says
+pub new_early : (own : Own) (from : Life) (number : MsgNo) (tag : Option ℕ) (confirm : Bool) (opt : Opt) (form : Form) (before : List Deed) → is_heard before from number.0 ≡ false
+    → is_matched (own_pairs own (Took from (Spelled (Rtm number tag confirm opt form)) ∷ before)) (named from number.0) ≡ false
+    → early_message own (Took from (Spelled (Rtm number tag confirm opt form)) ∷ before) from number.0 ≡ Some (opened_by (head_of tag confirm opt form) form)
+new_early own from number tag confirm opt form before unheard unmatched =
+    let d : Deed = Took from (Spelled (Rtm number tag confirm opt form)) in
+    let heard : is_heard (d ∷ before) from number.0 ≡ true =
+    heard_by_packet from number tag confirm opt form before number.0 ∙ ap (λ (b : Bool). b || number.0 == number.0) unheard ∙ eq-eqb number.0 number.0 refl in
+    early_where own (d ∷ before) from number.0 heard unmatched ∙ ap Some (new_so_far own from number tag confirm opt form before unheard)
 
 -- more of an early message came
 pub more_early : (own : Own) (from : Life) (number : MsgNo) (tag : Option ℕ) (confirm : Bool) (opt : Opt) (form : Form) (before : List Deed) → is_heard before from number.0 ≡ true → first_part_in form ≡ None

@@ -28,16 +28,19 @@ pub get_or-end : {A : Type 0} (xs : List A) (d : A) → get_or xs (length xs) d 
 get_or-end [] d = refl
 get_or-end (x ∷ xs) d = get_or-end xs d
 
+-- the range of a receive that was accepted lies in its region, as it was before the last deed
+pub range_before : (own : Own) (d : Deed) (log : List Deed) (r : Receive) → LifeLocal own (d ∷ log) → Member r (receives (d ∷ log))
+    → r.req.at + r.req.len ≤ length (get_or (own_regions own log) r.req.region.0 [])
+range_before own d log r local m =
+    let within : IsWithin (sizes log) r = receives_within d log r (ranges_fit own (d ∷ log) local) m in
+    let size = region_size own.limits.first (told own log) log r.req.region.0 (ranges_fit own log local.0) in
+    omega arith
+
 -- the range of an accepted receive lies in its region
 pub range_within : (own : Own) (log : List Deed) (r : Receive) → LifeLocal own log → Member r (receives log)
     → r.req.at + r.req.len ≤ length (get_or (own_regions own log) r.req.region.0 [])
 unfolding receives with_received received_by
-range_within own log r local m =
-    let fit = ranges_fit own log local in
-    let more : Member r (receives (Nothing ∷ log)) = member-append_left r (receives log) [] m in
-    let within : IsWithin (sizes log) r = receives_within Nothing log r (fit, tt) more in
-    let size = region_size own.limits.first (told own log) log r.req.region.0 fit in
-    omega arith
+range_within own log r local m = range_before own Nothing log r (local, tt) (member-append_left r (receives log) [] m)
 
 -- what a place of a range says
 pub place_parts : (req : RecvReq) (region place : ℕ) → is_place_of req region place ≡ true → (req.region.0 ≡ region) × (req.at ≤ place) × (place < req.at + req.len)
@@ -47,10 +50,15 @@ place_parts req region place h =
     let b = and_parts (req.region.0 == region) (nat_le req.at place) a.0 in
     (eqb-true req.region.0 region b.0, leb-true req.at place b.1, ltb-true place (req.at + req.len) a.1)
 
+-- a place of a range that lies in its region is one of that region
+pub place_there : (regions : List (List ℕ)) (req : RecvReq) (region place : ℕ) → req.at + req.len ≤ length (get_or regions req.region.0 []) → is_place_of req region place ≡ true
+    → place < length (get_or regions region [])
+place_there regions req region place fit h =
+    let p = place_parts req region place h in
+    let high = p.2 in
+    subst (λ (x : ℕ). place < length (get_or regions x [])) p.0 (omega arith)
+
 -- a place of an accepted receive is one of its region
 pub place_within : (own : Own) (log : List Deed) (r : Receive) (region place : ℕ) → LifeLocal own log → Member r (receives log) → is_place_of r.req region place ≡ true
     → place < length (get_or (own_regions own log) region [])
-place_within own log r region place local m h =
-    let p = place_parts r.req region place h in
-    let w = range_within own log r local m in
-    subst (λ (x : ℕ). place < length (get_or (own_regions own log) x [])) p.0 (omega arith)
+place_within own log r region place local m h = place_there (own_regions own log) r.req region place (range_within own log r local m) h

@@ -193,7 +193,7 @@ insert_inside own life log lives test region place r local f m passes inside =
 -- ---- what is kept after it
 
 -- the places of a range
-place_in : (req : RecvReq) (k : ℕ) → k < req.len → is_place_of req req.region.0 (req.at + k) ≡ true
+pub place_in : (req : RecvReq) (k : ℕ) → k < req.len → is_place_of req req.region.0 (req.at + k) ≡ true
 unfolding is_place_of
 place_in req k lt =
     and_from (req.region.0 == req.region.0 && nat_le req.at (req.at + k)) (nat_lt (req.at + k) (req.at + req.len))

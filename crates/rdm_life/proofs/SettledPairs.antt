@@ -1,23 +1,29 @@
 -- The pairs of which a deed brings something: the receive of each is out, and has the message as far as it came; no other pair owes or completes anything.
-use Rattle.std.proofs.Common.{◌≡◌, ℕ, Bool, true, false, not, List, [], ◌∷◌, ◌++◌, length, Some, refl, arith, inl, inr, sym, ◌∙◌, ap, subst}
+use Rattle.std.proofs.Common.{◌≡◌, ℕ, Bool, true, false, not, ◌&&◌, List, [], ◌∷◌, ◌++◌, length, Some, refl, arith, inl, inr, sym, ◌∙◌, ap, subst}
 use Rattle.std.specs.Prelude.{◌==◌, find, flat_map, option_map}
+use Rattle.std.proofs.Math.Bool.{and-true}
 use Rattle.std.proofs.lemmas.Bool.{eqb-true, eq-eqb}
 use Rattle.std.proofs.lemmas.List.{append-nil}
 use Rattle.std.proofs.lemmas.Grind.{flat_map-append}
 use Rattle.rdm_lists.specs.Lists.{Member}
 use Rattle.rdm_lists.proofs.Members.{member-append_left, member-append_right, member-append_cases}
 use Rattle.rdm_lists.proofs.Same.{flat_map_none}
+use Rattle.rdm_num.specs.Pieces.{covers}
 use Rattle.rdm_match.specs.Matcher.{Pair, is_pair}
 use Rattle.rdm_model.specs.Beginnings.{Own, Heads}
 use Rattle.rdm_model.specs.Deeds.{Deed, Did}
 use Rattle.rdm_model.specs.Matches.{Receive, receives, received_by, with_received, pairs}
 use Rattle.rdm_model.specs.declared.job.Instr.TheVariants.{Recv}
 use Rattle.rdm_model.specs.Receives.{is_filled, receive_numbered as numbered}
+use Rattle.rdm_model.specs.Parts.{has_landed}
+use Rattle.rdm_model.proofs.Grows.{agree_grows}
+use Rattle.rdm_model.proofs.SameReceives.{is_filled_same}
 use Rattle.rdm_model.proofs.Matches.{member_is_pair}
 use Rattle.rdm_law.proofs.Bound.Pigeons.{AreDistinct}
 use Rattle.rdm_law.proofs.Matching.Numbered.{matching_numbered}
 use Rattle.rdm_law.proofs.Matching.Received.{receive_once}
 use Rattle.rdm_life.specs.Kept.{Kept, is_receive, receive_numbered}
+use Rattle.rdm_life.specs.Landing.{has_all}
 use Rattle.rdm_life.specs.Keeps.{told, own_pairs, own_live_receives, pair_of}
 use Rattle.rdm_life.proofs.SendFacts.{find_map}
 use Rattle.rdm_life.proofs.Made.{made}
@@ -26,7 +32,7 @@ use Rattle.rdm_life.proofs.MatchingSilent.{unpaired}
 use Rattle.rdm_life.proofs.MessageFacts.{filled_received}
 use Rattle.rdm_life.proofs.Owing.{BringsNone}
 use Rattle.rdm_life.proofs.Pairs.{pairs_added}
-use Rattle.rdm_life.proofs.Settling.{Touches, Landed, out_with, landed_receive}
+use Rattle.rdm_life.proofs.Settling.{Touches, Landed, out_with, landed_message, landed_receive}
 use Rattle.rdm_life.proofs.TakenBy.{false_unless, find_one, own_ends, pair_is, live_parts}
 
 -- a pair of a list of one
@@ -47,7 +53,7 @@ touched_paired own d log is_new ps p t m =
     ]
 
 -- a deed numbers the receive that it accepts after those before it
-received_number : (d : Deed) (log : List Deed) (r : Receive) → Member r (received_by (receives log) log d) → r.number ≡ length (receives log)
+pub received_number : (d : Deed) (log : List Deed) (r : Receive) → Member r (received_by (receives log) log d) → r.number ≡ length (receives log)
 unfolding received_by
 received_number (Did (Recv req)) log r (inl is) = ap (λ (x : Receive). x.number) (sym is)
 received_number (Did (Recv req)) log r (inr never) = elim never [ ]
@@ -142,6 +148,22 @@ touched own d log is_new ps p t m =
       new_is = new.0;
       unfilled = new.1;
     }
+
+-- a pair is filled once all of its message came
+filled_by_all : (own : Own) (d : Deed) (log : List Deed) (p : Pair) → Member p (own_pairs own (d ∷ log))
+    → is_filled own.limits.first (told own (d ∷ log)).head (d ∷ log) p ≡ has_all (landed_message own d log p)
+unfolding is_filled has_landed covers
+filled_by_all own d log p m = ap (λ b. b && has_all (landed_message own d log p)) (member_is_pair (own_pairs own (d ∷ log)) p m)
+
+-- so the deed fills it where all came
+pub all_is : (own : Own) (d : Deed) (log : List Deed) (is_new : Bool) (p : Pair) → Touched own d log is_new p
+    → (is_filled own.limits.first (told own (d ∷ log)).head (d ∷ log) p && not (is_filled own.limits.first (told own (d ∷ log)).head log p)) ≡ has_all (landed_message own d log p)
+all_is own d log is_new p t =
+    let first = own.limits.first in
+    let heads = (told own (d ∷ log)).head in
+    let all = has_all (landed_message own d log p) in
+    let unfilled = sym (is_filled_same first (told own log).head heads log p (agree_grows first d log).heads) ∙ t.unfilled in
+    ap (λ b. b && not (is_filled first heads log p)) (filled_by_all own d log p t.paired) ∙ ap (λ b. all && not b) unfilled ∙ and-true all
 
 -- the pairs before a deed are distinct
 old_distinct : (own : Own) (log : List Deed) → AreDistinct (own_pairs own log)

@@ -46,7 +46,7 @@ use Rattle.rdm_life.proofs.CameWithin.{IsGranted, IsOnly, WasGranted, some_cond,
 -- ---- what a deed brings was granted before it
 
 -- of a message that was not heard of, the packet that opens it tells the head and the first part
-opened_first : (before : List Deed) (source : Life) (n : ℕ) (number : MsgNo) (tag : Option ℕ) (confirm : Bool) (opt : Opt) (form : Form) → number.0 ≡ n → heard_head before source n ≡ None
+pub opened_first : (before : List Deed) (source : Life) (n : ℕ) (number : MsgNo) (tag : Option ℕ) (confirm : Bool) (opt : Opt) (form : Form) → number.0 ≡ n → heard_head before source n ≡ None
     → (heard_head (Took source (Spelled (Rtm number tag confirm opt form)) ∷ before) source n ≡ Some (head_of tag confirm opt form))
     × (first_part (Took source (Spelled (Rtm number tag confirm opt form)) ∷ before) source n ≡ unwrap_or (first_part_in form) 0)
 unfolding heard_head first_part first_part_taken head_by first_part_by or_else

@@ -13,7 +13,7 @@ slice_get_first (x ∷ xs) ys zero lt = refl
 slice_get_first (x ∷ xs) ys (suc n) lt = slice_get_first xs ys n (omega arith)
 
 -- an element of the first few
-slice_get_take : {A : Type 0} (k : ℕ) (xs : List A) (n : ℕ) → n < k → slice_get (take k xs) n ≡ slice_get xs n
+pub slice_get_take : {A : Type 0} (k : ℕ) (xs : List A) (n : ℕ) → n < k → slice_get (take k xs) n ≡ slice_get xs n
 slice_get_take zero xs n lt = absurd (omega arith)
 slice_get_take (suc k) [] n lt = refl
 slice_get_take (suc k) (x ∷ xs) zero lt = refl

@@ -120,7 +120,7 @@ last_at n k x zero e h = (let f : n ≡ x = cc in omega arith)
 last_at n k x (suc j) e h = cc
 
 -- the number at a place below a bound is the place
-below_at : (n k x : ℕ) → slice_get (below n) k ≡ Some x → x ≡ k
+pub below_at : (n k x : ℕ) → slice_get (below n) k ≡ Some x → x ≡ k
 unfolding below
 below_at zero k x h = cc
 below_at (suc n) k x h =

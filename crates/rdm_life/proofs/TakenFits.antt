@@ -1,4 +1,4 @@
--- Segments that come over the wire have bytes.
+-- What comes over the wire is read from bytes, so that each packet meets its conditions, and segments have bytes.
 use Rattle.std.proofs.Common.{◌≡◌, ℕ, ◌<◌, true, false, ◌&&◌, nat_le, leb-true, List, [], ◌∷◌, length, Option, Some, None, refl, subst}
 use Rattle.std.specs.Prelude.{slice_get, option_and_then, bytes_eq}
 use Rattle.std.specs.Bool.{then_some}
@@ -41,15 +41,20 @@ abbrev pub HasBytes : Item → Type 0
 HasBytes (Spelled (Rtm number tag confirm opt form)) = FormHasBytes form
 HasBytes _ = Unit {0}
 
--- what a deed takes has bytes where it is a segment
-abbrev pub BringsBytes : Deed → Type 0
-BringsBytes (Took from item) = HasBytes item
-BringsBytes _ = Unit {0}
+-- an item that is a packet meets its conditions
+abbrev pub ItemFits : Item → Type 0
+ItemFits (Spelled p) = packet_fits p ≡ true
+ItemFits _ = Unit {0}
+
+-- what a deed takes does
+abbrev pub TakenFits : Deed → Type 0
+TakenFits (Took from item) = ItemFits item
+TakenFits _ = Unit {0}
 
 -- and so does what each of them takes
-abbrev pub AllBringBytes : List Deed → Type 0
-AllBringBytes [] = Unit {0}
-AllBringBytes (d ∷ log) = AllBringBytes log × BringsBytes d
+abbrev pub AllTakenFit : List Deed → Type 0
+AllTakenFit [] = Unit {0}
+AllTakenFit (d ∷ log) = AllTakenFit log × TakenFits d
 
 -- the grammar has no empty segment
 form_has_bytes : (form : Form) → form_fits form ≡ true → FormHasBytes form
@@ -67,7 +72,12 @@ unfolding packet_fits
 packet_has_bytes (Rtm number tag confirm opt form) h = form_has_bytes form (and_parts (confirm_fits confirm form && opt_fits opt) (form_fits form) h).1
 packet_has_bytes _ h = tt
 
--- what bytes are read as fits it
+-- so what fits it has bytes where it is a segment
+pub item_has_bytes : (item : Item) → ItemFits item → HasBytes item
+item_has_bytes (Spelled p) h = packet_has_bytes p h
+item_has_bytes _ h = tt
+
+-- what bytes are read as fits the grammar
 spelled_fits : (bytes : List ℕ) (p q : Packet) → if_spelled bytes p ≡ Some q → packet_fits q ≡ true
 unfolding if_spelled fits
 spelled_fits bytes p q h =
@@ -79,52 +89,52 @@ spelled_fits bytes p q h =
       | false ↦ λ e k. cc
     ]) refl h
 
--- so what bytes are read as has bytes where it is a segment
-row_has_bytes : (bytes : List ℕ) (row : Option Row) (o : Option Packet) → option_and_then (λ (r : Row). if_spelled bytes (values_at r bytes)) row ≡ o → HasBytes (packet_item o)
+-- by the row of its first byte
+row_fits : (bytes : List ℕ) (row : Option Row) (o : Option Packet) → option_and_then (λ (r : Row). if_spelled bytes (values_at r bytes)) row ≡ o → ItemFits (packet_item o)
 unfolding packet_item
-row_has_bytes bytes row None h = tt
-row_has_bytes bytes None (Some p) h = cc
-row_has_bytes bytes (Some r) (Some p) h = packet_has_bytes p (spelled_fits bytes (values_at r bytes) p h)
+row_fits bytes row None h = tt
+row_fits bytes None (Some p) h = cc
+row_fits bytes (Some r) (Some p) h = spelled_fits bytes (values_at r bytes) p h
 
 -- whatever comes over the wire
-load_has_bytes : (load : Load) → HasBytes (item_of load)
+pub load_fits : (load : Load) → ItemFits (item_of load)
 unfolding item_of packet_in
-load_has_bytes (PacketLoad bytes) = row_has_bytes bytes (row_of (number_at 0 1 bytes)) _ refl
-load_has_bytes (Ask ask) = tt
-load_has_bytes (Given data') = tt
+load_fits (PacketLoad bytes) = row_fits bytes (row_of (number_at 0 1 bytes)) _ refl
+load_fits (Ask ask) = tt
+load_fits (Given data') = tt
 
 -- what an answer makes of a datagram
-handled_has_bytes : (src : PortNo) (body : Body) (answer : Handled) → BringsBytes (deed_by_handle src body answer)
+handled_fits : (src : PortNo) (body : Body) (answer : Handled) → TakenFits (deed_by_handle src body answer)
 unfolding deed_by_handle
-handled_has_bytes src (Note note) (TookAnswer entered) = tt
-handled_has_bytes src (Between from to load) (TookAnswer entered) = load_has_bytes load
-handled_has_bytes src _ _ = tt
+handled_fits src (Note note) (TookAnswer entered) = tt
+handled_fits src (Between from to load) (TookAnswer entered) = load_fits load
+handled_fits src _ _ = tt
 
 -- an instruction takes nothing
-next_has_bytes : (o : Option Instr) (answer : Answer) → BringsBytes (deed_by_next o answer)
+next_fits : (o : Option Instr) (answer : Answer) → TakenFits (deed_by_next o answer)
 unfolding deed_by_next
-next_has_bytes (Some instr) (DidAnswer what) = tt
-next_has_bytes _ _ = tt
+next_fits (Some instr) (DidAnswer what) = tt
+next_fits _ _ = tt
 
 -- nor does a push
-push_has_bytes : (body : Body) → BringsBytes (deed_by_push body)
+push_fits : (body : Body) → TakenFits (deed_by_push body)
 unfolding deed_by_push
-push_has_bytes (Note note) = tt
-push_has_bytes (Between from to load) = tt
+push_fits (Note note) = tt
+push_fits (Between from to load) = tt
 
 -- so it is with whatever a port does
-act_has_bytes : (ops : List Instr) (act : Act) → BringsBytes (deed_of ops act)
+act_fits : (ops : List Instr) (act : Act) → TakenFits (deed_of ops act)
 unfolding deed_of
-act_has_bytes ops (Next index op answer) = next_has_bytes (slice_get ops index) answer
-act_has_bytes ops (Push d) = push_has_bytes d.body
-act_has_bytes ops (Handle d answer) = handled_has_bytes d.src d.body answer
-act_has_bytes ops (Poll c) = tt
+act_fits ops (Next index op answer) = next_fits (slice_get ops index) answer
+act_fits ops (Push d) = push_fits d.body
+act_fits ops (Handle d answer) = handled_fits d.src d.body answer
+act_fits ops (Poll c) = tt
 
 -- and with the deeds of each of its lives
-pub deeds_have_bytes : (job : Job) (port : ℕ) (connid : Connid) (entries : List Entry) → AllBringBytes (of_life connid (deeds_at job port entries))
+pub deeds_fit : (job : Job) (port : ℕ) (connid : Connid) (entries : List Entry) → AllTakenFit (of_life connid (deeds_at job port entries))
 unfolding deeds_at deeds of_life
-deeds_have_bytes job port connid [] = tt
-deeds_have_bytes job port connid (e ∷ before) =
-    let rest = deeds_have_bytes job port connid before in
-    at_of_life AllBringBytes connid (deed_of (rank_of job port).ops e.act) (deeds_at job port before)
-    (λ s. (rest, act_has_bytes (rank_of job port).ops e.act)) (λ s. rest)
+deeds_fit job port connid [] = tt
+deeds_fit job port connid (e ∷ before) =
+    let rest = deeds_fit job port connid before in
+    at_of_life AllTakenFit connid (deed_of (rank_of job port).ops e.act) (deeds_at job port before)
+    (λ s. (rest, act_fits (rank_of job port).ops e.act)) (λ s. rest)
