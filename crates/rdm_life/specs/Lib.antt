@@ -11,5 +11,7 @@ pub mod Handling
 pub mod Keeps
 -- and what answers and classes depend on
 pub mod Facts
+-- what is lent of it while bytes are copied
+pub mod Lending
 -- what holds of it for each local log
 pub mod Laws
