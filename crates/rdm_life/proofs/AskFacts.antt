@@ -1,5 +1,5 @@
 -- Whether a send may be asked for some bytes, as it is kept.
-use Rattle.std.proofs.Common.{◌≡◌, ℕ, ◌+◌, ◌-◌, ◌<◌, ◌≤◌, Bool, true, false, not, ◌&&◌, nat_lt, lt-ltb, ltb-true, le-leb, leb-true, List, Option, Some, None, refl, arith, inl, inr, sym, ◌∙◌, ap}
+use Rattle.std.proofs.Common.{◌≡◌, ℕ, ◌+◌, ◌-◌, ◌<◌, ◌≤◌, Bool, true, false, not, ◌&&◌, nat_lt, lt-ltb, ltb-true, le-leb, leb-true, List, Option, Some, None, refl, arith, inl, inr, ◌∙◌, ap}
 use Rattle.std.specs.Prelude.{◌==◌, option_map}
 use Rattle.std.specs.List.{list_any}
 use Rattle.std.proofs.lemmas.Bool.{and_parts, and_from, cases_lt, eqb-true}
@@ -24,12 +24,7 @@ use Rattle.rdm_life.specs.Keeps.{kept_send, KeepsSends}
 use Rattle.rdm_life.specs.Sending.{is_asked}
 use Rattle.rdm_life.specs.Facts.{send_to_life, send_passes, may_be_asked_by}
 use Rattle.rdm_life.proofs.SendFacts.{send_to_life_is}
-
--- two tests that imply each other are one
-pub same_test : (x y : Bool) → (x ≡ true → y ≡ true) → (y ≡ true → x ≡ true) → x ≡ y
-same_test true y there back = sym (there refl)
-same_test false true there back = back refl
-same_test false false there back = refl
+use Rattle.rdm_life.proofs.Tests.{same_test}
 
 -- what is denied is not so
 denied : (x : Bool) → (x ≡ true → ⊥) → not x ≡ true

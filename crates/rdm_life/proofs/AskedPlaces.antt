@@ -10,8 +10,8 @@ use Rattle.rdm_wire.specs.declared.ReadAsk.{ReadAsk}
 use Rattle.rdm_model.specs.Reads.{asked_bytes}
 use Rattle.rdm_law.proofs.Classes.Cover.{AllApart}
 use Rattle.rdm_life.specs.Sending.{is_asked}
-use Rattle.rdm_life.proofs.AskFacts.{same_test}
 use Rattle.rdm_life.proofs.TakenBy.{false_unless}
+use Rattle.rdm_life.proofs.Tests.{same_test}
 
 -- a test as a number
 unfoldable pub bit : Bool → ℕ

@@ -28,7 +28,7 @@ use Rattle.rdm_life.specs.Keeps.{told, own_pairs, own_live_receives, pair_of, ma
 use Rattle.rdm_life.specs.Forgetting.{is_among, names_one, is_of_one, concerns, gone_completions, forget}
 use Rattle.rdm_life.specs.Lives.{after_insert, greet}
 use Rattle.rdm_life.proofs.OwnSends.{own_live, own_over}
-use Rattle.rdm_life.proofs.SendLists.{or_nothing, filter_kept}
+use Rattle.rdm_life.proofs.SendLists.{filter_kept}
 use Rattle.rdm_life.proofs.SendWords.{ends_by, over_now}
 use Rattle.rdm_life.proofs.Owing.{pairs_then}
 use Rattle.rdm_life.proofs.Idle.{idle_fills}
@@ -38,6 +38,7 @@ use Rattle.rdm_lists.proofs.Filters.{filter_nothing, filter_both, list_any_none}
 use Rattle.rdm_lists.proofs.Members.{find_member, member_find, member-filter, member_list_any}
 use Rattle.rdm_lists.proofs.Options.{some_of}
 use Rattle.rdm_lists.proofs.Same.{filter_same, filter_where, map_same}
+use Rattle.rdm_life.proofs.Tests.{or_none}
 
 -- ---- receives
 
@@ -72,7 +73,7 @@ gone_received ms rs (x ∷ xs) h =
 names_is : (o : Option Life) (old : Life) → names_one (old ∷ []) o ≡ is_life o old
 unfolding names_one is_among is_life
 names_is None old = refl
-names_is (Some l) old = or_nothing (same_life l old)
+names_is (Some l) old = or_none (same_life l old)
 
 -- a pair of that receive
 number_of : (k : ℕ) (x : Pair) → is_recv k x.recv ≡ true → x.recv.id.0 ≡ k
@@ -97,7 +98,7 @@ of_is own log n old (Some p) f =
     let ps = own_pairs own log in
     let t : Pair → Bool = λ q. is_recv n q.recv && same_life q.message.life old in
     let found = find_member (λ (x : Pair). is_recv n x.recv) p ps f in
-    or_nothing (same_life p.message.life old)
+    or_none (same_life p.message.life old)
     ∙ (elim (same_life p.message.life old) as (λ b. same_life p.message.life old ≡ b → b ≡ list_any t ps) [
       | true ↦ λ e. sym (member_list_any t p ps found.0 (and_from (is_recv n p.recv) (same_life p.message.life old) found.1 e))
       | false ↦ λ e. sym (list_any_none t ps (λ q m. (elim (is_recv n q.recv) as (λ b. is_recv n q.recv ≡ b → (b && same_life q.message.life old) ≡ false) [
@@ -213,7 +214,7 @@ unfolding ends_by ends_send confirms forgotten_by is_among
 insert_over own log life s m =
     let n = neither (is_read s.kind) s.message.confirm in
     let lost = list_any (same_life s.to) (other_life life (current log life.port.0)) in
-    over_now own (Did (Insert life)) log s (λ e. cc) (live_still own log s m) ∙ ap (λ b. lost || b) n ∙ or_nothing lost
+    over_now own (Did (Insert life)) log s (λ e. cc) (live_still own log s m) ∙ ap (λ b. lost || b) n ∙ or_none lost
 
 -- and they are gone
 lost_sends : (own : Own) (log : List Deed) (v : Kept) (life : Life) → KeepsSends own log v

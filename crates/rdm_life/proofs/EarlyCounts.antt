@@ -25,6 +25,7 @@ use Rattle.rdm_life.specs.Keeps.{own_pairs, waits_early}
 use Rattle.rdm_life.proofs.Made.{made}
 use Rattle.rdm_life.proofs.MadePairs.{name_of, made_unmatched, made_kept, made_heard, made_once, made_distinct, matched_after_is}
 use Rattle.rdm_life.proofs.MessageFacts.{named}
+use Rattle.rdm_life.proofs.Tests.{and_all, and_none}
 
 -- a filter keeps distinct elements distinct
 filter_distinct : {A : Type 0} (t : A → Bool) (xs : List A) → AreDistinct xs → AreDistinct (filter t xs)
@@ -49,15 +50,6 @@ filter_splits {A} t u (x ∷ xs) =
             | false ↦ omega arith
           ])
     ])
-
--- a test and its denial, each with nothing or all
-and_none : (b : Bool) → (b && false) ≡ false
-and_none true = refl
-and_none false = refl
-
-and_all : (b : Bool) → (b && true) ≡ b
-and_all true = refl
-and_all false = refl
 
 -- tests in another order
 shuffle : (a b c d : Bool) → (not (a || b) && c && d) ≡ ((not a && c && d) && not b)

@@ -1,5 +1,5 @@
 -- What a deed adds to the ends of receives, and what that does to regions.
-use Rattle.std.proofs.Common.{◌≡◌, ℕ, Bool, true, false, not, ◌&&◌, List, [], ◌∷◌, ◌++◌, refl, sym, ◌∙◌, ap}
+use Rattle.std.proofs.Common.{◌≡◌, ℕ, Bool, not, ◌&&◌, List, [], ◌∷◌, ◌++◌, refl, sym, ◌∙◌, ap}
 use Rattle.std.specs.Prelude.{filter}
 use Rattle.rdm_lists.proofs.Filters.{filter_nothing}
 use Rattle.rdm_num.specs.Pieces.{Piece, covers}
@@ -16,6 +16,7 @@ use Rattle.rdm_model.proofs.SameReceives.{recv_ends_same}
 use Rattle.rdm_model.proofs.SameRegions.{regions_same}
 use Rattle.rdm_life.specs.Keeps.{told, own_pairs, own_regions, own_live_receives}
 use Rattle.rdm_life.proofs.Stays.{Stays, pieces_stay}
+use Rattle.rdm_law.proofs.Refusals.StandsStill.{and_not}
 
 -- the receives that ended
 abbrev pub own_ends : Own → List Deed → List RecvEnd
@@ -46,11 +47,6 @@ regions_step own d before =
     ap (λ (es : List RecvEnd). after_ends ms (receives (d ∷ before)) (recv_ends_by first ms.head d before es) (regions first ms before) ++ region_by d) (sym same)
     ∙ ap (λ (rs : List (List ℕ)). after_ends ms (receives (d ∷ before)) (new_ends own d before) rs ++ region_by d) (sym was)
 
--- nothing is and is not
-and_not_self : (b : Bool) → (b && not b) ≡ false
-and_not_self true = refl
-and_not_self false = refl
-
 -- the pairs before a deed, by the account after it
 pub newer_pairs : (own : Own) (d : Deed) (before : List Deed) → own_pairs own before ≡ pairs own.limits.first (told own (d ∷ before)).head before
 newer_pairs own d before = pairs_same own.limits.first (told own before).head (told own (d ∷ before)).head before (agree_grows own.limits.first d before).heads
@@ -77,7 +73,7 @@ none_filled own d before s =
     let first = own.limits.first in
     let heads = (told own (d ∷ before)).head in
     filter_nothing (λ p. is_filled first heads (d ∷ before) p && not (is_filled first heads before p)) (pairs first heads (d ∷ before))
-    (λ p m. ap (λ (b : Bool). b && not (is_filled first heads before p)) (filled_same own d before p s) ∙ and_not_self (is_filled first heads before p))
+    (λ p m. ap (λ (b : Bool). b && not (is_filled first heads before p)) (filled_same own d before p s) ∙ and_not (is_filled first heads before p))
 
 -- the receives that are live where these are accepted and have ended
 abbrev pub unended : List RecvEnd → List Receive → List Receive

@@ -1,9 +1,8 @@
 -- Deeds that make no pair and bring no bytes: all but receives that are posted, packets that open messages, and bytes that were granted or asked for.
-use Rattle.std.proofs.Common.{◌≡◌, ℕ, ◌+◌, ◌-◌, Bool, true, false, cond, ◌&&◌, not, List, [], ◌∷◌, ◌++◌, map, length, Option, None, refl, sym, ◌∙◌, ap}
+use Rattle.std.proofs.Common.{◌≡◌, ℕ, ◌+◌, ◌-◌, Bool, ◌&&◌, not, List, [], ◌∷◌, ◌++◌, map, length, Option, None, refl, sym, ◌∙◌, ap}
 use Rattle.std.specs.Prelude.{filter, flat_map, is_some}
 use Rattle.std.proofs.lemmas.List.{append-nil}
 use Rattle.rdm_lists.specs.Lists.{below, or_else}
-use Rattle.rdm_num.specs.Pieces.{Piece}
 use Rattle.rdm_num.specs.Lives.{same_life}
 use Rattle.rdm_num.specs.declared.numbers.Life.{Life}
 use Rattle.rdm_num.specs.declared.head.Head.{Head}
@@ -23,6 +22,8 @@ use Rattle.rdm_life.proofs.Owing.{NoWindows, pairs_then, not_newly, quiet_pairs}
 use Rattle.rdm_lists.proofs.Below.{each_below_same}
 use Rattle.rdm_lists.proofs.Filters.{filter_nothing}
 use Rattle.rdm_lists.proofs.Options.{or_else-none}
+use Rattle.rdm_life.proofs.Tests.{none_either}
+use Rattle.rdm_law.proofs.Refusals.StandsStill.{and_not}
 
 -- what is taken opens no message and brings no bytes
 abbrev pub IsIdleItem : Item → Type 0
@@ -57,11 +58,6 @@ idle_entered first d before i source n =
     let same = each_below_same (λ k. is_heard (d ∷ before) source (first + k)) (λ k. is_heard before source (first + k)) (n - first) (λ k. idle_heard d before i source (first + k)) in
     let mine = idle_heard d before i source n in
     rw (same, mine) refl
-
--- nothing is so and not so
-and_not : (b : Bool) → (b && not b) ≡ false
-and_not true = refl
-and_not false = refl
 
 -- so no message enters
 pub idle_enters : (first : ℕ) (d : Deed) (before : List Deed) → IsIdle d → (source : Life) → entering first d before source ≡ []
@@ -98,15 +94,10 @@ idle_piece ps source n (Spelled (CtsData recv offset connid bytes)) i = absurd i
 idle_piece ps source n (Gives g) i = absurd i
 idle_piece ps source n _ i = refl
 
--- none either way
-either_none : (b : Bool) (o : Option Piece) → o ≡ None → cond b o None ≡ None
-either_none true o e = e
-either_none false o e = refl
-
 -- such a deed brings nothing of any message
 pub idle_brings : (ps : List Pair) (source : Life) (n : ℕ) (d : Deed) → IsIdle d → carried_by ps source n d ≡ None
 unfolding carried_by
-idle_brings ps source n (Took from item) i = either_none (same_life from source) (piece_by ps source n item) (idle_piece ps source n item i)
+idle_brings ps source n (Took from item) i = none_either (same_life from source) (piece_by ps source n item) (idle_piece ps source n item i)
 idle_brings ps source n _ i = refl
 
 -- so it fills nothing

@@ -40,6 +40,7 @@ use Rattle.rdm_life.proofs.Made.{made, lists_before}
 use Rattle.rdm_life.proofs.MatchingQuiet.{still_heard, none_enter}
 use Rattle.rdm_life.proofs.TakenBy.{false_unless}
 use Rattle.rdm_life.proofs.LandedPiece.{Brings}
+use Rattle.rdm_life.proofs.Tests.{none_either}
 
 -- ---- what a class says
 
@@ -73,11 +74,6 @@ live_some s t (Some p) h = (p, refl)
 pub made_none : (own : Own) (log : List Deed) (from : Life) (item : Item) → entering own.limits.first (Took from item) log from ≡ [] → made own (Took from item) log ≡ []
 unfolding events_by run
 made_none own log from item none = ap (λ (ns : List ℕ). (run (lists_before own log) (map (arrival (told own (Took from item ∷ log)).head from) ns)).pairs) none
-
--- neither way
-neither_way : (b : Bool) (o : Option Piece) → o ≡ None → cond b o None ≡ None
-neither_way true o e = e
-neither_way false o e = refl
 
 -- ---- what bytes for a receive bring
 
@@ -115,7 +111,7 @@ names_brings own ports port_log log from item n x o names live p is fresh =
             let one = (matching_numbered own.limits.first (told own log).head log).once r.0 p r.1 f.0 (r.2 ∙ sym number) in
             let two = (matching_distinct own.limits.first (told own log).head log).once r.0 q r.1 m r.3 r.4 in
             other (sym two ∙ one)) in
-            neither_way (same_life from q.message.life) (piece_by ps q.message.life q.message.no.0 item) (names.piece ps q.message.life q.message.no.0 ∙ ap (λ (b : Bool). then_some b x) away);
+            none_either (same_life from q.message.life) (piece_by ps q.message.life q.message.no.0 item) (names.piece ps q.message.life q.message.no.0 ∙ ap (λ (b : Bool). then_some b x) away);
         makes_none = made_none own log from item (none_enter own.limits.first d log from (λ k. still_heard log d from k (names.silent k)));
         accepts_none = refl;
       },

@@ -42,7 +42,7 @@ use Rattle.rdm_life.proofs.CameFacts.{all_came}
 use Rattle.rdm_life.proofs.Completing.{own_completions}
 use Rattle.rdm_life.proofs.TakenFits.{FormHasBytes, AllTakenFit, item_has_bytes}
 use Rattle.rdm_life.proofs.Made.{made}
-use Rattle.rdm_life.proofs.MatchingOpened.{met_by, and_none}
+use Rattle.rdm_life.proofs.MatchingOpened.{met_by}
 use Rattle.rdm_life.proofs.MatchingSteps.{met_same}
 use Rattle.rdm_life.proofs.MessageFacts.{named}
 use Rattle.rdm_life.proofs.MessageStands.{early_none, early_some}
@@ -56,6 +56,7 @@ use Rattle.rdm_life.proofs.SettledOwed.{settled_owed}
 use Rattle.rdm_life.proofs.LandedPiece.{Brings, out_same, home_landed, quiet_one, piece_kept}
 use Rattle.rdm_life.proofs.LandedBytes.{data_brings, gives_brings}
 use Rattle.rdm_life.proofs.LandedMore.{segment_piece, more_made, unmatched_quiet, segment_brings}
+use Rattle.rdm_life.proofs.Tests.{and_none}
 
 -- such a datagram
 abbrev pub IsMore : List Deed → Life → Item → Type 0

@@ -1,6 +1,8 @@
 -- Proofs.
 -- what one deed makes of the pairs
 pub mod Made
+-- what tests that are joined come to
+pub mod Tests
 -- packets that are taken meet their conditions
 pub mod TakenFits
 -- Lives, regions and counts:

@@ -24,6 +24,7 @@ use Rattle.rdm_model.specs.Worlds.{put_at}
 use Rattle.rdm_law.proofs.Lives.Lives.{LifeStep, LifeLocal}
 use Rattle.rdm_law.proofs.Lives.Held.{Replaced, kept_current, current_stays}
 use Rattle.rdm_law.proofs.Lives.Replaced.{forgotten_replaced}
+use Rattle.rdm_life.proofs.Tests.{or_none}
 
 -- equal in either order
 eqb_turn : (a b : ℕ) → (a == b) ≡ (b == a)
@@ -113,11 +114,6 @@ never_current (d ∷ before) life h =
       | None ↦ λ e. let w = never_current before life e in rw (w, h) refl
       | Some x ↦ λ e. let s = current_stays d before life.port.0 (ap (λ (o : Option Life). is_some o) e) in let n : is_some (current (d ∷ before) life.port.0) ≡ false = ap (λ (o : Option Life). is_some o) h in cc
     ]) refl
-
--- nothing beside it
-pub or_none : (b : Bool) → (b || false) ≡ b
-or_none true = refl
-or_none false = refl
 
 -- what was current and is not, where nothing is forgotten
 was_not : (w c n : Bool) → (c ≡ true → n ≡ true) → (w ≡ true → c ≡ false → n ≡ false) → (w && not c) ≡ ((w || n) && not n)

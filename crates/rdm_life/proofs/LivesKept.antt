@@ -21,10 +21,11 @@ use Rattle.rdm_life.specs.Lives.{with_source, greet, after_insert}
 use Rattle.rdm_life.specs.Forgetting.{is_among, forget}
 use Rattle.rdm_life.specs.Handling.{after}
 use Rattle.rdm_life.proofs.Counted.{receive_count_step, poll_count_step, send_count_step}
-use Rattle.rdm_life.proofs.LivesCurrent.{current_by, current_next, superseded_next, or_none}
+use Rattle.rdm_life.proofs.LivesCurrent.{current_by, current_next, superseded_next}
 use Rattle.rdm_life.proofs.LivesLight.{light, after_light}
 use Rattle.rdm_life.proofs.LivesPeers.{forgot_by, forgot_is, forgot_now, met_step, known_step, messages_step}
 use Rattle.rdm_life.proofs.Regions.{region_count_step, region_size_step}
+use Rattle.rdm_life.proofs.Tests.{or_none}
 
 -- no deed changes what the life begins with
 light_own : (d : Deed) (v : Kept) → (light d v).own ≡ v.own

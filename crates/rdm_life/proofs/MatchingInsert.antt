@@ -37,6 +37,7 @@ use Rattle.rdm_life.proofs.MatchingQuiet.{still_heard, still_next}
 use Rattle.rdm_life.proofs.MatchingSteps.{greet_same}
 use Rattle.rdm_life.proofs.MessageFacts.{named}
 use Rattle.rdm_life.proofs.Pairs.{pairs_added, posted_after, arrived_after}
+use Rattle.rdm_life.proofs.Tests.{and_all, and_none, or_none}
 
 -- at most one life
 data Few : List Life → Type 0 where
@@ -48,11 +49,6 @@ few_lives : (life : Life) (o : Option Life) → Few (other_life life o)
 unfolding other_life
 few_lives life None = Nobody
 few_lives life (Some old) = (elim (same_life old life) as (λ b. Few (cond b [] (old ∷ []))) [ true ↦ Nobody | false ↦ One old ])
-
--- either of a test and nothing
-or_none : (b : Bool) → (b || false) ≡ b
-or_none true = refl
-or_none false = refl
 
 -- a receive that names one life
 same_name : (old : Life) (o : Option Life) → is_life o old ≡ names_one (old ∷ []) o
@@ -75,15 +71,6 @@ none_goes : (as' : List Arrived) → filter (λ (a : Arrived). not (is_among [] 
 unfolding is_among
 none_goes [] = refl
 none_goes (a ∷ as') = ap (λ (xs : List Arrived). a ∷ xs) (none_goes as')
-
--- a test with all, and with nothing
-and_all : (b : Bool) → (b && true) ≡ b
-and_all true = refl
-and_all false = refl
-
-and_none : (b : Bool) → (b && false) ≡ false
-and_none true = refl
-and_none false = refl
 
 -- a denial of either
 spread : (a b c : Bool) → (a && not (b || c)) ≡ ((a && not b) && not c)

@@ -28,6 +28,7 @@ use Rattle.rdm_life.proofs.MatchingQuiet.{still_heard, still_next}
 use Rattle.rdm_life.proofs.MatchingSilent.{still_forgotten, no_wait}
 use Rattle.rdm_life.proofs.MessageFacts.{named}
 use Rattle.rdm_life.proofs.MessageStands.{early_none}
+use Rattle.rdm_life.proofs.Tests.{and_all, or_none}
 
 -- what is kept of messages before those that a deed pairs meet
 pub record Faces (own : Own) (d : Deed) (before : List Deed) (u : Kept) : Type 0 where
@@ -42,15 +43,6 @@ pub record Faces (own : Own) (d : Deed) (before : List Deed) (u : Kept) : Type 0
 or_all : (b : Bool) → (b || true) ≡ true
 or_all true = refl
 or_all false = refl
-
-or_none : (b : Bool) → (b || false) ≡ b
-or_none true = refl
-or_none false = refl
-
--- a test with all
-and_all : (b : Bool) → (b && true) ≡ b
-and_all true = refl
-and_all false = refl
 
 -- all pass
 filter_true : (ps : List Pair) → filter (λ (p : Pair). true) ps ≡ ps

@@ -41,19 +41,11 @@ use Rattle.rdm_life.proofs.MessageStands.{unheard_unmatched}
 use Rattle.rdm_life.proofs.NewMessage.{Facing, heard_by_packet}
 use Rattle.rdm_life.proofs.TakenBy.{false_unless}
 use Rattle.rdm_lists.proofs.Options.{none_there}
+use Rattle.rdm_life.proofs.Tests.{or_none, and_none}
 
 -- what is kept with its source, and the life met
 abbrev pub met_by : Life → Kept → Kept
 met_by from v = greet true from None (with_source from v)
-
--- either of a test and nothing, and both of a test and nothing
-or_none : (b : Bool) → (b || false) ≡ b
-or_none true = refl
-or_none false = refl
-
-pub and_none : (b : Bool) → (b && false) ≡ false
-and_none true = refl
-and_none false = refl
 
 -- lives differ both ways
 other_way : (a b : Life) → same_life a b ≡ false → same_life b a ≡ false

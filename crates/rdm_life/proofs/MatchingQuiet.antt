@@ -1,5 +1,5 @@
 -- Deeds that bring the matcher nothing, and tell of no message.
-use Rattle.std.proofs.Common.{◌≡◌, ℕ, ◌+◌, ◌-◌, Bool, true, false, not, ◌&&◌, List, [], ◌∷◌, map, length, Option, None, refl, ◌∙◌, ap, append-nil}
+use Rattle.std.proofs.Common.{◌≡◌, ℕ, ◌+◌, ◌-◌, not, ◌&&◌, List, [], ◌∷◌, map, length, Option, None, ◌∙◌, ap, append-nil}
 use Rattle.std.specs.Prelude.{is_some}
 use Rattle.rdm_lists.specs.Lists.{or_else, below}
 use Rattle.rdm_lists.proofs.Below.{each_below_same}
@@ -14,6 +14,7 @@ use Rattle.rdm_model.specs.Heard.{heard_head, head_by, is_heard, heard_below, ha
 use Rattle.rdm_life.specs.Keeps.{own_matching, own_pairs}
 use Rattle.rdm_life.proofs.Made.{lists_before}
 use Rattle.rdm_life.proofs.Pairs.{own_events, matching_after, ahead}
+use Rattle.rdm_law.proofs.Refusals.StandsStill.{and_not}
 
 -- what stays of messages where a deed tells of none
 pub record Tells (before : List Deed) (d : Deed) : Type 0 where
@@ -29,11 +30,6 @@ pub still_heard : (before : List Deed) (d : Deed) (life : Life) (n : ℕ) → he
 unfolding is_heard
 still_heard before d life n none = ap is_some (still_head before d life n none)
 
--- a test and its denial
-and_not_self : (b : Bool) → (b && not b) ≡ false
-and_not_self true = refl
-and_not_self false = refl
-
 -- none enters of a life of whose messages the same were heard
 pub none_enter : (first : ℕ) (d : Deed) (before : List Deed) (source : Life) → ((n : ℕ) → is_heard (d ∷ before) source n ≡ is_heard before source n) → entering first d before source ≡ []
 unfolding entering has_entered heard_below
@@ -42,7 +38,7 @@ none_enter first d before source same =
     (λ n m.
     let a = same n in
     let b = each_below_same (λ k. is_heard (d ∷ before) source (first + k)) (λ k. is_heard before source (first + k)) (n - first) (λ k. same (first + k)) in
-    rw (a, b) (and_not_self (has_entered first before source n)))
+    rw (a, b) (and_not (has_entered first before source n)))
 
 -- the next number of such a life
 pub still_next : (first : ℕ) (d : Deed) (before : List Deed) (source : Life) (next : ℕ) → ((n : ℕ) → is_heard (d ∷ before) source n ≡ is_heard before source n)

@@ -30,11 +30,7 @@ use Rattle.rdm_life.proofs.MessageFacts.{named}
 use Rattle.rdm_life.proofs.MessageStands.{early_none}
 use Rattle.rdm_life.proofs.Pairs.{own_events}
 use Rattle.rdm_life.proofs.TakenBy.{false_unless}
-
--- either of a test and nothing
-or_none : (b : Bool) → (b || false) ≡ b
-or_none true = refl
-or_none false = refl
+use Rattle.rdm_life.proofs.Tests.{or_none}
 
 -- a message that was matched does not wait
 pub no_wait : (heard matched : Bool) → matched ≡ true → (heard && not matched) ≡ false

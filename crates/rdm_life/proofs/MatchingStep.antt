@@ -43,11 +43,7 @@ use Rattle.rdm_life.proofs.MatchingTaken.{other_early, more_early}
 use Rattle.rdm_life.proofs.MessageFacts.{named}
 use Rattle.rdm_life.proofs.NewEntered.{rtm_entered}
 use Rattle.rdm_life.proofs.Pairs.{own_events}
-
--- either of a test and nothing
-or_none : (b : Bool) → (b || false) ≡ b
-or_none true = refl
-or_none false = refl
+use Rattle.rdm_life.proofs.Tests.{or_none}
 
 -- a packet of a segment brings no first part that is to be granted
 abbrev IsSegment : Form → Type 0

@@ -29,9 +29,9 @@ use Rattle.rdm_life.specs.Receiving.{lists_in, heard_run, entering_in, hear}
 use Rattle.rdm_life.proofs.Made.{lists_before}
 use Rattle.rdm_life.proofs.MessageFacts.{named}
 use Rattle.std.specs.Bool.{then_some}
-use Rattle.rdm_life.proofs.AskFacts.{same_test}
 use Rattle.rdm_life.proofs.TakenBy.{false_unless, pair_of_message}
 use Rattle.rdm_life.proofs.EnteringRow.{below_count, reach_grows, next_is_reach, run_is, heard_name}
+use Rattle.rdm_life.proofs.Tests.{or_none, same_test}
 
 -- a test that makes some
 some_then : {A : Type 0} (b : Bool) (x : A) → is_some (then_some b x) ≡ b
@@ -63,11 +63,6 @@ head_by_packet from number tag confirm opt form before unheard =
       | Some h ↦ λ k. cc
       | None ↦ λ k. ap (λ (b : Bool). then_some b (head_of tag confirm opt form)) both
     ]) unheard
-
--- either of a test and nothing
-or_none : (b : Bool) → (b || false) ≡ b
-or_none true = refl
-or_none false = refl
 
 -- distinct elements, by a function that keeps them apart
 distinct_map : {A B : Type 0} (f : A → B) (xs : List A) → AreDistinct xs → ((x y : A) → f x ≡ f y → x ≡ y) → AreDistinct (map f xs)

@@ -18,7 +18,7 @@ use Rattle.rdm_law.proofs.Lives.Lives.{life_scene}
 use Rattle.rdm_life.specs.Kept.{Kept}
 use Rattle.rdm_life.specs.Keeps.{Keeps}
 use Rattle.rdm_life.specs.Facts.{is_met_in, place_facts_in}
-use Rattle.rdm_life.proofs.AskFacts.{same_test}
+use Rattle.rdm_life.proofs.Tests.{same_test}
 
 -- a number below the next one was heard of
 below_next : (first : ℕ) (log : List Deed) (source : Life) (m n : ℕ) → is_next_message first log source n ≡ true → first ≤ m → m < n → is_heard log source m ≡ true

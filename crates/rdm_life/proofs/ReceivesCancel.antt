@@ -1,6 +1,6 @@
 -- A receive that is taken back leaves its range as it was.
-use Rattle.std.proofs.Common.{◌≡◌, ℕ, zero, suc, ◌+◌, ◌-◌, ◌<◌, Bool, true, false, cond, not, List, [], ◌∷◌, ◌++◌, map, take, get_or, Option, Some, None, refl, arith, sym, ◌∙◌, ap}
-use Rattle.std.specs.Prelude.{◌==◌, ◌||◌, slice_get, filter, unwrap_or}
+use Rattle.std.proofs.Common.{◌≡◌, ℕ, zero, suc, ◌+◌, ◌-◌, ◌<◌, Bool, true, cond, not, List, [], ◌∷◌, ◌++◌, map, take, get_or, Option, Some, None, refl, arith, sym, ◌∙◌, ap}
+use Rattle.std.specs.Prelude.{◌==◌, slice_get, filter, unwrap_or}
 use Rattle.std.specs.List.{list_any}
 use Rattle.std.proofs.lemmas.Bool.{eqb-true, lt-ltb, false_from_ne_true}
 use Rattle.std.proofs.lemmas.List.{append-nil, take-append-drop}
@@ -35,6 +35,7 @@ use Rattle.rdm_life.proofs.LiveLeft.{eqb_other, filter_made, find_nothing, live_
 use Rattle.rdm_life.proofs.Places.{place_parts, place_within}
 use Rattle.rdm_life.proofs.ReceivesQuiet.{pair_stays, stays_ends}
 use Rattle.rdm_life.proofs.Stays.{Stays, kept_stays}
+use Rattle.rdm_life.proofs.Tests.{or_none}
 
 -- no bytes that are put change nothing
 put_nothing : (at : ℕ) (region : List ℕ) → put at [] region ≡ region
@@ -79,11 +80,6 @@ cancel_regions own recv log =
 cancel_byte : (own : Own) (recv : RecvNo) (log : List Deed) (region place : ℕ) → region_byte own (Did (Cancel recv) ∷ log) region place ≡ region_byte own log region place
 cancel_byte own recv log region place = ap (λ (rs : List (List ℕ)). slice_get (get_or rs region []) place) (cancel_regions own recv log)
 
--- nothing or else
-or_nothing : (b : Bool) → (b || false) ≡ b
-or_nothing true = refl
-or_nothing false = refl
-
 -- the other live receives stay
 cancel_live : (own : Own) (recv : RecvNo) (log : List Deed)
     → own_live_receives own (Did (Cancel recv) ∷ log) ≡ filter (λ (r : Receive). not (r.number == recv.0)) (own_live_receives own log)
@@ -91,7 +87,7 @@ unfolding received_by has_ended ended_recv
 cancel_live own recv log =
     live_left own (Did (Cancel recv)) log refl
     ∙ filter_same (λ (r : Receive). not (has_ended (new_ends own (Did (Cancel recv)) log) r.number)) (λ (r : Receive). not (r.number == recv.0)) (own_live_receives own log)
-    (λ r. ap (λ (es : List RecvEnd). not (has_ended es r.number)) (cancel_ends own recv log) ∙ ap not (or_nothing (recv.0 == r.number) ∙ eqb_other recv.0 r.number))
+    (λ r. ap (λ (es : List RecvEnd). not (has_ended es r.number)) (cancel_ends own recv log) ∙ ap not (or_none (recv.0 == r.number) ∙ eqb_other recv.0 r.number))
 
 -- a receive that is taken back was not matched
 cancel_unmatched : (own : Own) (recv : RecvNo) (log : List Deed) (r : Receive) → LifeStep own log (Did (Cancel recv)) → r.number ≡ recv.0 → pair_of own log r ≡ None

@@ -1,5 +1,5 @@
 -- Deeds that touch no receive and no region leave both as they were.
-use Rattle.std.proofs.Common.{◌≡◌, ℕ, ◌+◌, ◌-◌, Bool, true, false, cond, not, ◌&&◌, List, [], ◌∷◌, ◌++◌, map, length, Option, Some, None, refl, sym, ◌∙◌, ap}
+use Rattle.std.proofs.Common.{◌≡◌, ℕ, ◌+◌, ◌-◌, Bool, true, cond, not, ◌&&◌, List, [], ◌∷◌, ◌++◌, map, length, Option, Some, None, refl, sym, ◌∙◌, ap}
 use Rattle.std.specs.Prelude.{is_some, slice_get, get_or, flat_map, find}
 use Rattle.rdm_num.specs.declared.head.Head.{Head}
 use Rattle.std.specs.List.{list_any}
@@ -33,6 +33,8 @@ use Rattle.rdm_life.specs.Sending.{send_to, push_first, push_send, send_next, en
 use Rattle.rdm_life.specs.Handling.{after, after_instr, after_item}
 use Rattle.rdm_life.proofs.Stays.{Stays, kept_stays}
 use Rattle.rdm_life.proofs.EndSteps.{own_ends, new_ends, ends_step, regions_step, newer_pairs, none_filled, unended, live_are}
+use Rattle.rdm_life.proofs.Tests.{none_either}
+use Rattle.rdm_law.proofs.Refusals.StandsStill.{and_not}
 
 -- ---- what is kept where nothing ends, is accepted or registered
 
@@ -104,11 +106,6 @@ IsQuiet (Did (Cancel recv)) = ⊥
 IsQuiet (Took from item) = IsQuietItem item
 IsQuiet _ = Unit {0}
 
--- nothing is and is not
-and_not_self : (b : Bool) → (b && not b) ≡ false
-and_not_self true = refl
-and_not_self false = refl
-
 -- a quiet item tells of no message
 silent_item : (from : Life) (item : Item) → IsQuietItem item → (life : Life) (n : ℕ) → head_by life n (Took from item) ≡ None
 unfolding head_by
@@ -125,7 +122,7 @@ none_enter first d before source h =
     (λ n m.
     let a = same n in
     let b = each_below_same (λ k. is_heard (d ∷ before) source (first + k)) (λ k. is_heard before source (first + k)) (n - first) (λ k. same (first + k)) in
-    rw (a, b) (and_not_self (has_entered first before source n)))
+    rw (a, b) (and_not (has_entered first before source n)))
 
 -- nothing comes to the matcher
 quiet_events : (first : ℕ) (heads : Heads) (before : List Deed) (d : Deed) → IsQuiet d → events_by first heads before d ≡ []
@@ -143,11 +140,6 @@ quiet_item_brings ps source n (Spelled (Rtm number tag confirm opt form)) h = ab
 quiet_item_brings ps source n (Spelled (CtsData recv offset connid bytes)) h = absurd h
 quiet_item_brings ps source n (Gives g) h = absurd h
 quiet_item_brings ps source n _ h = refl
-
--- a test between nothing and nothing
-none_either : {A : Type 0} (b : Bool) (o : Option A) → o ≡ None → cond b o None ≡ None
-none_either true o h = h
-none_either false o h = refl
 
 -- no byte
 quiet_brings : (ps : List Pair) (source : Life) (n : ℕ) (d : Deed) → IsQuiet d → carried_by ps source n d ≡ None

@@ -5,11 +5,6 @@ use Rattle.std.specs.List.{list_any}
 use Rattle.rdm_lists.specs.Lists.{Member}
 use Rattle.rdm_life.specs.Kept.{change_where}
 
--- or nothing
-pub or_nothing : (b : Bool) → (b || false) ≡ b
-or_nothing true = refl
-or_nothing false = refl
-
 -- nothing either way
 pub none_either : (r c : Bool) → cond r false (cond c false false) ≡ false
 none_either true c = refl

@@ -26,8 +26,8 @@ use Rattle.rdm_model.proofs.Opens.{pieces_in-append, pieces_in_one}
 use Rattle.rdm_model.proofs.Rows.{row_covers, row_covered}
 use Rattle.rdm_life.specs.Sending.{opening_bytes, is_sent, pushed, ends_by_push}
 use Rattle.rdm_life.proofs.GoesSends.{AllOpened, all_opened, bytes_split}
-use Rattle.rdm_life.proofs.SendTargets.{same_test}
 use Rattle.rdm_life.proofs.SendWords.{kept_by}
+use Rattle.rdm_life.proofs.Tests.{same_test}
 
 -- the first cuts have fewer bytes than all, where another one follows
 cut_front : (fuel size offset : ℕ) (bytes : List ℕ) (ps : List Piece) (q : Piece) (qs : List Piece) → cut fuel size offset bytes ≡ ps ++ q ∷ qs → 0 < length bytes → piece_bytes ps < length bytes

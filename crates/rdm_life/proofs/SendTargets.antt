@@ -49,12 +49,6 @@ pub record Confirmed (own : Own) (log : List Deed) (to : Life) (n : ℕ) : Type 
   pub confirm : sent.message.confirm ≡ true
   pub unread : is_read sent.kind ≡ false
 
--- the two tests are one where each follows from the other
-pub same_test : (a b : Bool) → (a ≡ true → b ≡ true) → (b ≡ true → a ≡ true) → a ≡ b
-same_test true b f g = sym (f refl)
-same_test false true f g = g refl
-same_test false false f g = refl
-
 -- the live send of a number
 target_is : (ports : ℕ) (own : Own) (port_log log : List Deed) (to : Life) (n : ℕ) (t : Sent) → live_send (life_scene ports own port_log log) to n ≡ Some t
     → (x : Target own log to n) × (x.sent ≡ t)

@@ -34,7 +34,7 @@ use Rattle.rdm_life.specs.Kept.{LiveSend}
 use Rattle.rdm_life.specs.Keeps.{told, own_sends, own_progress, kept_send}
 use Rattle.rdm_life.specs.Sending.{opening_bytes, is_asked}
 use Rattle.rdm_life.proofs.OwnSends.{own_packets, own_over, own_progress_step}
-use Rattle.rdm_life.proofs.SendLists.{or_nothing}
+use Rattle.rdm_life.proofs.Tests.{or_none}
 
 -- the reply gives bytes of the send
 unfoldable pub answers : Sent → Reply → Bool
@@ -161,8 +161,8 @@ none_forgotten rs = filter_all (λ (r : Reply). not (list_any (same_life r.to) [
 -- by tests of lives, ends and receipts before and now
 over_bools : (r c e ended k confirmed pushed : Bool) → cond r ended (cond c confirmed pushed) ≡ false
     → cond r (e || ended) (cond c (k || confirmed) pushed) ≡ cond r e (cond c k false)
-over_bools true c e ended k confirmed pushed h = rw h (or_nothing e)
-over_bools false true e ended k confirmed pushed h = rw h (or_nothing k)
+over_bools true c e ended k confirmed pushed h = rw h (or_none e)
+over_bools false true e ended k confirmed pushed h = rw h (or_none k)
 over_bools false false e ended k confirmed pushed h = h
 
 -- whether a deed that pushes nothing ends a send: it forgets its life, or takes its end or its receipt

@@ -27,8 +27,9 @@ use Rattle.rdm_life.proofs.NewSends.{reply_gives}
 use Rattle.rdm_life.proofs.OwnSends.{own_live, own_over, own_packets, own_progress_step}
 use Rattle.rdm_life.proofs.SendLists.{none_either, change_kept}
 use Rattle.rdm_life.proofs.SendsQuiet.{live_was, live_same, count_nothing}
-use Rattle.rdm_life.proofs.SendTargets.{same_test, live_sent}
+use Rattle.rdm_life.proofs.SendTargets.{live_sent}
 use Rattle.rdm_life.proofs.SendWords.{answers, answer_count, kept_by, kept_by_same, kept_is, kept_next, none_forgotten, ends_by, over_deed}
+use Rattle.rdm_life.proofs.Tests.{same_test}
 
 -- the packets after a push, by what was due
 pub packets_after : (own : Own) (log : List Deed) (t : Due) (n : ℕ) → due own (told own log) log ≡ Some t → own_packets own (Pushed ∷ log) n ≡ (after_due (Some t) (own_progress own log)).packets n

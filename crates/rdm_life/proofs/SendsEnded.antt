@@ -28,8 +28,9 @@ use Rattle.rdm_life.specs.Sending.{end_sends, is_send_of}
 use Rattle.rdm_life.proofs.OwnSends.{own_live, own_over, new_sends}
 use Rattle.rdm_life.proofs.SendLists.{filter_kept}
 use Rattle.rdm_life.proofs.SendsQuiet.{live_was, live_left, owed_still, count_nothing}
-use Rattle.rdm_life.proofs.SendTargets.{same_test, end_target, receipt_target, target_one, message_one}
+use Rattle.rdm_life.proofs.SendTargets.{end_target, receipt_target, target_one, message_one}
 use Rattle.rdm_life.proofs.SendWords.{answer_count, kept_still, ends_by, over_now}
+use Rattle.rdm_life.proofs.Tests.{same_test}
 
 -- the sends that pass a test are over
 abbrev Ends : Own → Deed → List Deed → (LiveSend → Bool) → Type 0

@@ -26,9 +26,10 @@ use Rattle.rdm_life.specs.Kept.{Kept, LiveSend}
 use Rattle.rdm_life.specs.Keeps.{own_progress, kept_send, KeepsLives, KeepsSends}
 use Rattle.rdm_life.specs.Lives.{greet, after_insert}
 use Rattle.rdm_life.proofs.OwnSends.{own_live, own_over}
-use Rattle.rdm_life.proofs.SendLists.{none_either, or_nothing, filter_kept}
+use Rattle.rdm_life.proofs.SendLists.{none_either, filter_kept}
 use Rattle.rdm_life.proofs.SendsQuiet.{live_was, live_left, count_nothing}
 use Rattle.rdm_life.proofs.SendWords.{answers, answer_count, kept_still, ends_by, over_now}
+use Rattle.rdm_life.proofs.Tests.{or_none}
 
 -- an answer goes to the life of its send
 unlost : (s : Sent) (lives : List Life) (r : Reply) (b : Bool) → answers s r ≡ b → list_any (same_life s.to) lives ≡ false
@@ -52,7 +53,7 @@ over_by_insert : (life : Life) (log : List Deed) (s : Sent) → ends_by log (Did
 unfolding ends_by forgotten_by ends_send confirms
 over_by_insert life log s =
     ap (λ (b : Bool). list_any (same_life s.to) (other_life life (current log life.port.0)) || b) (none_either (is_read s.kind) s.message.confirm)
-    ∙ or_nothing (list_any (same_life s.to) (other_life life (current log life.port.0)))
+    ∙ or_none (list_any (same_life s.to) (other_life life (current log life.port.0)))
 
 -- a send to a life that is not forgotten is kept as it was
 insert_kept : (own : Own) (life : Life) (log : List Deed) (s : Sent) → list_any (same_life s.to) (other_life life (current log life.port.0)) ≡ false

@@ -32,10 +32,11 @@ use Rattle.rdm_life.specs.Keeps.{own_sends, own_progress, kept_send, KeepsSends}
 use Rattle.rdm_life.specs.Lives.{greet, with_source}
 use Rattle.rdm_life.specs.Sending.{opening_bytes, after_grant, after_ask, with_grant, with_ask, is_asked}
 use Rattle.rdm_life.proofs.OwnSends.{own_live, own_over, own_packets, new_sends}
-use Rattle.rdm_life.proofs.SendLists.{none_either, or_nothing, any-append, change_kept}
+use Rattle.rdm_life.proofs.SendLists.{none_either, any-append, change_kept}
 use Rattle.rdm_life.proofs.SendsQuiet.{live_was, live_same, owed_still, count_nothing}
 use Rattle.rdm_life.proofs.SendTargets.{Target, grant_target, ask_target, target_one, target_found}
 use Rattle.rdm_life.proofs.SendWords.{answers, answer_count, kept_by, kept_by_same, kept_is, kept_next, kept_still, packets_still, ends_by, over_now}
+use Rattle.rdm_life.proofs.Tests.{or_none}
 
 -- where a deed makes and ends no send, and changes those that pass
 changed_sends : (own : Own) (d : Deed) (log : List Deed) (v : Kept) (test : LiveSend → Bool) (change : LiveSend → LiveSend) → new_sends own log d ≡ []
@@ -153,7 +154,7 @@ with_ask_is own s ps gs asks owes ask =
     ap (λ (f : ℕ → Bool). record (kept_by own s ps gs asks (owes + 1)) { was_asked = f })
     (fun_ext (λ place.
     sym (any-append (λ (a : ReadAsk). is_asked a place) asks (ask ∷ [])
-    ∙ ap (λ (b : Bool). list_any (λ (a : ReadAsk). is_asked a place) asks || b) (or_nothing (is_asked ask place)))))
+    ∙ ap (λ (b : Bool). list_any (λ (a : ReadAsk). is_asked a place) asks || b) (or_none (is_asked ask place)))))
 
 -- the answer to an ask of that send
 abbrev answer_to : Life → ReadAsk → Sent → List Reply

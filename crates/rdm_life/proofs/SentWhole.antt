@@ -24,7 +24,7 @@ use Rattle.rdm_model.proofs.Rows.{row_covers, row_covered}
 use Rattle.rdm_law.proofs.Accounts.WasDue.{own_sends}
 use Rattle.rdm_life.specs.Keeps.{told, own_progress, kept_send}
 use Rattle.rdm_life.specs.Sending.{opening_bytes, is_sent}
-use Rattle.rdm_life.proofs.AskFacts.{same_test}
+use Rattle.rdm_life.proofs.Tests.{same_test}
 
 -- what is left of a list of pieces always has a byte, as long as a piece is left
 abbrev EndsSome : List Piece → Type 0

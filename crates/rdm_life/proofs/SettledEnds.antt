@@ -23,7 +23,6 @@ use Rattle.rdm_law.proofs.Matching.Received.{receive_stands}
 use Rattle.rdm_life.specs.Landing.{has_all, is_full, is_one_of, is_filled_one}
 use Rattle.rdm_life.specs.Keeps.{told, own_pairs, own_live_receives, pair_of}
 use Rattle.rdm_life.proofs.Apart.{own_ended}
-use Rattle.rdm_life.proofs.AskFacts.{same_test}
 use Rattle.rdm_life.proofs.EndSteps.{own_ends, new_ends, unended, live_are}
 use Rattle.rdm_life.proofs.LiveLeft.{live_after}
 use Rattle.rdm_life.proofs.Owing.{not_newly, pairs_then}
@@ -31,6 +30,7 @@ use Rattle.rdm_life.proofs.SettledDone.{landing_filled}
 use Rattle.rdm_life.proofs.SettledPairs.{touched, received_number, all_is, only_touched}
 use Rattle.rdm_life.proofs.Settling.{IsLanding, Touches, out_with, landed_message, landed_receive, numbers_of}
 use Rattle.rdm_life.proofs.TakenBy.{false_unless, pair_is}
+use Rattle.rdm_life.proofs.Tests.{same_test}
 
 -- all of a pair's message came
 abbrev pub is_whole : Own → Deed → List Deed → Pair → Bool
