@@ -32,13 +32,14 @@ use Rattle.rdm_life.proofs.SendLists.{filter_kept}
 use Rattle.rdm_life.proofs.SendWords.{ends_by, over_now}
 use Rattle.rdm_life.proofs.Owing.{pairs_then}
 use Rattle.rdm_life.proofs.Idle.{idle_fills}
-use Rattle.rdm_life.proofs.Completing.{own_completions, own_ends, new_ends, new_over, completed, unpolled, live_still, live_known, neither, map_twice}
+use Rattle.rdm_life.proofs.Completing.{own_completions, new_over, completed, unpolled, live_still, live_known, neither, map_twice}
 use Rattle.rdm_life.proofs.CompletedIdle.{KeepsDone}
 use Rattle.rdm_lists.proofs.Filters.{filter_nothing, filter_both, list_any_none}
 use Rattle.rdm_lists.proofs.Members.{find_member, member_find, member-filter, member_list_any}
 use Rattle.rdm_lists.proofs.Options.{some_of}
 use Rattle.rdm_lists.proofs.Same.{filter_same, filter_where, map_same}
 use Rattle.rdm_life.proofs.Tests.{or_none}
+use Rattle.rdm_life.proofs.EndSteps.{own_ends, new_ends}
 
 -- ---- receives
 

@@ -33,11 +33,12 @@ use Rattle.rdm_life.specs.Sending.{send_to, after_grant, after_ask, end_sends, i
 use Rattle.rdm_life.specs.Handling.{after_item, after_take, after_instr, after_poll, after}
 use Rattle.rdm_life.proofs.SendLists.{filter_kept}
 use Rattle.rdm_life.proofs.Idle.{IsIdle, IsIdleItem, idle_fills}
-use Rattle.rdm_life.proofs.Completing.{own_completions, own_ends, new_ends, new_received, new_over, completed, unpolled, EndsNone, over_none, kept_done, map_twice, kept_ends, end_ends, receipt_ends}
+use Rattle.rdm_life.proofs.Completing.{own_completions, new_received, new_over, completed, unpolled, EndsNone, over_none, kept_done, map_twice, kept_ends, end_ends, receipt_ends}
 use Rattle.rdm_lists.proofs.Filters.{filter_nothing, filter_both, list_any_none}
 use Rattle.rdm_lists.proofs.Members.{member-append_right, map-member}
 use Rattle.rdm_lists.proofs.Places.{member_at}
 use Rattle.rdm_lists.proofs.Same.{filter_where}
+use Rattle.rdm_life.proofs.EndSteps.{own_ends, new_ends}
 
 -- what is kept of what was not polled, after a deed
 abbrev pub KeepsDone : Own → Deed → List Deed → List Completion → Type 0

@@ -18,7 +18,7 @@ use Rattle.rdm_model.specs.Deeds.{Deed, Did, Pushed, Took, Spelled, deed_count}
 use Rattle.rdm_model.specs.Beginnings.{Own}
 use Rattle.rdm_model.specs.Currents.{forgotten_by, is_forgotten}
 use Rattle.rdm_model.specs.Matches.{receives}
-use Rattle.rdm_model.specs.Receives.{RecvEnd, recv_ends_by, recv_ends}
+use Rattle.rdm_model.specs.Receives.{RecvEnd, recv_ends_by}
 use Rattle.rdm_model.specs.Sends.{Sent}
 use Rattle.rdm_model.specs.Targets.{live_send, live_message, is_read_send, is_confirmed_send}
 use Rattle.rdm_model.specs.Classes.{is_no_op}
@@ -42,18 +42,11 @@ use Rattle.rdm_life.proofs.SendWords.{ends_by, over_now}
 use Rattle.rdm_lists.proofs.Filters.{filter_nothing}
 use Rattle.rdm_lists.proofs.Members.{find_member, member-filter}
 use Rattle.rdm_lists.proofs.Same.{filter_where, map_same}
+use Rattle.rdm_life.proofs.EndSteps.{new_ends}
 
 -- the completions of a life
 abbrev pub own_completions : Own → List Deed → List Completion
 own_completions own log = completions own (told own log) log
-
--- the receives that ended
-abbrev pub own_ends : Own → List Deed → List RecvEnd
-own_ends own log = recv_ends own.limits.first (told own log).head log
-
--- the receives that end by a deed
-abbrev pub new_ends : Own → Deed → List Deed → List RecvEnd
-new_ends own d log = recv_ends_by own.limits.first (told own (d ∷ log)).head d log (own_ends own log)
 
 -- their completions
 abbrev pub new_received : Own → Deed → List Deed → List Completion

@@ -49,7 +49,7 @@ use Rattle.rdm_life.proofs.MessageStands.{early_none, early_some}
 use Rattle.rdm_life.proofs.OwedIdle.{took_greets}
 use Rattle.rdm_life.proofs.Owing.{BringsNone}
 use Rattle.rdm_life.proofs.ReceivesQuiet.{greeting_leaves}
-use Rattle.rdm_life.proofs.TakenBy.{false_unless, own_ends, live_of, receive_of_is, pair_of_message, live_takes}
+use Rattle.rdm_life.proofs.TakenBy.{false_unless, live_of, receive_of_is, pair_of_message, live_takes}
 use Rattle.rdm_life.proofs.Settling.{IsLanding, Touches, Landed, landed_receive}
 use Rattle.rdm_life.proofs.SettledReceives.{settled_receives}
 use Rattle.rdm_life.proofs.SettledOwed.{settled_owed}
@@ -57,6 +57,7 @@ use Rattle.rdm_life.proofs.LandedPiece.{Brings, out_same, home_landed, quiet_one
 use Rattle.rdm_life.proofs.LandedBytes.{data_brings, gives_brings}
 use Rattle.rdm_life.proofs.LandedMore.{segment_piece, more_made, unmatched_quiet, segment_brings}
 use Rattle.rdm_life.proofs.Tests.{and_none}
+use Rattle.rdm_life.proofs.Apart.{own_ended}
 
 -- such a datagram
 abbrev pub IsMore : List Deed → Life → Item → Type 0
@@ -146,7 +147,7 @@ piece_lands own log v w from item p x local fit i b k m = piece_kept own (Took f
 
 -- a receive that ended with a message has all of it, so that nothing of it is missing
 done_whole : (own : Own) (ports : ℕ) (port_log log : List Deed) (p : Pair) (offset len : ℕ) → LifeLocal own log → Member p (own_pairs own log) → is_forgotten log p.message.life ≡ false
-    → own_ends own log p.recv.id.0 ≡ true → 0 < len → came_in_part (life_scene ports own port_log log) p.message.life p.message.no.0 offset len ≡ false → ⊥
+    → own_ended own log p.recv.id.0 ≡ true → 0 < len → came_in_part (life_scene ports own port_log log) p.message.life p.message.no.0 offset len ≡ false → ⊥
 unfolding is_filled has_landed came_in_part
 done_whole own ports port_log log p offset len local m kept ended some new =
     (elim (is_filled own.limits.first (told own log).head log p) as (λ b. is_filled own.limits.first (told own log).head log p ≡ b → ⊥) [
@@ -188,7 +189,7 @@ rtm_kept own from number tag confirm opt form log v w heard some local fit k m e
           let none : (is_heard log from n && not (is_matched (own_pairs own log) (named from n))) ≡ false = ap (λ (b : Bool). is_heard log from n && not b) matched ∙ and_none (is_heard log from n) in
           let at : (P : Life → ℕ → Type 0) → P from n → P p.0.message.life p.0.message.no.0 =
           λ P h. subst (λ (l : Life). P l p.0.message.no.0) (sym p.2) (subst (λ (j : ℕ). P from j) (sym p.3) h) in
-          let going : own_ends own log p.0.recv.id.0 ≡ false = false_unless (own_ends own log p.0.recv.id.0) (λ ended.
+          let going : own_ended own log p.0.recv.id.0 ≡ false = false_unless (own_ended own log p.0.recv.id.0) (λ ended.
           done_whole own step.0 step.1 log p.0 x.0.offset (length x.0.bytes) local.0 p.1 (ap (is_forgotten log) p.2 ∙ kept) ended x.4
           (at (λ l j. came_in_part s l j x.0.offset (length x.0.bytes) ≡ false) x.5)) in
           let l = live_of own log p.0 p.1 going in

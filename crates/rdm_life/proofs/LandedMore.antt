@@ -33,9 +33,11 @@ use Rattle.rdm_life.proofs.MatchingQuiet.{none_enter}
 use Rattle.rdm_life.proofs.MatchingStep.{same_heard}
 use Rattle.rdm_life.proofs.MessageFacts.{named}
 use Rattle.rdm_life.proofs.Owing.{BringsNone}
-use Rattle.rdm_life.proofs.TakenBy.{false_unless, own_ends, message_of_pair}
+use Rattle.rdm_life.proofs.TakenBy.{false_unless, message_of_pair}
 use Rattle.rdm_life.proofs.LandedPiece.{Brings}
 use Rattle.rdm_life.proofs.LandedBytes.{missing_none, made_none}
+use Rattle.rdm_life.proofs.Tests.{none_either}
+use Rattle.rdm_life.proofs.Apart.{own_ended}
 
 -- a packet that repeats nothing is a segment with a piece, none of whose places came before
 pub segment_piece : (own : Own) (ports : ℕ) (port_log log : List Deed) (from : Life) (n : ℕ) (form : Form) → FormHasBytes form → repeats (class_facts (life_scene ports own port_log log)) from n form ≡ false
@@ -89,7 +91,7 @@ unmatched_quiet own log from number tag confirm opt form none q m =
 -- where a live receive takes it, the piece is for its pair
 pub segment_brings : (own : Own) (log : List Deed) (from : Life) (number : MsgNo) (tag : Option ℕ) (confirm : Bool) (opt : Opt) (form : Form) (p : Pair) (x : Piece) → is_heard log from number.0 ≡ true
     → piece_of form ≡ Some x → first_part_in form ≡ None → ((place b : ℕ) → byte_in x place ≡ Some b → byte_came own log from number.0 place ≡ None)
-    → Member p (own_pairs own log) → p.message.life ≡ from → p.message.no.0 ≡ number.0 → own_ends own log p.recv.id.0 ≡ false → Brings own (Took from (Spelled (Rtm number tag confirm opt form))) log p x
+    → Member p (own_pairs own log) → p.message.life ≡ from → p.message.no.0 ≡ number.0 → own_ended own log p.recv.id.0 ≡ false → Brings own (Took from (Spelled (Rtm number tag confirm opt form))) log p x
 unfolding received_by first_part_by
 segment_brings own log from number tag confirm opt form p x heard piece none fresh m life n going =
     let ps = own_pairs own log in
@@ -101,7 +103,7 @@ segment_brings own log from number tag confirm opt form p x heard piece none fre
       going = going;
       carries = at (λ l k. carried_by ps l k d ≡ Some x) (rtm_brings ps from number tag confirm opt form ∙ piece);
       fresh = at (λ l k. (place b : ℕ) → byte_in x place ≡ Some b → byte_came own log l k place ≡ None) fresh;
-      first_is = first_still d log p.message.life p.message.no.0 (none_through (same_life from p.message.life && number.0 == p.message.no.0) (first_part_in form) none);
+      first_is = first_still d log p.message.life p.message.no.0 (none_either (same_life from p.message.life && number.0 == p.message.no.0) (first_part_in form) none);
       others = λ q k other.
           rtm_others ps from number tag confirm opt form q.message.life q.message.no.0
           (false_unless (same_life from q.message.life && number.0 == q.message.no.0) (λ h.
@@ -110,7 +112,3 @@ segment_brings own log from number tag confirm opt form p x heard piece none fre
       makes_none = more_made own log from number tag confirm opt form heard;
       accepts_none = refl;
     }
-  where
-    none_through : (b : Bool) (o : Option ℕ) → o ≡ None → cond b o None ≡ None
-    none_through true o h = h
-    none_through false o h = refl

@@ -29,16 +29,17 @@ use Rattle.rdm_life.proofs.Meets.{left_alone}
 use Rattle.rdm_life.proofs.Owing.{BringsNone}
 use Rattle.rdm_life.proofs.Pairs.{pairs_added}
 use Rattle.rdm_life.proofs.Stays.{built, matched_same, head_stays}
-use Rattle.rdm_life.proofs.TakenBy.{own_ends, pair_is, pair_found, live_of}
+use Rattle.rdm_life.proofs.TakenBy.{pair_is, pair_found, live_of}
 use Rattle.rdm_life.proofs.TakenFits.{AllTakenFit}
 use Rattle.rdm_life.proofs.Settling.{IsLanding, Touches, Landed, out_with, landed_receive, landed_message}
 use Rattle.rdm_life.proofs.SettledReceives.{settled_receives}
 use Rattle.rdm_life.proofs.SettledOwed.{settled_owed}
+use Rattle.rdm_life.proofs.Apart.{own_ended}
 
 -- a deed brings a piece of the message of a live pair, of which no place came before, and nothing else
 pub record Brings (own : Own) (d : Deed) (log : List Deed) (p : Pair) (x : Piece) : Type 0 where
   pub member : Member p (own_pairs own log)
-  pub going : own_ends own log p.recv.id.0 ≡ false
+  pub going : own_ended own log p.recv.id.0 ≡ false
   pub carries : carried_by (own_pairs own log) p.message.life p.message.no.0 d ≡ Some x
   pub fresh : (place b : ℕ) → byte_in x place ≡ Some b → byte_came own log p.message.life p.message.no.0 place ≡ None
   pub first_is : first_part (d ∷ log) p.message.life p.message.no.0 ≡ first_part log p.message.life p.message.no.0

@@ -1,7 +1,7 @@
 -- Proofs.
 -- what one deed makes of the pairs
 pub mod Made
--- what tests that are joined come to
+-- tests that are joined
 pub mod Tests
 -- packets that are taken meet their conditions
 pub mod TakenFits

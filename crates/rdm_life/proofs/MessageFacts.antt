@@ -26,7 +26,8 @@ use Rattle.std.proofs.lemmas.Bool.{eqb-true, eq-eqb}
 use Rattle.rdm_life.specs.Kept.{Kept, EarlyMessage, LiveReceive}
 use Rattle.rdm_life.specs.Keeps.{told, own_pairs, matched_of}
 use Rattle.rdm_life.specs.Handling.{receive_of}
-use Rattle.rdm_life.proofs.TakenBy.{false_unless, own_ends, message_of_pair}
+use Rattle.rdm_life.proofs.TakenBy.{false_unless, message_of_pair}
+use Rattle.rdm_life.proofs.Apart.{own_ended}
 
 -- the message of that number
 abbrev pub named : Life → ℕ → Name
@@ -52,7 +53,7 @@ received_matched own ports port_log log source n unmatched =
 
 -- a receive that was filled completed with its message, and has ended
 pub filled_received : (own : Own) (ports : ℕ) (port_log log : List Deed) (p : Pair) → Member p (own_pairs own log) → is_filled own.limits.first (told own log).head log p ≡ true
-    → (is_received (life_scene ports own port_log log) p.message.life p.message.no.0 ≡ true) × (own_ends own log p.recv.id.0 ≡ true)
+    → (is_received (life_scene ports own port_log log) p.message.life p.message.no.0 ≡ true) × (own_ended own log p.recv.id.0 ≡ true)
 unfolding is_received is_filled_end has_ended ended_recv
 filled_received own ports port_log log p m filled =
     let first = own.limits.first in
@@ -64,7 +65,7 @@ filled_received own ports port_log log p m filled =
     )
 
 -- a message that was matched but not filled was not received
-pub unfilled_received : (own : Own) (ports : ℕ) (port_log log : List Deed) (p : Pair) → Member p (own_pairs own log) → own_ends own log p.recv.id.0 ≡ false
+pub unfilled_received : (own : Own) (ports : ℕ) (port_log log : List Deed) (p : Pair) → Member p (own_pairs own log) → own_ended own log p.recv.id.0 ≡ false
     → is_received (life_scene ports own port_log log) p.message.life p.message.no.0 ≡ false
 unfolding is_received is_filled_end has_ended ended_recv
 unfilled_received own ports port_log log p m not_ended =
@@ -76,8 +77,8 @@ unfilled_received own ports port_log log p m not_ended =
       | Filled q ↦ λ l. false_unless (same_life q.message.life p.message.life && q.message.no.0 == p.message.no.0) (λ is.
           let parts = and_parts (same_life q.message.life p.message.life) (q.message.no.0 == p.message.no.0) is in
           let same : q ≡ p = once q p (end_is first hs log (Filled q) l) m (same_life-true q.message.life p.message.life parts.0) (eqb-true q.message.no.0 p.message.no.0 parts.1) in
-          let ended : own_ends own log q.recv.id.0 ≡ true = member_list_any (λ (x : RecvEnd). ended_recv x == q.recv.id.0) (Filled q) (recv_ends first hs log) l (eq-eqb q.recv.id.0 q.recv.id.0 refl) in
-          let wrong : true ≡ false = sym ended ∙ ap (λ (x : Pair). own_ends own log x.recv.id.0) same ∙ not_ended in
+          let ended : own_ended own log q.recv.id.0 ≡ true = member_list_any (λ (x : RecvEnd). ended_recv x == q.recv.id.0) (Filled q) (recv_ends first hs log) l (eq-eqb q.recv.id.0 q.recv.id.0 refl) in
+          let wrong : true ≡ false = sym ended ∙ ap (λ (x : Pair). own_ended own log x.recv.id.0) same ∙ not_ended in
           cc)
       | Withdrawn j ↦ λ l. refl
       | Gone j ↦ λ l. refl

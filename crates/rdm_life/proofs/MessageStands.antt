@@ -23,8 +23,9 @@ use Rattle.rdm_life.specs.Kept.{Kept, EarlyMessage}
 use Rattle.rdm_life.specs.Keeps.{told, own_pairs, early_message, kept_receive, matched_of, KeepsMatching, KeepsReceives}
 use Rattle.rdm_life.specs.Handling.{receive_of}
 use Rattle.rdm_life.specs.Facts.{head_in_receive, head_or_matched}
-use Rattle.rdm_life.proofs.TakenBy.{false_unless, own_ends, LiveOf, live_of, receive_of_is, pair_of_message, none_takes, done_takes, live_takes}
+use Rattle.rdm_life.proofs.TakenBy.{false_unless, LiveOf, live_of, receive_of_is, pair_of_message, none_takes, done_takes, live_takes}
 use Rattle.rdm_life.proofs.MessageFacts.{named, received_matched, filled_received, unfilled_received, told_head, Stands, Unheard, IsEarly, IsLanding, IsDone}
+use Rattle.rdm_life.proofs.Apart.{own_ended}
 
 -- a message that was matched was heard of
 matched_heard : (own : Own) (log : List Deed) (source : Life) (n : ℕ) → is_matched (own_pairs own log) (named source n) ≡ true → is_heard log source n ≡ true
@@ -65,7 +66,7 @@ early_some own log source n heard unmatched =
 
 -- a message that was matched, whose receive is live
 landing : (own : Own) (ports : ℕ) (port_log log : List Deed) (v : Kept) (source : Life) (n : ℕ) → KeepsReceives own log v → is_heard log source n ≡ true → v.early source n ≡ None
-    → (p : Pair) → Member p (own_pairs own log) → p.message.life ≡ source → p.message.no.0 ≡ n → own_ends own log p.recv.id.0 ≡ false → Stands own ports port_log log v source n
+    → (p : Pair) → Member p (own_pairs own log) → p.message.life ≡ source → p.message.no.0 ≡ n → own_ended own log p.recv.id.0 ≡ false → Stands own ports port_log log v source n
 unfolding kept_receive
 landing own ports port_log log v source n k heard none p m life number going =
     let l : LiveOf own log p = live_of own log p m going in

@@ -21,7 +21,8 @@ use Rattle.rdm_life.specs.Kept.{Kept, LiveReceive, Matched}
 use Rattle.rdm_life.specs.Keeps.{own_pairs, own_live_receives, pair_of, matched_of, kept_receive, KeepsReceives}
 use Rattle.rdm_life.specs.Facts.{is_of, receive_from, passes, matched_passes, came_or_outside}
 use Rattle.rdm_life.proofs.SendFacts.{find_map}
-use Rattle.rdm_life.proofs.TakenBy.{false_unless, find_none, find_one, own_ends, pair_found, live_parts, LiveOf, live_of}
+use Rattle.rdm_life.proofs.TakenBy.{false_unless, find_none, find_one, pair_found, LiveOf, live_of}
+use Rattle.rdm_life.proofs.Apart.{own_ended, live_is}
 
 -- the live receive has that number, and its pair is of that life
 abbrev names : Own → List Deed → Life → ℕ → Receive → Bool
@@ -43,7 +44,7 @@ of_parts own log source (Some p) h = (p, refl, same_life-true p.message.life sou
 
 -- the pair that is looked for
 abbrev seeks : Own → List Deed → Life → ℕ → Pair → Bool
-seeks own log source recv p = is_recv recv p.recv && same_life p.message.life source && not (own_ends own log recv)
+seeks own log source recv p = is_recv recv p.recv && same_life p.message.life source && not (own_ended own log recv)
 
 -- a receive that is named has such a pair
 named_seeks : (own : Own) (log : List Deed) (source : Life) (recv : ℕ) (r : Receive) → Member r (own_live_receives own log) → names own log source recv r ≡ true
@@ -54,11 +55,11 @@ named_seeks own log source recv r m is =
     let number : r.number ≡ recv = eqb-true r.number recv parts.0 in
     let p = of_parts own log source (pair_of own log r) parts.1 in
     let found = pair_found own log r p.0 p.1 in
-    let going : not (own_ends own log recv) ≡ true = ap (λ (n : ℕ). not (own_ends own log n)) (sym number) ∙ ap not (live_parts own log r m).1 in (
+    let going : not (own_ended own log recv) ≡ true = ap (λ (n : ℕ). not (own_ended own log n)) (sym number) ∙ ap not (live_is own log r m).1 in (
       p.0,
       p.1,
       found.0,
-      and_from (p.0.recv.id.0 == recv && same_life p.0.message.life source) (not (own_ends own log recv))
+      and_from (p.0.recv.id.0 == recv && same_life p.0.message.life source) (not (own_ended own log recv))
           (and_from (p.0.recv.id.0 == recv) (same_life p.0.message.life source) (eq-eqb p.0.recv.id.0 recv (found.1 ∙ number)) (subst (λ (l : Life). same_life p.0.message.life l ≡ true) p.2 (same_life-refl p.0.message.life)))
           going,
     )
@@ -68,10 +69,10 @@ pair_names : (own : Own) (log : List Deed) (source : Life) (recv : ℕ) (p : Pai
     → (l : LiveOf own log p) × (find (names own log source recv) (own_live_receives own log) ≡ Some l.recv)
 unfolding is_recv is_of
 pair_names own log source recv p m is =
-    let parts = and_parts (p.recv.id.0 == recv && same_life p.message.life source) (not (own_ends own log recv)) is in
+    let parts = and_parts (p.recv.id.0 == recv && same_life p.message.life source) (not (own_ended own log recv)) is in
     let first = and_parts (p.recv.id.0 == recv) (same_life p.message.life source) parts.0 in
     let number : p.recv.id.0 ≡ recv = eqb-true p.recv.id.0 recv first.0 in
-    let going : own_ends own log p.recv.id.0 ≡ false = ap (own_ends own log) number ∙ not-true (own_ends own log recv) parts.1 in
+    let going : own_ended own log p.recv.id.0 ≡ false = ap (own_ended own log) number ∙ not-true (own_ended own log recv) parts.1 in
     let l : LiveOf own log p = live_of own log p m going in
     let of : is_of source (option_map (matched_of own log) (pair_of own log l.recv)) ≡ true = ap (λ (o : Option Pair). is_of source (option_map (matched_of own log) o)) l.pair_is ∙ first.1 in (
       l,
@@ -79,7 +80,7 @@ pair_names own log source recv p m is =
           (and_from (l.recv.number == recv) (is_of source (option_map (matched_of own log) (pair_of own log l.recv))) (eq-eqb l.recv.number recv (l.number_is ∙ number)) of)
           (λ r k named.
           let parts' = and_parts (r.number == recv) (is_of source (option_map (matched_of own log) (pair_of own log r))) named in
-          receive_once log r l.recv (live_parts own log r k).0 (live_parts own log l.recv l.live).0 (eqb-true r.number recv parts'.0 ∙ sym number ∙ sym l.number_is)),
+          receive_once log r l.recv (live_is own log r k).0 (live_is own log l.recv l.live).0 (eqb-true r.number recv parts'.0 ∙ sym number ∙ sym l.number_is)),
     )
 
 -- what a test says of the message of the receive of that number

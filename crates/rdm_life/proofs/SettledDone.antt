@@ -28,10 +28,11 @@ use Rattle.rdm_life.specs.Kept.{Kept, receive_numbered}
 use Rattle.rdm_life.specs.Keeps.{told, own_pairs, byte_came, byte_of_pair, region_byte}
 use Rattle.rdm_life.specs.Landing.{has_all, completion_of, completion_by, settle}
 use Rattle.rdm_life.proofs.CompletedIdle.{KeepsDone}
-use Rattle.rdm_life.proofs.Completing.{own_completions, new_ends, new_received, completed, unpolled, EndsNone, over_none}
+use Rattle.rdm_life.proofs.Completing.{own_completions, new_received, completed, unpolled, EndsNone, over_none}
 use Rattle.rdm_life.proofs.Owing.{not_newly, pairs_then}
 use Rattle.rdm_life.proofs.SettledPairs.{Touched, touched, accepted_found, landed_found, all_is, only_touched}
 use Rattle.rdm_life.proofs.Settling.{IsLanding, Touches, Landed, landed_message, landed_receive, numbers_of}
+use Rattle.rdm_life.proofs.EndSteps.{new_ends}
 
 -- ---- the bytes of a receive that was filled
 

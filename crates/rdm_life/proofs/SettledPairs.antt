@@ -33,7 +33,8 @@ use Rattle.rdm_life.proofs.MessageFacts.{filled_received}
 use Rattle.rdm_life.proofs.Owing.{BringsNone}
 use Rattle.rdm_life.proofs.Pairs.{pairs_added}
 use Rattle.rdm_life.proofs.Settling.{Touches, Landed, out_with, landed_message, landed_receive}
-use Rattle.rdm_life.proofs.TakenBy.{false_unless, find_one, own_ends, pair_is, live_parts}
+use Rattle.rdm_life.proofs.TakenBy.{false_unless, find_one, pair_is}
+use Rattle.rdm_life.proofs.Apart.{own_ended, live_is}
 
 -- a pair of a list of one
 old_member : (own : Own) (log : List Deed) (ps : List Pair) (p q : Pair) → ps ≡ q ∷ [] → Member q (own_pairs own log) → Member p ps → Member p (own_pairs own log)
@@ -64,7 +65,7 @@ pub out_accepted : (own : Own) (d : Deed) (log : List Deed) (r : Receive) → Me
 unfolding receives with_received
 out_accepted own d log r m =
     elim (member-append_cases r (own_live_receives own log) (received_by (receives log) log d) m) [
-      | inl a ↦ member-append_left r (receives log) (received_by (receives log) log d) (live_parts own log r a).0
+      | inl a ↦ member-append_left r (receives log) (received_by (receives log) log d) (live_is own log r a).0
       | inr a ↦ member-append_right r (receives log) (received_by (receives log) log d) a
     ]
 
@@ -97,7 +98,7 @@ out_unfilled own d log r p old m is =
     false_unless (is_filled own.limits.first (told own log).head log p) (λ filled.
     let ended = (filled_received own 0 [] log p old filled).1 in
     elim (member-append_cases r (own_live_receives own log) (received_by (receives log) log d) m) [
-      | inl a ↦ (let wrong : true ≡ false = sym ended ∙ ap (own_ends own log) (sym is) ∙ (live_parts own log r a).1 in cc)
+      | inl a ↦ (let wrong : true ≡ false = sym ended ∙ ap (own_ended own log) (sym is) ∙ (live_is own log r a).1 in cc)
       | inr a ↦ (
           let low = (matching_numbered own.limits.first (told own log).head log).pairs_below p old in
           let high = received_number d log r a in

@@ -1,9 +1,9 @@
 -- Which live receive takes a message.
 use Rattle.std.proofs.Common.{◌≡◌, ℕ, Bool, true, false, not, ◌&&◌, List, [], ◌∷◌, Option, Some, None, refl, eq-eqb, inl, inr, sym, ◌∙◌, ap, subst}
 use Rattle.std.specs.Prelude.{◌==◌, find, option_map}
-use Rattle.std.proofs.lemmas.Bool.{and_parts, and_from, eqb-true, not-true}
+use Rattle.std.proofs.lemmas.Bool.{and_parts, and_from, eqb-true}
 use Rattle.rdm_lists.specs.Lists.{Member}
-use Rattle.rdm_lists.proofs.Members.{find_member, member_find, member-filter, filter-member, list_any_member, member_list_any}
+use Rattle.rdm_lists.proofs.Members.{find_member, member_find, filter-member, list_any_member, member_list_any}
 use Rattle.rdm_lists.proofs.Options.{some_of}
 use Rattle.rdm_num.specs.Lives.{same_life}
 use Rattle.rdm_num.specs.declared.numbers.Life.{Life}
@@ -13,7 +13,7 @@ use Rattle.rdm_model.specs.Beginnings.{Own}
 use Rattle.rdm_model.specs.Completions.{is_matched}
 use Rattle.rdm_model.specs.Deeds.{Deed}
 use Rattle.rdm_model.specs.Matches.{Receive, receives}
-use Rattle.rdm_model.specs.Receives.{recv_ends, has_ended, live_receives}
+use Rattle.rdm_model.specs.Receives.{live_receives}
 use Rattle.rdm_law.proofs.Ends.Live.{pair_recv}
 use Rattle.rdm_law.proofs.Matching.Distinct.{matching_distinct}
 use Rattle.rdm_law.proofs.Matching.Numbered.{matching_numbered}
@@ -22,6 +22,7 @@ use Rattle.rdm_life.specs.Kept.{Kept, LiveReceive}
 use Rattle.rdm_life.specs.Keeps.{told, own_pairs, own_live_receives, pair_of, matched_of, kept_receive, KeepsReceives}
 use Rattle.rdm_life.specs.Handling.{is_message, receive_of}
 use Rattle.rdm_life.proofs.SendFacts.{find_map}
+use Rattle.rdm_life.proofs.Apart.{own_ended, live_is}
 
 -- what can't be true is false
 pub false_unless : (b : Bool) → (b ≡ true → ⊥) → b ≡ false
@@ -39,10 +40,6 @@ find_one t x xs m passes one =
     let f = some_of (find t xs) (member_find t x xs m passes) in
     let p = find_member t f.0 xs f.1 in
     f.1 ∙ ap Some (one f.0 p.0 p.1)
-
--- the ends of receives
-abbrev pub own_ends : Own → List Deed → ℕ → Bool
-own_ends own log number = has_ended (recv_ends own.limits.first (told own log).head log) number
 
 -- the pair of a receive that has one
 pub pair_is : (own : Own) (log : List Deed) (r : Receive) (p : Pair) → Member p (own_pairs own log) → r.number ≡ p.recv.id.0 → pair_of own log r ≡ Some p
@@ -67,24 +64,17 @@ pub record LiveOf (own : Own) (log : List Deed) (p : Pair) : Type 0 where
   pub pair_is : pair_of own log recv ≡ Some p
 
 -- the receive of a pair is live where it has not ended
-pub live_of : (own : Own) (log : List Deed) (p : Pair) → Member p (own_pairs own log) → own_ends own log p.recv.id.0 ≡ false → LiveOf own log p
+pub live_of : (own : Own) (log : List Deed) (p : Pair) → Member p (own_pairs own log) → own_ended own log p.recv.id.0 ≡ false → LiveOf own log p
 unfolding live_receives
 live_of own log p m not_ended =
     let r = pair_recv own.limits.first (told own log).head log p m in
-    let going : not (own_ends own log r.recv.number) ≡ true = ap (λ (n : ℕ). not (own_ends own log n)) r.number_is ∙ ap not not_ended in
+    let going : not (own_ended own log r.recv.number) ≡ true = ap (λ (n : ℕ). not (own_ended own log n)) r.number_is ∙ ap not not_ended in
     record {
       recv = r.recv;
-      live = filter-member (λ (x : Receive). not (own_ends own log x.number)) r.recv (receives log) r.accepted going;
+      live = filter-member (λ (x : Receive). not (own_ended own log x.number)) r.recv (receives log) r.accepted going;
       number_is = r.number_is;
       pair_is = pair_is own log r.recv p m r.number_is;
     }
-
--- a live receive was accepted and has not ended
-pub live_parts : (own : Own) (log : List Deed) (r : Receive) → Member r (own_live_receives own log) → Member r (receives log) × (own_ends own log r.number ≡ false)
-unfolding live_receives
-live_parts own log r m =
-    let f = member-filter (λ (x : Receive). not (own_ends own log x.number)) r (receives log) m in
-    (f.0, not-true (own_ends own log r.number) f.1)
 
 -- the receive's pair is of that message
 abbrev takes : Own → List Deed → Life → ℕ → Receive → Bool
@@ -143,7 +133,7 @@ none_takes own log source n unmatched =
 
 -- nor one of which the receive has ended
 pub done_takes : (own : Own) (log : List Deed) (source : Life) (n : ℕ) (p : Pair) → Member p (own_pairs own log) → p.message.life ≡ source → p.message.no.0 ≡ n
-    → own_ends own log p.recv.id.0 ≡ true → find (takes own log source n) (own_live_receives own log) ≡ None
+    → own_ended own log p.recv.id.0 ≡ true → find (takes own log source n) (own_live_receives own log) ≡ None
 done_takes own log source n p m life number ended =
     let once = (matching_distinct own.limits.first (told own log).head log).once in
     find_none (takes own log source n) (own_live_receives own log) (λ r k. false_unless (takes own log source n r) (λ is.
@@ -151,7 +141,7 @@ done_takes own log source n p m life number ended =
     let found = pair_found own log r q.0 q.1 in
     let same : q.0 ≡ p = once q.0 p found.0 m (q.2 ∙ sym life) (q.3 ∙ sym number) in
     let number_is : r.number ≡ p.recv.id.0 = sym found.1 ∙ ap (λ (x : Pair). x.recv.id.0) same in
-    let wrong : true ≡ false = sym ended ∙ ap (own_ends own log) (sym number_is) ∙ (live_parts own log r k).1 in
+    let wrong : true ≡ false = sym ended ∙ ap (own_ended own log) (sym number_is) ∙ (live_is own log r k).1 in
     cc))
 
 -- the live receive that was matched to a message takes it
@@ -165,4 +155,4 @@ live_takes own log source n p m life number l =
     let found = pair_found own log r q.0 q.1 in
     let same : q.0 ≡ p = once q.0 p found.0 m (q.2 ∙ sym life) (q.3 ∙ sym number) in
     let number_is : r.number ≡ l.recv.number = sym found.1 ∙ ap (λ (x : Pair). x.recv.id.0) same ∙ sym l.number_is in
-    receive_once log r l.recv (live_parts own log r k).0 (live_parts own log l.recv l.live).0 number_is)
+    receive_once log r l.recv (live_is own log r k).0 (live_is own log l.recv l.live).0 number_is)
