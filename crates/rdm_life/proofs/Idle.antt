@@ -1,29 +1,25 @@
 -- Deeds that make no pair and bring no bytes: all but receives that are posted, packets that open messages, and bytes that were granted or asked for.
-use Rattle.std.proofs.Common.{◌≡◌, ℕ, ◌+◌, ◌-◌, Bool, ◌&&◌, not, List, [], ◌∷◌, ◌++◌, map, length, Option, None, refl, sym, ◌∙◌, ap}
-use Rattle.std.specs.Prelude.{filter, flat_map, is_some}
+use Rattle.std.proofs.Common.{◌≡◌, ℕ, Bool, ◌&&◌, not, List, [], ◌∷◌, ◌++◌, map, None, refl, sym, ◌∙◌, ap}
+use Rattle.std.specs.Prelude.{filter, flat_map}
 use Rattle.std.proofs.lemmas.List.{append-nil}
-use Rattle.rdm_lists.specs.Lists.{below, or_else}
 use Rattle.rdm_num.specs.Lives.{same_life}
 use Rattle.rdm_num.specs.declared.numbers.Life.{Life}
-use Rattle.rdm_num.specs.declared.head.Head.{Head}
 use Rattle.rdm_pkt.specs.declared.Packet.TheVariants.{Rtm, CtsData}
 use Rattle.rdm_match.specs.Matcher.{Forget, Matching, Pair, after, run}
 use Rattle.rdm_model.specs.declared.job.Instr.TheVariants.{Insert, Recv, Cancel}
 use Rattle.rdm_model.specs.Deeds.{Deed, Did, Took, Item, Spelled, Gives}
 use Rattle.rdm_model.specs.Beginnings.{Own, Heads}
 use Rattle.rdm_model.specs.Currents.{forgotten_by}
-use Rattle.rdm_model.specs.Heard.{head_by, heard_head, is_heard, heard_below, has_entered, entering}
+use Rattle.rdm_model.specs.Heard.{head_by, entering}
 use Rattle.rdm_model.specs.Matches.{arrival, events_by, matching, pairs}
 use Rattle.rdm_model.specs.Parts.{piece_by, carried_by}
 use Rattle.rdm_model.specs.Receives.{is_filled, filled_by}
 use Rattle.rdm_model.specs.Replies.{pair_replies, handshake_by, given_by, replies_by}
 use Rattle.rdm_life.specs.Keeps.{told, own_pairs, own_sends}
 use Rattle.rdm_life.proofs.Owing.{NoWindows, pairs_then, not_newly, quiet_pairs}
-use Rattle.rdm_lists.proofs.Below.{each_below_same}
 use Rattle.rdm_lists.proofs.Filters.{filter_nothing}
-use Rattle.rdm_lists.proofs.Options.{or_else-none}
 use Rattle.rdm_life.proofs.Tests.{none_either}
-use Rattle.rdm_law.proofs.Refusals.StandsStill.{and_not}
+use Rattle.rdm_life.proofs.MatchingQuiet.{still_heard, none_enter}
 
 -- what is taken opens no message and brings no bytes
 abbrev pub IsIdleItem : Item → Type 0
@@ -44,27 +40,9 @@ unfolding head_by
 idle_heads (Took from (Spelled (Rtm number tag confirm opt form))) i source n = absurd i
 idle_heads _ i source n = refl
 
--- so no message was newly heard of
-idle_heard : (d : Deed) (before : List Deed) → IsIdle d → (source : Life) (n : ℕ) → is_heard (d ∷ before) source n ≡ is_heard before source n
-unfolding is_heard heard_head
-idle_heard d before i source n =
-    ap (λ (o : Option Head). is_some (or_else (heard_head before source n) o)) (idle_heads d i source n)
-    ∙ ap (λ (o : Option Head). is_some o) (or_else-none (heard_head before source n))
-
--- and none has newly entered
-idle_entered : (first : ℕ) (d : Deed) (before : List Deed) → IsIdle d → (source : Life) (n : ℕ) → has_entered first (d ∷ before) source n ≡ has_entered first before source n
-unfolding has_entered heard_below
-idle_entered first d before i source n =
-    let same = each_below_same (λ k. is_heard (d ∷ before) source (first + k)) (λ k. is_heard before source (first + k)) (n - first) (λ k. idle_heard d before i source (first + k)) in
-    let mine = idle_heard d before i source n in
-    rw (same, mine) refl
-
 -- so no message enters
 pub idle_enters : (first : ℕ) (d : Deed) (before : List Deed) → IsIdle d → (source : Life) → entering first d before source ≡ []
-unfolding entering
-idle_enters first d before i source =
-    filter_nothing (λ n. has_entered first (d ∷ before) source n && not (has_entered first before source n)) (map (λ k. first + k) (below (length (d ∷ before))))
-    (λ n m. let e = idle_entered first d before i source n in rw e (and_not (has_entered first before source n)))
+idle_enters first d before i source = none_enter first d before source (λ n. still_heard before d source n (idle_heads d i source n))
 
 -- forgetting makes no pair
 forget_pairs : (ls : List Life) (m : Matching) → (run m (map Forget ls)).pairs ≡ m.pairs

@@ -50,23 +50,6 @@ leaves_both u v w a b =
       poll_count = b.poll_count ∙ a.poll_count;
     }
 
--- nothing is done
-pub leaves_all : (v : Kept) → Leaves v v
-leaves_all v =
-    record {
-      own = refl;
-      region_count = refl;
-      region_size = refl;
-      current = refl;
-      superseded = refl;
-      met = λ life. refl;
-      known = λ life. refl;
-      messages = λ life. refl;
-      send_count = refl;
-      receive_count = refl;
-      poll_count = refl;
-    }
-
 -- what of it no change of a life touches
 abbrev pub Part : Type 0
 Part = Own × ℕ × (ℕ → ℕ) × (ℕ → Option Life) × (Life → Bool) × (Life → Peer) × ℕ × ℕ × ℕ
@@ -92,6 +75,10 @@ leaves_part v w is =
       receive_count = ap (λ (p : Part). p.7) is;
       poll_count = ap (λ (p : Part). p.8) is;
     }
+
+-- nothing is done
+pub leaves_all : (v : Kept) → Leaves v v
+leaves_all v = leaves_part v v refl
 
 -- a value that both choices have
 pub of_cond : {A B : Type 0} (f : A → B) (b : Bool) (x y : A) → f (cond b x y) ≡ cond b (f x) (f y)

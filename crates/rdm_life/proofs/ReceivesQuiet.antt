@@ -1,26 +1,18 @@
 -- Deeds that touch no receive and no region leave both as they were.
-use Rattle.std.proofs.Common.{◌≡◌, ℕ, ◌+◌, ◌-◌, Bool, true, cond, not, ◌&&◌, List, [], ◌∷◌, ◌++◌, map, length, Option, Some, None, refl, sym, ◌∙◌, ap}
-use Rattle.std.specs.Prelude.{is_some, slice_get, get_or, flat_map, find}
-use Rattle.rdm_num.specs.declared.head.Head.{Head}
+use Rattle.std.proofs.Common.{◌≡◌, ℕ, ◌+◌, Bool, true, cond, List, [], ◌∷◌, ◌++◌, map, Option, Some, None, refl, sym, ◌∙◌, ap}
+use Rattle.std.specs.Prelude.{slice_get, get_or, flat_map, find}
 use Rattle.std.specs.List.{list_any}
 use Rattle.std.proofs.lemmas.List.{append-nil}
-use Rattle.rdm_lists.specs.Lists.{or_else, below}
-use Rattle.rdm_lists.proofs.Below.{each_below_same}
-use Rattle.rdm_lists.proofs.Filters.{filter_nothing}
-use Rattle.rdm_lists.proofs.Options.{or_else-none}
 use Rattle.rdm_lists.proofs.Same.{map_same}
-use Rattle.rdm_num.specs.Lives.{same_life}
 use Rattle.rdm_num.specs.declared.numbers.Life.{Life}
 use Rattle.rdm_num.specs.declared.request.SendReq.{SendReq}
 use Rattle.rdm_pkt.specs.declared.Packet.TheVariants.{Rtm, CtsData}
 use Rattle.rdm_match.specs.Matcher.{Pair, is_recv, run}
 use Rattle.rdm_model.specs.declared.job.Instr.TheVariants.{Insert, Reg, Send, Recv, Cancel}
-use Rattle.rdm_model.specs.Beginnings.{Own, Heads}
+use Rattle.rdm_model.specs.Beginnings.{Own}
 use Rattle.rdm_model.specs.Currents.{forgotten_by}
 use Rattle.rdm_model.specs.Deeds.{Deed, Did, Took, Pushed, Item, Spelled, Gives}
-use Rattle.rdm_model.specs.Heard.{head_by, heard_head, is_heard, heard_below, has_entered, entering}
-use Rattle.rdm_model.specs.Matches.{Receive, receives, received_by, with_received, arrival, events_by, matching}
-use Rattle.rdm_model.specs.Parts.{piece_by, carried_by}
+use Rattle.rdm_model.specs.Matches.{Receive, receives, received_by, with_received, events_by, matching}
 use Rattle.rdm_model.specs.Receives.{RecvEnd, Filled, withdrawn_by, recv_ends_by, gone_with}
 use Rattle.rdm_model.specs.Regions.{after_ends, region_by}
 use Rattle.rdm_model.specs.Replies.{Reply}
@@ -33,8 +25,7 @@ use Rattle.rdm_life.specs.Sending.{send_to, push_first, push_send, send_next, en
 use Rattle.rdm_life.specs.Handling.{after, after_instr, after_item}
 use Rattle.rdm_life.proofs.Stays.{Stays, kept_stays}
 use Rattle.rdm_life.proofs.EndSteps.{own_ends, new_ends, ends_step, regions_step, newer_pairs, none_filled, unended, live_are}
-use Rattle.rdm_life.proofs.Tests.{none_either}
-use Rattle.rdm_law.proofs.Refusals.StandsStill.{and_not}
+use Rattle.rdm_life.proofs.Idle.{IsIdleItem, IsIdle, idle_pairs, idle_brings}
 
 -- ---- what is kept where nothing ends, is accepted or registered
 
@@ -90,62 +81,21 @@ receives_stay own d before v w local s none unposted unregistered k home rs =
 
 -- ---- quiet deeds
 
--- neither a packet that opens a message, nor bytes for a receive
-abbrev pub IsQuietItem : Item → Type 0
-IsQuietItem (Spelled (Rtm number tag confirm opt form)) = ⊥
-IsQuietItem (Spelled (CtsData recv offset connid bytes)) = ⊥
-IsQuietItem (Gives g) = ⊥
-IsQuietItem _ = Unit {0}
-
 -- a deed that touches no receive and no region
 abbrev pub IsQuiet : Deed → Type 0
 IsQuiet (Did (Insert life)) = ⊥
 IsQuiet (Did (Reg content)) = ⊥
 IsQuiet (Did (Recv req)) = ⊥
 IsQuiet (Did (Cancel recv)) = ⊥
-IsQuiet (Took from item) = IsQuietItem item
+IsQuiet (Took from item) = IsIdleItem item
 IsQuiet _ = Unit {0}
 
--- a quiet item tells of no message
-silent_item : (from : Life) (item : Item) → IsQuietItem item → (life : Life) (n : ℕ) → head_by life n (Took from item) ≡ None
-unfolding head_by
-silent_item from (Spelled (Rtm number tag confirm opt form)) h life n = absurd h
-silent_item from item h life n = refl
-
--- a deed that tells of no message lets none enter
-pub none_enter : (first : ℕ) (d : Deed) (before : List Deed) (source : Life) → ((life : Life) (n : ℕ) → head_by life n d ≡ None) → entering first d before source ≡ []
-unfolding entering has_entered heard_below is_heard heard_head
-none_enter first d before source h =
-    let same : (n : ℕ) → is_some (or_else (heard_head before source n) (head_by source n d)) ≡ is_some (heard_head before source n) =
-    λ n. let e = h source n in rw e (ap (λ (o : Option Head). is_some o) (or_else-none (heard_head before source n))) in
-    filter_nothing (λ n. has_entered first (d ∷ before) source n && not (has_entered first before source n)) (map (λ k. first + k) (below (length (d ∷ before))))
-    (λ n m.
-    let a = same n in
-    let b = each_below_same (λ k. is_heard (d ∷ before) source (first + k)) (λ k. is_heard before source (first + k)) (n - first) (λ k. same (first + k)) in
-    rw (a, b) (and_not (has_entered first before source n)))
-
--- nothing comes to the matcher
-quiet_events : (first : ℕ) (heads : Heads) (before : List Deed) (d : Deed) → IsQuiet d → events_by first heads before d ≡ []
-unfolding events_by
-quiet_events first heads before (Did (Insert life)) h = absurd h
-quiet_events first heads before (Did (Recv req)) h = absurd h
-quiet_events first heads before (Did (Cancel recv)) h = absurd h
-quiet_events first heads before (Took from item) h = ap (map (arrival heads from)) (none_enter first (Took from item) before from (silent_item from item h))
-quiet_events first heads before _ h = refl
-
--- no piece
-quiet_item_brings : (ps : List Pair) (source : Life) (n : ℕ) (item : Item) → IsQuietItem item → piece_by ps source n item ≡ None
-unfolding piece_by
-quiet_item_brings ps source n (Spelled (Rtm number tag confirm opt form)) h = absurd h
-quiet_item_brings ps source n (Spelled (CtsData recv offset connid bytes)) h = absurd h
-quiet_item_brings ps source n (Gives g) h = absurd h
-quiet_item_brings ps source n _ h = refl
-
--- no byte
-quiet_brings : (ps : List Pair) (source : Life) (n : ℕ) (d : Deed) → IsQuiet d → carried_by ps source n d ≡ None
-unfolding carried_by
-quiet_brings ps source n (Took from item) h = none_either (same_life from source) (piece_by ps source n item) (quiet_item_brings ps source n item h)
-quiet_brings ps source n _ h = refl
+-- it is idle
+quiet_idle : (d : Deed) → IsQuiet d → IsIdle d
+quiet_idle (Did (Insert life)) h = absurd h
+quiet_idle (Did (Recv req)) h = absurd h
+quiet_idle (Took from item) h = h
+quiet_idle _ h = tt
 
 -- no pair
 pub pairs_stay : (own : Own) (d : Deed) (before : List Deed) → events_by own.limits.first (told own (d ∷ before)).head before d ≡ [] → own_pairs own (d ∷ before) ≡ own_pairs own before
@@ -153,12 +103,12 @@ unfolding matching run
 pairs_stay own d before none =
     ap (λ es. (run (matching own.limits.first (told own (d ∷ before)).head before) es).pairs) none ∙ sym (newer_pairs own d before)
 
--- so a quiet deed makes no pair and brings no byte
+-- so it makes no pair and brings no byte
 quiet_stays : (own : Own) (d : Deed) (before : List Deed) → IsQuiet d → Stays own d before
 quiet_stays own d before h =
     record {
-      pairs_are = pairs_stay own d before (quiet_events own.limits.first (told own (d ∷ before)).head before d h);
-      brings_none = λ source n. quiet_brings (own_pairs own before) source n d h;
+      pairs_are = idle_pairs own d before (quiet_idle d h);
+      brings_none = λ source n. idle_brings (own_pairs own before) source n d (quiet_idle d h);
     }
 
 -- it takes nothing back, forgets nobody, accepts nothing and registers nothing
@@ -206,7 +156,7 @@ push_leaves None v = send_push_leaves (send_next v) v
 push_leaves (Some r) v = (refl, refl)
 
 -- a quiet item
-item_leaves : (from : Life) (item : Item) (v : Kept) → IsQuietItem item → ((after_item from item v).home ≡ v.home) × ((after_item from item v).receives ≡ v.receives)
+item_leaves : (from : Life) (item : Item) (v : Kept) → IsIdleItem item → ((after_item from item v).home ≡ v.home) × ((after_item from item v).receives ≡ v.receives)
 unfolding after_item after_grant end_sends after_ask
 item_leaves from (Spelled (Rtm number tag confirm opt form)) v h = absurd h
 item_leaves from (Spelled (CtsData recv offset connid bytes)) v h = absurd h

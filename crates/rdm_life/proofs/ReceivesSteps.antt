@@ -7,15 +7,16 @@ use Rattle.rdm_law.proofs.Lives.Lives.{LifeLocal}
 use Rattle.rdm_life.specs.Kept.{Kept}
 use Rattle.rdm_life.specs.Keeps.{Keeps, KeepsReceives}
 use Rattle.rdm_life.specs.Handling.{after}
-use Rattle.rdm_life.proofs.ReceivesQuiet.{IsQuietItem, receives_quiet}
+use Rattle.rdm_life.proofs.ReceivesQuiet.{receives_quiet}
 use Rattle.rdm_life.proofs.ReceivesReg.{receives_reg}
 use Rattle.rdm_life.proofs.ReceivesCancel.{receives_cancel}
+use Rattle.rdm_life.proofs.Idle.{IsIdleItem}
 
 -- such a deed
 abbrev pub IsLight : Deed → Type 0
 IsLight (Did (Insert life)) = ⊥
 IsLight (Did (Recv req)) = ⊥
-IsLight (Took from item) = IsQuietItem item
+IsLight (Took from item) = IsIdleItem item
 IsLight _ = Unit {0}
 
 -- what is kept of receives and regions after it
