@@ -1,5 +1,5 @@
 -- What holds of an endpoint's record, for each life of a port whose log is right by itself.
-use Rattle.std.specs.Prelude.{◌≡◌, ℕ, List, Some, None, slice_get}
+use Rattle.std.specs.Prelude.{◌≡◌, ◌<◌, ℕ, List, ◌∷◌, Some, None, slice_get}
 use Rattle.rdm_num.specs.declared.numbers.Life.{Life}
 use Rattle.rdm_num.specs.declared.numbers.Connid.{Connid}
 use Rattle.rdm_wire.specs.declared.Load.{Load}
@@ -7,9 +7,9 @@ use Rattle.rdm_model.specs.declared.job.Job.{Job}
 use Rattle.rdm_model.specs.declared.job.Instr.{Instr}
 use Rattle.rdm_model.specs.declared.entry.Entry.{Entry}
 use Rattle.rdm_model.specs.Answers.{answer_of, answer_by}
-use Rattle.rdm_model.specs.Beginnings.{own_of, life_at}
+use Rattle.rdm_model.specs.Beginnings.{own_of, life_at, rank_of}
 use Rattle.rdm_model.specs.Classes.{item_class_by, item_class}
-use Rattle.rdm_model.specs.Deeds.{Took, item_of, of_life, open_life}
+use Rattle.rdm_model.specs.Deeds.{Took, item_of, deed_of, of_life, open_life}
 use Rattle.rdm_model.specs.Dues.{due}
 use Rattle.rdm_model.specs.Facts.{port_facts}
 use Rattle.rdm_model.specs.Going.{due_going}
@@ -21,7 +21,8 @@ use Rattle.rdm_model.specs.Takes.{needs_place_by, needs_place, place_facts}
 use Rattle.rdm_life.specs.Kept.{Kept}
 use Rattle.rdm_life.specs.Keeps.{Keeps}
 use Rattle.rdm_life.specs.Facts.{facts_in, class_facts_in, place_facts_in, entered_in}
-use Rattle.rdm_life.specs.Handling.{kept}
+use Rattle.rdm_life.specs.Handling.{kept, after}
+use Rattle.rdm_life.specs.Lending.{Loan, brought, IsMissing, Spares}
 use Rattle.rdm_life.specs.Sending.{goes_out, going_to}
 
 -- Each field that is kept of the deeds of a life is what the definitions say.
@@ -57,3 +58,36 @@ FactsAreKept =
     → Local job port log
     → open_life (deeds_at job port log) ≡ Some connid
     → AnswersAs (own_scene job port (deeds_at job port log)) (kept_in (own_scene job port (deeds_at job port log)))
+
+-- ---- what is lent
+
+-- the record of an open life
+abbrev pub kept_of : Job → (port : ℕ) → List Entry → Kept
+kept_of job port log = kept_in (own_scene job port (deeds_at job port log))
+
+-- a range is lent for a datagram that no class fits: it brings that range, of which nothing came
+pub record IsLent (v : Kept) (from : Life) (to : Connid) (load : Load) (l : Loan) : Type 0 where
+  pub taken : item_class_by (class_facts_in v) from to (item_of load) ≡ None
+  pub brings : brought v from (item_of load) ≡ Some l
+  pub missing : IsMissing v l
+
+-- A range may be lent for a datagram that no class fits and that has bytes for a live receive.
+abbrev pub LoansBegin : Type 0
+LoansBegin =
+    (job : Job) (port : ℕ) (connid : Connid) (log : List Entry) (from : Life) (to : Connid) (load : Load) (l : Loan)
+    → Local job port log
+    → open_life (deeds_at job port log) ≡ Some connid
+    → item_class (own_scene job port (deeds_at job port log)) from to (item_of load) ≡ None
+    → brought (kept_of job port log) from (item_of load) ≡ Some l
+    → 0 < l.len
+    → IsLent (kept_of job port log) from to load l
+
+-- It stays lent for it by each deed that spares it, so that the datagram can land then as it could before.
+abbrev pub LoansLast : Type 0
+LoansLast =
+    (job : Job) (port : ℕ) (connid : Connid) (e : Entry) (log : List Entry) (from : Life) (to : Connid) (load : Load) (l : Loan)
+    → Local job port (e ∷ log)
+    → open_life (deeds_at job port log) ≡ Some connid
+    → IsLent (kept_of job port log) from to load l
+    → Spares (kept_of job port log) (deed_of (rank_of job port).ops e.act) l
+    → IsLent (after (deed_of (rank_of job port).ops e.act) (kept_of job port log)) from to load l
