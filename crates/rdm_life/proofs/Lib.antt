@@ -145,3 +145,5 @@ pub mod LandedKept
 pub mod MeetsKept
 pub mod RecordKept
 pub mod FactsLaw
+-- What is lent:
+pub mod LoanPairs

@@ -25,11 +25,11 @@ use Rattle.rdm_life.proofs.TakenBy.{false_unless, find_none, find_one, pair_foun
 use Rattle.rdm_life.proofs.Apart.{own_ended, live_is}
 
 -- the live receive has that number, and its pair is of that life
-abbrev names : Own → List Deed → Life → ℕ → Receive → Bool
+abbrev pub names : Own → List Deed → Life → ℕ → Receive → Bool
 names own log source recv r = r.number == recv && is_of source (option_map (matched_of own log) (pair_of own log r))
 
 -- the receive of a number, among those that are kept
-receive_from_is : (own : Own) (log : List Deed) (v : Kept) (source : Life) (recv : ℕ) → KeepsReceives own log v
+pub receive_from_is : (own : Own) (log : List Deed) (v : Kept) (source : Life) (recv : ℕ) → KeepsReceives own log v
     → receive_from v source recv ≡ option_map (kept_receive own log) (find (names own log source recv) (own_live_receives own log))
 unfolding receive_from kept_receive
 receive_from_is own log v source recv k =

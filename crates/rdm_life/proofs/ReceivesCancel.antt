@@ -90,7 +90,7 @@ cancel_live own recv log =
     (λ r. ap (λ (es : List RecvEnd). not (has_ended es r.number)) (cancel_ends own recv log) ∙ ap not (or_none (recv.0 == r.number) ∙ eqb_other recv.0 r.number))
 
 -- a receive that is taken back was not matched
-cancel_unmatched : (own : Own) (recv : RecvNo) (log : List Deed) (r : Receive) → LifeStep own log (Did (Cancel recv)) → r.number ≡ recv.0 → pair_of own log r ≡ None
+pub cancel_unmatched : (own : Own) (recv : RecvNo) (log : List Deed) (r : Receive) → LifeStep own log (Did (Cancel recv)) → r.number ≡ recv.0 → pair_of own log r ≡ None
 unfolding is_recv heard_by
 cancel_unmatched own recv log r step same =
     let s = life_scene step.0 own step.1 log in
