@@ -147,3 +147,4 @@ pub mod RecordKept
 pub mod FactsLaw
 -- What is lent:
 pub mod LoanPairs
+pub mod LoanPlaces
