@@ -148,3 +148,5 @@ pub mod FactsLaw
 -- What is lent:
 pub mod LoanPairs
 pub mod LoanPlaces
+pub mod LoanEnds
+pub mod LoansLast
