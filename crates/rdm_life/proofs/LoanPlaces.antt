@@ -1,6 +1,6 @@
 -- What a datagram brings of the message of a live receive is what it says it brings, so a range that shares no place with that stays missing.
-use Rattle.std.proofs.Common.{◌≡◌, ℕ, ◌+◌, ◌<◌, ◌≤◌, Bool, true, false, ◌&&◌, List, ◌∷◌, length, Option, Some, None, refl, arith, eq-eqb, eqb-true, sym, ◌∙◌, ap, subst}
-use Rattle.std.specs.Prelude.{◌==◌, nat_lt, find, is_some, option_map}
+use Rattle.std.proofs.Common.{◌≡◌, ℕ, ◌+◌, ◌<◌, ◌≤◌, true, false, List, ◌∷◌, length, Option, Some, None, refl, arith, eq-eqb, eqb-true, sym, ◌∙◌, ap}
+use Rattle.std.specs.Prelude.{◌==◌, find, is_some, option_map}
 use Rattle.std.proofs.lemmas.Bool.{and_parts, and_from, lt-ltb}
 use Rattle.rdm_lists.specs.Lists.{Member, or_else}
 use Rattle.rdm_lists.proofs.Options.{none_there, then_some_parts}
@@ -28,7 +28,8 @@ use Rattle.rdm_life.proofs.CameWithin.{byte_starts, some_cond}
 use Rattle.rdm_life.proofs.EarlyWords.{came_after}
 use Rattle.rdm_life.proofs.LoanPairs.{LentOf}
 use Rattle.rdm_life.proofs.ReceiveFacts.{names, receive_from_is}
-use Rattle.rdm_life.proofs.TakenBy.{find_one, live_parts, live_takes, receive_of_is}
+use Rattle.rdm_life.proofs.TakenBy.{find_one, live_takes, receive_of_is}
+use Rattle.rdm_life.proofs.Apart.{live_is}
 
 -- ---- which receive a datagram finds
 
@@ -61,7 +62,7 @@ by_number own log v r p k a =
     (and_from (r.number == n) (is_of from (option_map (matched_of own log) (pair_of own log r))) (eq-eqb r.number n a.recv_is) of)
     (λ q m passes.
     let parts = and_parts (q.number == n) (is_of from (option_map (matched_of own log) (pair_of own log q))) passes in
-    receive_once log q r (live_parts own log q m).0 (live_parts own log r a.live).0 (eqb-true q.number n parts.0 ∙ sym a.recv_is)) in
+    receive_once log q r (live_is own log q m).0 (live_is own log r a.live).0 (eqb-true q.number n parts.0 ∙ sym a.recv_is)) in
     receive_from_is own log v from n k ∙ ap (option_map (kept_receive own log)) found
 
 -- ---- what it brings

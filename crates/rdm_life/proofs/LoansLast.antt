@@ -1,28 +1,29 @@
 -- A range that is missing of the message of a live receive stays so by each deed that spares it, so a loan of it lasts.
-use Rattle.std.proofs.Common.{◌≡◌, ℕ, ◌+◌, ◌≤◌, List, ◌∷◌, Some, refl, arith, eq-eqb, eqb-true, sym, ◌∙◌, ap, subst}
+use Rattle.std.proofs.Common.{◌≡◌, ℕ, ◌≤◌, List, ◌∷◌, Some, arith, eq-eqb, eqb-true, sym, ◌∙◌, ap, subst}
 use Rattle.std.specs.Prelude.{◌==◌, find, option_map}
 use Rattle.rdm_lists.specs.Lists.{Member}
 use Rattle.rdm_match.specs.Matcher.{Pair}
 use Rattle.rdm_model.specs.Beginnings.{Own}
 use Rattle.rdm_model.specs.Deeds.{Deed}
-use Rattle.rdm_model.specs.Grants.{first_part, granted_bytes, window, with_window}
+use Rattle.rdm_model.specs.Grants.{granted_bytes, with_window}
 use Rattle.rdm_model.specs.Matches.{Receive}
 use Rattle.rdm_law.proofs.Lives.Lives.{LifeLocal}
 use Rattle.rdm_law.proofs.Matching.Received.{receive_once}
 use Rattle.rdm_life.specs.Kept.{Kept, LiveReceive, Matched, is_receive, receive_numbered}
-use Rattle.rdm_life.specs.Keeps.{told, own_live_receives, pair_of, matched_of, kept_receive, KeepsReceives, Keeps}
+use Rattle.rdm_life.specs.Keeps.{own_live_receives, matched_of, kept_receive, KeepsReceives, Keeps}
 use Rattle.rdm_life.specs.Handling.{after}
 use Rattle.rdm_life.specs.Lending.{Loan, IsMissing, Spares}
 use Rattle.rdm_life.proofs.CameWithin.{first_more}
 use Rattle.rdm_life.proofs.LoanEnds.{paired_still, within_still, live_still}
-use Rattle.rdm_life.proofs.LoanPairs.{LentOf, lent_of}
+use Rattle.rdm_life.proofs.LoanPairs.{lent_of}
 use Rattle.rdm_life.proofs.LoanPlaces.{still_missing}
 use Rattle.rdm_life.proofs.RecordKept.{keeps_step}
 use Rattle.rdm_life.proofs.SendFacts.{find_map}
 use Rattle.rdm_life.proofs.Stays.{head_stays}
-use Rattle.rdm_life.proofs.TakenBy.{find_one, live_parts, pair_is}
+use Rattle.rdm_life.proofs.TakenBy.{find_one, pair_is}
 use Rattle.rdm_life.proofs.TakenFits.{AllTakenFit}
 use Rattle.rdm_life.proofs.Windows.{newer_granted}
+use Rattle.rdm_life.proofs.Apart.{live_is}
 
 -- a range that is missing of the same message of the same receive, of which at least as many bytes are granted
 pub record Lasts (v w : Kept) (l : Loan) (m : IsMissing v l) : Type 0 where
@@ -40,7 +41,7 @@ unfolding kept_receive
 numbered_kept own log w n r k live number =
     let found : find (λ (q : Receive). q.number == n) (own_live_receives own log) ≡ Some r =
     find_one (λ (q : Receive). q.number == n) r (own_live_receives own log) live (eq-eqb r.number n number)
-    (λ q m same. receive_once log q r (live_parts own log q m).0 (live_parts own log r live).0 (eqb-true q.number n same ∙ sym number)) in
+    (λ q m same. receive_once log q r (live_is own log q m).0 (live_is own log r live).0 (eqb-true q.number n same ∙ sym number)) in
     ap (find (is_receive n)) k.receives_are ∙ find_map (kept_receive own log) (is_receive n) (own_live_receives own log) ∙ ap (option_map (kept_receive own log)) found
 
 -- of a pair's message no less is granted after a deed
