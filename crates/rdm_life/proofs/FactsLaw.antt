@@ -37,7 +37,7 @@ first_left (suc n) [] = refl
 first_left (suc n) (x ∷ xs) = first_left n xs
 
 -- of an open life
-answers_as : (own : Own) (ports : ℕ) (port_log log : List Deed) (v : Kept) → LifeLocal own log → Keeps own log v → AnswersAs (life_scene ports own port_log log) v
+pub answers_as : (own : Own) (ports : ℕ) (port_log log : List Deed) (v : Kept) → LifeLocal own log → Keeps own log v → AnswersAs (life_scene ports own port_log log) v
 answers_as own ports port_log log v local k =
     record {
       answers = λ instr. answer_kept ports own port_log log v instr local k;

@@ -146,7 +146,16 @@ pub mod MeetsKept
 pub mod RecordKept
 pub mod FactsLaw
 -- What is lent:
+-- the live receive of a missing range, which stays missing and live by what spares it
 pub mod LoanPairs
 pub mod LoanPlaces
 pub mod LoanEnds
+-- so a loan lasts
 pub mod LoansLast
+-- what a datagram brings that no class fits, and that it stays such a one
+pub mod LoansMatched
+pub mod LoansBrought
+pub mod LoansStay
+pub mod LoansTaken
+-- so it is in a log
+pub mod LoansLaw

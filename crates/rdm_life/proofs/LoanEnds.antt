@@ -69,22 +69,22 @@ not_whole own d log v l m a k spares filled =
 
 -- it is not filled
 not_filled : (own : Own) (d : Deed) (log : List Deed) (v : Kept) (l : Loan) (m : IsMissing v l) (a : LentOf own log v l m) (q : Pair) → KeepsReceives own log v → Spares v d l
-    → Member q (filled_by own.limits.first (told own (d ∷ log)).head d log) → q.recv.id.0 ≡ a.recv.number → ⊥
+    → Member q (filled_by own.limits.first (told own (d ∷ log)).head d log) → q.recv.id.0 ≡ a.of.recv.number → ⊥
 not_filled own d log v l m a q k spares is number =
     let f = filled_from own.limits.first (told own (d ∷ log)).head d log q is in
-    let same : q ≡ a.pair = (matching_numbered own.limits.first (told own (d ∷ log)).head (d ∷ log)).once q a.pair f.0 (paired_still own d log v l m a) (number ∙ a.recv_is) in
+    let same : q ≡ a.pair = (matching_numbered own.limits.first (told own (d ∷ log)).head (d ∷ log)).once q a.pair f.0 (paired_still own d log v l m a) (number ∙ a.of.number_is) in
     not_whole own d log v l m a k spares (subst (λ (x : Pair). is_filled own.limits.first (told own (d ∷ log)).head (d ∷ log) x ≡ true) same f.1)
 
 -- nor taken back
 not_withdrawn : (own : Own) (d : Deed) (log : List Deed) (v : Kept) (l : Loan) (m : IsMissing v l) (a : LentOf own log v l m) (e : RecvEnd) → LifeLocal own (d ∷ log)
-    → Member e (withdrawn_by d) → ended_recv e ≡ a.recv.number → ⊥
+    → Member e (withdrawn_by d) → ended_recv e ≡ a.of.recv.number → ⊥
 unfolding ended_recv
 not_withdrawn own d log v l m a e local is number =
     let w = withdrawn_from d e is in
     let step : LifeStep own log (Did (Cancel w.0)) = subst (LifeStep own log) w.1 local.1 in
-    let same : a.recv.number ≡ w.0.0 = sym number ∙ ap ended_recv w.2 in
-    let none = cancel_unmatched own w.0 log a.recv step same in
-    let wrong : Some a.pair ≡ None = sym a.pair_is ∙ none in
+    let same : a.of.recv.number ≡ w.0.0 = sym number ∙ ap ended_recv w.2 in
+    let none = cancel_unmatched own w.0 log a.of.recv step same in
+    let wrong : Some a.pair ≡ None = sym a.of.pair_is ∙ none in
     cc
 
 -- a life that is forgotten is the only one
@@ -102,24 +102,24 @@ forgets own log r old lives (inr one) is apart =
 
 -- a life that the deed forgets is none that it concerns
 unconcerned : (own : Own) (d : Deed) (log : List Deed) (v : Kept) (l : Loan) (m : IsMissing v l) (a : LentOf own log v l m) (old : Life) → Keeps own log v → Spares v d l
-    → Member old (forgotten_by log d) → is_concerned (own_pairs own log) old a.recv ≡ false
+    → Member old (forgotten_by log d) → is_concerned (own_pairs own log) old a.of.recv ≡ false
 unfolding forgotten_by
 unconcerned own (Did (Insert life)) log v l m a old k spares is =
-    let apart : concerns (other_life life (current log life.port.0)) (kept_receive own log a.recv) ≡ false =
-    subst (λ (o : Option Life). concerns (other_life life o) (kept_receive own log a.recv) ≡ false) (k.lives.current_is life.port.0)
+    let apart : concerns (other_life life (current log life.port.0)) (kept_receive own log a.of.recv) ≡ false =
+    subst (λ (o : Option Life). concerns (other_life life o) (kept_receive own log a.of.recv) ≡ false) (k.lives.current_is life.port.0)
     (subst (λ (x : LiveReceive). concerns (other_life life (v.current life.port.0)) x ≡ false) a.receive_is (spares m.receive m.found)) in
-    forgets own log a.recv old (other_life life (current log life.port.0)) (most_one life (current log life.port.0)) is apart
+    forgets own log a.of.recv old (other_life life (current log life.port.0)) (most_one life (current log life.port.0)) is apart
 unconcerned own _ log v l m a old k spares is = elim is [ ]
 
 -- so it doesn't go with one
 not_gone : (own : Own) (d : Deed) (log : List Deed) (v : Kept) (l : Loan) (m : IsMissing v l) (a : LentOf own log v l m) (old : Life) (e : RecvEnd) → Keeps own log v → Spares v d l
-    → Member old (forgotten_by log d) → Member e (gone_with own.limits.first (told own (d ∷ log)).head log (own_ends own log) old) → ended_recv e ≡ a.recv.number → ⊥
+    → Member old (forgotten_by log d) → Member e (gone_with own.limits.first (told own (d ∷ log)).head log (own_ends own log) old) → ended_recv e ≡ a.of.recv.number → ⊥
 unfolding ended_recv
 not_gone own d log v l m a old e k spares forgot is number =
     let g = gone_from own.limits.first (told own (d ∷ log)).head log (own_ends own log) old e is in
-    let same : g.0 ≡ a.recv = receive_once log g.0 a.recv g.1 (live_is own log a.recv a.live).0 (sym (ap ended_recv g.3) ∙ number) in
-    let concerned : is_concerned (own_pairs own log) old a.recv ≡ true =
-    subst (λ (ps : List Pair). is_concerned ps old a.recv ≡ true) (sym (pairs_then own d log))
+    let same : g.0 ≡ a.of.recv = receive_once log g.0 a.of.recv g.1 (live_is own log a.of.recv a.of.live).0 (sym (ap ended_recv g.3) ∙ number) in
+    let concerned : is_concerned (own_pairs own log) old a.of.recv ≡ true =
+    subst (λ (ps : List Pair). is_concerned ps old a.of.recv ≡ true) (sym (pairs_then own d log))
     (subst (λ (x : Receive). is_concerned (pairs own.limits.first (told own (d ∷ log)).head log) old x ≡ true) same g.2) in
     let apart = unconcerned own d log v l m a old k spares forgot in
     let wrong : true ≡ false = sym concerned ∙ apart in
@@ -127,7 +127,7 @@ not_gone own d log v l m a old e k spares forgot is number =
 
 -- no end of the deed is its
 no_end : (own : Own) (d : Deed) (log : List Deed) (v : Kept) (l : Loan) (m : IsMissing v l) (a : LentOf own log v l m) (e : RecvEnd) → LifeLocal own (d ∷ log) → Keeps own log v → Spares v d l
-    → Member e (new_ends own d log) → ended_recv e ≡ a.recv.number → ⊥
+    → Member e (new_ends own d log) → ended_recv e ≡ a.of.recv.number → ⊥
 unfolding recv_ends_by ended_recv
 no_end own d log v l m a e local k spares is number =
     let first = own.limits.first in
@@ -144,13 +144,13 @@ no_end own d log v l m a e local k spares is number =
 
 -- ---- so it is live after the deed
 pub live_still : (own : Own) (d : Deed) (log : List Deed) (v : Kept) (l : Loan) (m : IsMissing v l) (a : LentOf own log v l m) → LifeLocal own (d ∷ log) → Keeps own log v → Spares v d l
-    → Member a.recv (own_live_receives own (d ∷ log))
+    → Member a.of.recv (own_live_receives own (d ∷ log))
 unfolding receives with_received has_ended
 live_still own d log v l m a local k spares =
-    let was = live_is own log a.recv a.live in
-    let n = a.recv.number in
+    let was = live_is own log a.of.recv a.of.live in
+    let n = a.of.recv.number in
     let named : RecvEnd → Bool = λ e. ended_recv e == n in
-    is_live own (d ∷ log) a.recv (member-append_left a.recv (receives log) (received_by (receives log) log d) was.0)
+    is_live own (d ∷ log) a.of.recv (member-append_left a.of.recv (receives log) (received_by (receives log) log d) was.0)
     (false_unless (has_ended (own_ends own (d ∷ log)) n) (λ h.
     let e = list_any_member named (own_ends own (d ∷ log)) h in
     let number = eqb-true (ended_recv e.0) n e.2 in

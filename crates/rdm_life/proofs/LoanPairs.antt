@@ -11,22 +11,19 @@ use Rattle.rdm_model.specs.Matches.{Receive}
 use Rattle.rdm_life.specs.Kept.{Kept, LiveReceive, Matched, is_receive}
 use Rattle.rdm_life.specs.Keeps.{own_pairs, own_live_receives, pair_of, matched_of, kept_receive, KeepsReceives}
 use Rattle.rdm_life.specs.Lending.{Loan, IsMissing}
-use Rattle.rdm_life.proofs.TakenBy.{pair_found}
+use Rattle.rdm_life.proofs.TakenBy.{pair_found, LiveOf}
 
 -- the receive of a range that is missing, its pair, and that what is kept of both is of these
 pub record LentOf (own : Own) (log : List Deed) (v : Kept) (l : Loan) (m : IsMissing v l) : Type 0 where
-  pub recv : Receive
-  pub live : Member recv (own_live_receives own log)
-  pub number_is : recv.number ≡ l.recv
-  pub receive_is : m.receive ≡ kept_receive own log recv
   pub pair : Pair
   pub paired : Member pair (own_pairs own log)
-  pub recv_is : recv.number ≡ pair.recv.id.0
-  pub pair_is : pair_of own log recv ≡ Some pair
+  pub of : LiveOf own log pair
+  pub number_is : of.recv.number ≡ l.recv
+  pub receive_is : m.receive ≡ kept_receive own log of.recv
   pub message_is : m.message ≡ matched_of own log pair
 
 -- a receive with a message has a pair
-pair_under : (own : Own) (log : List Deed) (o : Option Pair) (m : Matched) → option_map (matched_of own log) o ≡ Some m → (p : Pair) × (o ≡ Some p) × (m ≡ matched_of own log p)
+pub pair_under : (own : Own) (log : List Deed) (o : Option Pair) (m : Matched) → option_map (matched_of own log) o ≡ Some m → (p : Pair) × (o ≡ Some p) × (m ≡ matched_of own log p)
 pair_under own log None m h = cc
 pair_under own log (Some p) m h = (let same : m ≡ matched_of own log p = cc in (p, refl, same))
 
@@ -42,13 +39,10 @@ lent_of own log v l k m =
     let p = pair_under own log (pair_of own log r) m.message (ap (λ (x : LiveReceive). x.matched) made.2 ∙ m.matched) in
     let of = pair_found own log r p.0 p.1 in
     record {
-      recv = r;
-      live = made.1;
-      number_is = number;
-      receive_is = is;
       pair = p.0;
       paired = of.0;
-      recv_is = sym of.1;
-      pair_is = p.1;
+      of = record { recv = r; live = made.1; number_is = sym of.1; pair_is = p.1 };
+      number_is = number;
+      receive_is = is;
       message_is = p.2;
     }

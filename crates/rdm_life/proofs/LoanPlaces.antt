@@ -28,41 +28,35 @@ use Rattle.rdm_life.proofs.CameWithin.{byte_starts, some_cond}
 use Rattle.rdm_life.proofs.EarlyWords.{came_after}
 use Rattle.rdm_life.proofs.LoanPairs.{LentOf}
 use Rattle.rdm_life.proofs.ReceiveFacts.{names, receive_from_is}
-use Rattle.rdm_life.proofs.TakenBy.{find_one, live_takes, receive_of_is}
+use Rattle.rdm_life.proofs.TakenBy.{LiveOf, find_one, live_takes, receive_of_is}
 use Rattle.rdm_life.proofs.Apart.{live_is}
 
 -- ---- which receive a datagram finds
 
--- a live receive and its pair
-record Live (own : Own) (log : List Deed) (r : Receive) (p : Pair) : Type 0 where
-  live : Member r (own_live_receives own log)
-  paired : Member p (own_pairs own log)
-  recv_is : r.number ≡ p.recv.id.0
-  pair_is : pair_of own log r ≡ Some p
-
 -- by the message
-by_message : (own : Own) (log : List Deed) (v : Kept) (r : Receive) (p : Pair) → KeepsReceives own log v → Live own log r p
-    → receive_of v p.message.life p.message.no.0 ≡ Some (kept_receive own log r)
-by_message own log v r p k a =
+pub by_message : (own : Own) (log : List Deed) (v : Kept) (p : Pair) → KeepsReceives own log v → Member p (own_pairs own log) → (a : LiveOf own log p)
+    → receive_of v p.message.life p.message.no.0 ≡ Some (kept_receive own log a.recv)
+by_message own log v p k m a =
     receive_of_is own log v p.message.life p.message.no.0 k
     ∙ ap (option_map (kept_receive own log))
-    (live_takes own log p.message.life p.message.no.0 p a.paired refl refl (record { recv = r; live = a.live; number_is = a.recv_is; pair_is = a.pair_is }))
+    (live_takes own log p.message.life p.message.no.0 p m refl refl a)
 
 -- by its number
-by_number : (own : Own) (log : List Deed) (v : Kept) (r : Receive) (p : Pair) → KeepsReceives own log v → Live own log r p
-    → receive_from v p.message.life p.recv.id.0 ≡ Some (kept_receive own log r)
+by_number : (own : Own) (log : List Deed) (v : Kept) (p : Pair) → KeepsReceives own log v → Member p (own_pairs own log) → (a : LiveOf own log p)
+    → receive_from v p.message.life p.recv.id.0 ≡ Some (kept_receive own log a.recv)
 unfolding is_of
-by_number own log v r p k a =
+by_number own log v p k m a =
+    let r = a.recv in
     let from = p.message.life in
     let n = p.recv.id.0 in
     let of : is_of from (option_map (matched_of own log) (pair_of own log r)) ≡ true =
     ap (λ (o : Option Pair). is_of from (option_map (matched_of own log) o)) a.pair_is ∙ same_life-refl from in
     let found : find (names own log from n) (own_live_receives own log) ≡ Some r =
     find_one (names own log from n) r (own_live_receives own log) a.live
-    (and_from (r.number == n) (is_of from (option_map (matched_of own log) (pair_of own log r))) (eq-eqb r.number n a.recv_is) of)
-    (λ q m passes.
+    (and_from (r.number == n) (is_of from (option_map (matched_of own log) (pair_of own log r))) (eq-eqb r.number n a.number_is) of)
+    (λ q held passes.
     let parts = and_parts (q.number == n) (is_of from (option_map (matched_of own log) (pair_of own log q))) passes in
-    receive_once log q r (live_is own log q m).0 (live_is own log r a.live).0 (eqb-true q.number n parts.0 ∙ sym a.recv_is)) in
+    receive_once log q r (live_is own log q held).0 (live_is own log r a.live).0 (eqb-true q.number n parts.0 ∙ sym a.number_is)) in
     receive_from_is own log v from n k ∙ ap (option_map (kept_receive own log)) found
 
 -- ---- what it brings
@@ -77,42 +71,42 @@ unfolding range_of kept_receive
 range_is own log r x = refl
 
 -- bytes that name the receive
-number_brings : (own : Own) (log : List Deed) (v : Kept) (from : Life) (n : ℕ) (r : Receive) (p : Pair) (x : Piece) → KeepsReceives own log v → Live own log r p
-    → from ≡ p.message.life → is_pair (own_pairs own log) n p.message.life p.message.no.0 ≡ true → range_of (receive_from v from n) (Some x) ≡ Some (piece_range r x)
-number_brings own log v from n r p x k a life paired =
+number_brings : (own : Own) (log : List Deed) (v : Kept) (from : Life) (n : ℕ) (p : Pair) (x : Piece) → KeepsReceives own log v → Member p (own_pairs own log) → (a : LiveOf own log p)
+    → from ≡ p.message.life → is_pair (own_pairs own log) n p.message.life p.message.no.0 ≡ true → range_of (receive_from v from n) (Some x) ≡ Some (piece_range a.recv x)
+number_brings own log v from n p x k m a life paired =
     let q = is_pair_member (own_pairs own log) n p.message.life p.message.no.0 paired in
-    let same : q.0 ≡ p = (matching_distinct own.limits.first (told own log).head log).once q.0 p q.1 a.paired q.3 q.4 in
+    let same : q.0 ≡ p = (matching_distinct own.limits.first (told own log).head log).once q.0 p q.1 m q.3 q.4 in
     let number : n ≡ p.recv.id.0 = sym q.2 ∙ ap (λ (y : Pair). y.recv.id.0) same in
     ap (λ (l : Life). range_of (receive_from v l n) (Some x)) life
     ∙ ap (λ (i : ℕ). range_of (receive_from v p.message.life i) (Some x)) number
-    ∙ ap (λ (o : Option LiveReceive). range_of o (Some x)) (by_number own log v r p k a)
-    ∙ range_is own log r x
+    ∙ ap (λ (o : Option LiveReceive). range_of o (Some x)) (by_number own log v p k m a)
+    ∙ range_is own log a.recv x
 
 -- a packet that names the message
-message_brings : (own : Own) (log : List Deed) (v : Kept) (from : Life) (n : ℕ) (r : Receive) (p : Pair) (x : Piece) → KeepsReceives own log v → Live own log r p
-    → from ≡ p.message.life → n ≡ p.message.no.0 → range_of (receive_of v from n) (Some x) ≡ Some (piece_range r x)
-message_brings own log v from n r p x k a life number =
+message_brings : (own : Own) (log : List Deed) (v : Kept) (from : Life) (n : ℕ) (p : Pair) (x : Piece) → KeepsReceives own log v → Member p (own_pairs own log) → (a : LiveOf own log p)
+    → from ≡ p.message.life → n ≡ p.message.no.0 → range_of (receive_of v from n) (Some x) ≡ Some (piece_range a.recv x)
+message_brings own log v from n p x k m a life number =
     ap (λ (l : Life). range_of (receive_of v l n) (Some x)) life
     ∙ ap (λ (i : ℕ). range_of (receive_of v p.message.life i) (Some x)) number
-    ∙ ap (λ (o : Option LiveReceive). range_of o (Some x)) (by_message own log v r p k a)
-    ∙ range_is own log r x
+    ∙ ap (λ (o : Option LiveReceive). range_of o (Some x)) (by_message own log v p k m a)
+    ∙ range_is own log a.recv x
 
 -- a piece of the message of a live receive is what is brought
-item_brings : (own : Own) (log : List Deed) (v : Kept) (from : Life) (item : Item) (r : Receive) (p : Pair) (x : Piece) → KeepsReceives own log v → Live own log r p
-    → from ≡ p.message.life → piece_by (own_pairs own log) p.message.life p.message.no.0 item ≡ Some x → brought v from item ≡ Some (piece_range r x)
+item_brings : (own : Own) (log : List Deed) (v : Kept) (from : Life) (item : Item) (p : Pair) (x : Piece) → KeepsReceives own log v → Member p (own_pairs own log) → (a : LiveOf own log p)
+    → from ≡ p.message.life → piece_by (own_pairs own log) p.message.life p.message.no.0 item ≡ Some x → brought v from item ≡ Some (piece_range a.recv x)
 unfolding piece_by brought
-item_brings own log v from (Spelled (Rtm number tag confirm opt form)) r p x k a life h =
+item_brings own log v from (Spelled (Rtm number tag confirm opt form)) p x k m a life h =
     let parts = some_cond (number.0 == p.message.no.0) (piece_of form) x h in
-    ap (range_of (receive_of v from number.0)) parts.1 ∙ message_brings own log v from number.0 r p x k a life (eqb-true number.0 p.message.no.0 parts.0)
-item_brings own log v from (Spelled (CtsData recv offset connid bytes)) r p x k a life h =
+    ap (range_of (receive_of v from number.0)) parts.1 ∙ message_brings own log v from number.0 p x k m a life (eqb-true number.0 p.message.no.0 parts.0)
+item_brings own log v from (Spelled (CtsData recv offset connid bytes)) p x k m a life h =
     let y : Piece = record { offset = offset; bytes = bytes } in
     let parts = then_some_parts (is_pair (own_pairs own log) recv.0 p.message.life p.message.no.0) y x h in
-    ap (λ (z : Piece). range_of (receive_from v from recv.0) (Some z)) parts.1 ∙ number_brings own log v from recv.0 r p x k a life parts.0
-item_brings own log v from (Gives g) r p x k a life h =
+    ap (λ (z : Piece). range_of (receive_from v from recv.0) (Some z)) parts.1 ∙ number_brings own log v from recv.0 p x k m a life parts.0
+item_brings own log v from (Gives g) p x k m a life h =
     let y : Piece = record { offset = g.at; bytes = g.bytes } in
     let parts = then_some_parts (is_pair (own_pairs own log) g.recv_id.0 p.message.life p.message.no.0) y x h in
-    ap (λ (z : Piece). range_of (receive_from v from g.recv_id.0) (Some z)) parts.1 ∙ number_brings own log v from g.recv_id.0 r p x k a life parts.0
-item_brings own log v from _ r p x k a life h = cc
+    ap (λ (z : Piece). range_of (receive_from v from g.recv_id.0) (Some z)) parts.1 ∙ number_brings own log v from g.recv_id.0 p x k m a life parts.0
+item_brings own log v from _ p x k m a life h = cc
 
 -- ---- what stays missing
 
@@ -124,29 +118,29 @@ one_shares a b place same low high low' high' =
     (and_from _ _ (and_from _ _ (and_from _ _ (lt-ltb 0 a.len (omega arith)) (lt-ltb 0 b.len (omega arith))) (lt-ltb a.offset (b.offset + b.len) (omega arith))) (lt-ltb b.offset (a.offset + a.len) (omega arith)))
 
 -- a piece that a deed brings has no byte of a range that it spares
-spared : (own : Own) (d : Deed) (log : List Deed) (v : Kept) (l : Loan) (r : Receive) (p : Pair) (x : Piece) (place b : ℕ) → KeepsReceives own log v → Live own log r p → r.number ≡ l.recv
+spared : (own : Own) (d : Deed) (log : List Deed) (v : Kept) (l : Loan) (p : Pair) (x : Piece) (place b : ℕ) → KeepsReceives own log v → Member p (own_pairs own log) → (a : LiveOf own log p) → a.recv.number ≡ l.recv
     → Spares v d l → carried_by (own_pairs own log) p.message.life p.message.no.0 d ≡ Some x → l.offset ≤ place → place < l.offset + l.len → byte_in x place ≡ Some b → ⊥
 unfolding carried_by
-spared own (Took from item) log v l r p x place b k a number spares carries low high is =
+spared own (Took from item) log v l p x place b k m a number spares carries low high is =
     let parts = some_cond (same_life from p.message.life) (piece_by (own_pairs own log) p.message.life p.message.no.0 item) x carries in
-    let brings = item_brings own log v from item r p x k a (same_life-true from p.message.life parts.0) parts.1 in
-    let apart = spares (piece_range r x) brings in
-    let meets = one_shares (piece_range r x) l place number (byte_starts x place b is) (byte_ends x place b is) low high in
+    let brings = item_brings own log v from item p x k m a (same_life-true from p.message.life parts.0) parts.1 in
+    let apart = spares (piece_range a.recv x) brings in
+    let meets = one_shares (piece_range a.recv x) l place number (byte_starts x place b is) (byte_ends x place b is) low high in
     let wrong : true ≡ false = sym meets ∙ apart in
     cc
-spared own _ log v l r p x place b k a number spares carries low high is = cc
+spared own _ log v l p x place b k m a number spares carries low high is = cc
 
 -- so no byte of it comes
-none_comes : (own : Own) (d : Deed) (log : List Deed) (v : Kept) (l : Loan) (r : Receive) (p : Pair) (place : ℕ) → KeepsReceives own log v → Live own log r p → r.number ≡ l.recv
+none_comes : (own : Own) (d : Deed) (log : List Deed) (v : Kept) (l : Loan) (p : Pair) (place : ℕ) → KeepsReceives own log v → Member p (own_pairs own log) → (a : LiveOf own log p) → a.recv.number ≡ l.recv
     → Spares v d l → l.offset ≤ place → place < l.offset + l.len → byte_by (carried_by (own_pairs own log) p.message.life p.message.no.0 d) place ≡ None
 unfolding byte_by
-none_comes own d log v l r p place k a number spares low high =
+none_comes own d log v l p place k m a number spares low high =
     let carried = carried_by (own_pairs own log) p.message.life p.message.no.0 d in
     (elim carried as (λ o. carried ≡ o → byte_by o place ≡ None) [
       | None ↦ λ e. refl
       | Some x ↦ λ e. (elim (byte_in x place) as (λ o. byte_in x place ≡ o → o ≡ None) [
         | None ↦ λ h. refl
-        | Some b ↦ λ h. absurd (spared own d log v l r p x place b k a number spares e low high h)
+        | Some b ↦ λ h. absurd (spared own d log v l p x place b k m a number spares e low high h)
       ]) refl
     ]) refl
 
@@ -156,10 +150,9 @@ pub still_missing : (own : Own) (d : Deed) (log : List Deed) (v : Kept) (l : Loa
 unfolding or_else
 still_missing own d log v l m a place k spares low high =
     let p = a.pair in
-    let live : Live own log a.recv p = record { live = a.live; paired = a.paired; recv_is = a.recv_is; pair_is = a.pair_is } in
     let was : is_some (byte_came own log p.message.life p.message.no.0 place) ≡ false = sym (ap (λ (x : Matched). x.came place) a.message_is) ∙ m.missing place low high in
     let none = none_there (byte_came own log p.message.life p.message.no.0 place) was in
-    let new = none_comes own d log v l a.recv p place k live a.number_is spares low high in
+    let new = none_comes own d log v l p place k a.paired a.of a.number_is spares low high in
     ap is_some (came_after own d log p.message.life p.message.no.0 place
     ∙ ap (λ (o : Option ℕ). or_else o (byte_by (carried_by (own_pairs own log) p.message.life p.message.no.0 d) place)) none
     ∙ new)

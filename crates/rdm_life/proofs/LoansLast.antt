@@ -35,7 +35,7 @@ pub record Lasts (v w : Kept) (l : Loan) (m : IsMissing v l) : Type 0 where
   pub grants_more : m.message.granted ≤ still.message.granted
 
 -- a live receive is kept by its number
-numbered_kept : (own : Own) (log : List Deed) (w : Kept) (n : ℕ) (r : Receive) → KeepsReceives own log w → Member r (own_live_receives own log) → r.number ≡ n
+pub numbered_kept : (own : Own) (log : List Deed) (w : Kept) (n : ℕ) (r : Receive) → KeepsReceives own log w → Member r (own_live_receives own log) → r.number ≡ n
     → receive_numbered w n ≡ Some (kept_receive own log r)
 unfolding kept_receive
 numbered_kept own log w n r k live number =
@@ -58,7 +58,7 @@ pub lasts : (own : Own) (d : Deed) (log : List Deed) (v : Kept) (l : Loan) → L
 unfolding kept_receive
 lasts own d log v l local fit k m spares =
     let a = lent_of own log v l k.receives m in
-    let r = a.recv in
+    let r = a.of.recv in
     let p = a.pair in
     let now = keeps_step own d log v fit local k in
     let live = live_still own d log v l m a local k spares in
@@ -67,7 +67,7 @@ lasts own d log v l local fit k m spares =
         receive = kept_receive own (d ∷ log) r;
         found = numbered_kept own (d ∷ log) (after d v) l.recv r now.receives live a.number_is;
         message = matched_of own (d ∷ log) p;
-        matched = ap (option_map (matched_of own (d ∷ log))) (pair_is own (d ∷ log) r p (paired_still own d log v l m a) a.recv_is);
+        matched = ap (option_map (matched_of own (d ∷ log))) (pair_is own (d ∷ log) r p (paired_still own d log v l m a) a.of.number_is);
         some_place = m.some_place;
         within = within_still own d log v l m a;
         missing = λ place low high. still_missing own d log v l m a place k.receives spares low high;

@@ -28,7 +28,7 @@ use Rattle.rdm_life.proofs.MessageFacts.{named, received_matched, filled_receive
 use Rattle.rdm_life.proofs.Apart.{own_ended}
 
 -- a message that was matched was heard of
-matched_heard : (own : Own) (log : List Deed) (source : Life) (n : ℕ) → is_matched (own_pairs own log) (named source n) ≡ true → is_heard log source n ≡ true
+pub matched_heard : (own : Own) (log : List Deed) (source : Life) (n : ℕ) → is_matched (own_pairs own log) (named source n) ≡ true → is_heard log source n ≡ true
 unfolding is_heard
 matched_heard own log source n matched =
     let p = pair_of_message own log source n matched in

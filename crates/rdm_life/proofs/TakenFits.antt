@@ -123,7 +123,7 @@ push_fits (Note note) = tt
 push_fits (Between from to load) = tt
 
 -- so it is with whatever a port does
-act_fits : (ops : List Instr) (act : Act) → TakenFits (deed_of ops act)
+pub act_fits : (ops : List Instr) (act : Act) → TakenFits (deed_of ops act)
 unfolding deed_of
 act_fits ops (Next index op answer) = next_fits (slice_get ops index) answer
 act_fits ops (Push d) = push_fits d.body
