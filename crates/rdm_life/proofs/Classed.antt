@@ -31,7 +31,7 @@ use Rattle.rdm_life.specs.Kept.{Kept, LiveSend}
 use Rattle.rdm_life.specs.Keeps.{told, kept_send, Keeps, KeepsSends}
 use Rattle.rdm_life.specs.Sending.{is_sent, is_send_of}
 use Rattle.rdm_life.specs.Facts.{send_passes, class_facts_in}
-use Rattle.rdm_life.proofs.TakenFits.{FormHasBytes, HasBytes}
+use Rattle.rdm_life.proofs.TakenRead.{FormHasBytes, HasBytes}
 use Rattle.rdm_life.proofs.SendFacts.{send_of_message_is, takes_grants_is, takes_end_is, takes_receipt_is}
 use Rattle.rdm_life.proofs.AskFacts.{may_be_asked_is}
 use Rattle.rdm_life.proofs.GrantFacts.{is_wrong_grant_is}

@@ -16,7 +16,7 @@ use Rattle.rdm_life.specs.Kept.{Kept}
 use Rattle.rdm_life.specs.Keeps.{told, Keeps}
 use Rattle.rdm_life.specs.Handling.{kept}
 use Rattle.rdm_life.specs.Laws.{RecordIsKept, FactsAreKept, AnswersAs, kept_in}
-use Rattle.rdm_life.proofs.TakenFits.{item_has_bytes, load_fits, deeds_fit}
+use Rattle.rdm_life.proofs.TakenRead.{item_has_bytes, load_fits, deeds_fit}
 use Rattle.rdm_life.proofs.FactsKept.{answer_kept}
 use Rattle.rdm_life.proofs.EnteredKept.{entered_is}
 use Rattle.rdm_life.proofs.Goes.{goes}

@@ -40,7 +40,7 @@ use Rattle.rdm_life.specs.Receiving.{enter, hear, with_early}
 use Rattle.rdm_life.specs.Handling.{opened_by, with_more, is_message, receive_of, land_found, add, after_rtm, after_item, after}
 use Rattle.rdm_life.proofs.CameFacts.{all_came}
 use Rattle.rdm_life.proofs.Completing.{own_completions}
-use Rattle.rdm_life.proofs.TakenFits.{FormHasBytes, AllTakenFit, item_has_bytes}
+use Rattle.rdm_life.proofs.TakenRead.{FormHasBytes, AllTakenRead, item_has_bytes}
 use Rattle.rdm_life.proofs.Made.{made}
 use Rattle.rdm_life.proofs.MatchingOpened.{met_by}
 use Rattle.rdm_life.proofs.MatchingSteps.{met_same}
@@ -97,7 +97,7 @@ settle_none u =
     map_itself (x ∷ xs) = ap (λ (ys : List LiveReceive). x ∷ ys) (map_itself xs)
 
 -- what is kept where no pair gets anything
-nothing_kept : (own : Own) (d : Deed) (log : List Deed) (v w : Kept) → LifeLocal own (d ∷ log) → AllTakenFit (d ∷ log) → IsLanding d → made own d log ≡ [] → received_by (receives log) log d ≡ []
+nothing_kept : (own : Own) (d : Deed) (log : List Deed) (v w : Kept) → LifeLocal own (d ∷ log) → AllTakenRead (d ∷ log) → IsLanding d → made own d log ≡ [] → received_by (receives log) log d ≡ []
     → ((q : Pair) → Member q (own_pairs own log) → BringsNone own d log q) → KeepsReceives own log v
     → w.own ≡ own → w.home ≡ v.home → w.receives ≡ v.receives → w.owed ≡ (own_progress own log).replies ++ handshake_by own log d
     → w.completions ≡ drop (poll_count log) (own_completions own log) → KeepsBoth own (d ∷ log) w
@@ -139,7 +139,7 @@ met own log v from item local k =
     }
 
 -- a piece for a live pair
-piece_lands : (own : Own) (log : List Deed) (v w : Kept) (from : Life) (item : Item) (p : Pair) (x : Piece) → LifeLocal own (Took from item ∷ log) → AllTakenFit (Took from item ∷ log) → IsLanding (Took from item)
+piece_lands : (own : Own) (log : List Deed) (v w : Kept) (from : Life) (item : Item) (p : Pair) (x : Piece) → LifeLocal own (Took from item ∷ log) → AllTakenRead (Took from item ∷ log) → IsLanding (Took from item)
     → Brings own (Took from item) log p x → KeepsReceives own log v → Met own log v from item w → KeepsBoth own (Took from item ∷ log) (land p.recv.id.0 x w)
 piece_lands own log v w from item p x local fit i b k m = piece_kept own (Took from item) log v w p x local fit i b k m.own_is m.home_is m.receives_are m.owed_is m.completions_are
 
@@ -161,7 +161,7 @@ done_whole own ports port_log log p offset len local m kept ended some new =
 
 -- it lands, or is kept with the early message
 rtm_kept : (own : Own) (from : Life) (number : MsgNo) (tag : Option ℕ) (confirm : Bool) (opt : Opt) (form : Form) (log : List Deed) (v w : Kept) → is_heard log from number.0 ≡ true → FormHasBytes form
-    → LifeLocal own (Took from (Spelled (Rtm number tag confirm opt form)) ∷ log) → AllTakenFit (Took from (Spelled (Rtm number tag confirm opt form)) ∷ log) → Keeps own log v → Met own log v from (Spelled (Rtm number tag confirm opt form)) w
+    → LifeLocal own (Took from (Spelled (Rtm number tag confirm opt form)) ∷ log) → AllTakenRead (Took from (Spelled (Rtm number tag confirm opt form)) ∷ log) → Keeps own log v → Met own log v from (Spelled (Rtm number tag confirm opt form)) w
     → ((n : ℕ) → w.early from n ≡ v.early from n) → KeepsBoth own (Took from (Spelled (Rtm number tag confirm opt form)) ∷ log) (add from number.0 (piece_of form) w)
 unfolding add with_early land_found received_by is_overlap kept_receive
 rtm_kept own from number tag confirm opt form log v w heard some local fit k m early =
@@ -207,7 +207,7 @@ rtm_kept own from number tag confirm opt form log v w heard some local fit k m e
 -- ---- all of them
 
 -- what is kept after a datagram that brings more of a message
-pub landed_kept : (own : Own) (from : Life) (item : Item) (log : List Deed) (v : Kept) → IsMore log from item → LifeLocal own (Took from item ∷ log) → AllTakenFit (Took from item ∷ log) → Keeps own log v
+pub landed_kept : (own : Own) (from : Life) (item : Item) (log : List Deed) (v : Kept) → IsMore log from item → LifeLocal own (Took from item ∷ log) → AllTakenRead (Took from item ∷ log) → Keeps own log v
     → KeepsBoth own (Took from item ∷ log) (after (Took from item) v)
 unfolding after after_item after_rtm
 landed_kept own from (Spelled (CtsData recv offset connid bytes)) log v more local fit k =

@@ -27,7 +27,7 @@ use Rattle.rdm_law.proofs.Lives.Lives.{life_scene}
 use Rattle.rdm_law.proofs.Matching.Distinct.{matching_distinct}
 use Rattle.rdm_life.specs.Keeps.{told, own_pairs, byte_came}
 use Rattle.rdm_life.proofs.EarlyWords.{first_still}
-use Rattle.rdm_life.proofs.TakenFits.{FormHasBytes}
+use Rattle.rdm_life.proofs.TakenRead.{FormHasBytes}
 use Rattle.rdm_life.proofs.Made.{made}
 use Rattle.rdm_life.proofs.MatchingQuiet.{none_enter}
 use Rattle.rdm_life.proofs.MatchingStep.{same_heard}

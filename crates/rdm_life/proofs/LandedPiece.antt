@@ -30,7 +30,7 @@ use Rattle.rdm_life.proofs.Owing.{BringsNone}
 use Rattle.rdm_life.proofs.Pairs.{pairs_added}
 use Rattle.rdm_life.proofs.Stays.{built, matched_same, head_stays}
 use Rattle.rdm_life.proofs.TakenBy.{pair_is, pair_found, live_of}
-use Rattle.rdm_life.proofs.TakenFits.{AllTakenFit}
+use Rattle.rdm_life.proofs.TakenRead.{AllTakenRead}
 use Rattle.rdm_life.proofs.Settling.{IsLanding, Touches, Landed, out_with, landed_receive, landed_message}
 use Rattle.rdm_life.proofs.SettledReceives.{settled_receives}
 use Rattle.rdm_life.proofs.SettledOwed.{settled_owed}
@@ -181,7 +181,7 @@ piece_touches own d log p x b =
     }
 
 -- what is kept once it landed, windows opened and the receive filled or not
-pub piece_kept : (own : Own) (d : Deed) (log : List Deed) (v w : Kept) (p : Pair) (x : Piece) → LifeLocal own (d ∷ log) → AllTakenFit (d ∷ log) → IsLanding d → Brings own d log p x → KeepsReceives own log v
+pub piece_kept : (own : Own) (d : Deed) (log : List Deed) (v w : Kept) (p : Pair) (x : Piece) → LifeLocal own (d ∷ log) → AllTakenRead (d ∷ log) → IsLanding d → Brings own d log p x → KeepsReceives own log v
     → w.own ≡ own → w.home ≡ v.home → w.receives ≡ v.receives → w.owed ≡ (own_progress own log).replies ++ handshake_by own log d
     → w.completions ≡ drop (poll_count log) (own_completions own log)
     → KeepsReceives own (d ∷ log) (land p.recv.id.0 x w) × KeepsOwed own (d ∷ log) (land p.recv.id.0 x w)

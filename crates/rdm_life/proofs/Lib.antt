@@ -4,7 +4,7 @@ pub mod Made
 -- tests that are joined
 pub mod Tests
 -- packets that are taken meet their conditions
-pub mod TakenFits
+pub mod TakenRead
 -- Lives, regions and counts:
 -- which steps leave them
 pub mod LivesLeft

@@ -21,7 +21,7 @@ use Rattle.rdm_life.proofs.RecordKept.{keeps_step}
 use Rattle.rdm_life.proofs.SendFacts.{find_map}
 use Rattle.rdm_life.proofs.Stays.{head_stays}
 use Rattle.rdm_life.proofs.TakenBy.{find_one, pair_is}
-use Rattle.rdm_life.proofs.TakenFits.{AllTakenFit}
+use Rattle.rdm_life.proofs.TakenRead.{AllTakenRead}
 use Rattle.rdm_life.proofs.Windows.{newer_granted}
 use Rattle.rdm_life.proofs.Apart.{live_is}
 
@@ -53,7 +53,7 @@ granted_more own d log p =
     omega arith
 
 -- a missing range lasts
-pub lasts : (own : Own) (d : Deed) (log : List Deed) (v : Kept) (l : Loan) → LifeLocal own (d ∷ log) → AllTakenFit (d ∷ log) → Keeps own log v → (m : IsMissing v l) → Spares v d l
+pub lasts : (own : Own) (d : Deed) (log : List Deed) (v : Kept) (l : Loan) → LifeLocal own (d ∷ log) → AllTakenRead (d ∷ log) → Keeps own log v → (m : IsMissing v l) → Spares v d l
     → Lasts v (after d v) l m
 unfolding kept_receive
 lasts own d log v l local fit k m spares =

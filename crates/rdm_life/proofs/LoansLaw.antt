@@ -15,7 +15,7 @@ use Rattle.rdm_law.proofs.Lives.Lives.{life_scene, life_of, LifeLocal, life_loca
 use Rattle.rdm_life.specs.Handling.{kept, after}
 use Rattle.rdm_life.specs.Lending.{Loan, brought, Spares}
 use Rattle.rdm_life.specs.Laws.{kept_in, IsLent, LoansBegin, LoansLast}
-use Rattle.rdm_life.proofs.TakenFits.{AllTakenFit, act_fits, deeds_fit}
+use Rattle.rdm_life.proofs.TakenRead.{AllTakenRead, act_fits, deeds_fit}
 use Rattle.rdm_life.proofs.RecordKept.{record_kept}
 use Rattle.rdm_life.proofs.FactsLaw.{answers_as}
 use Rattle.rdm_life.proofs.LoansLast.{lasts}
@@ -23,7 +23,7 @@ use Rattle.rdm_life.proofs.LoansBrought.{brings_missing}
 use Rattle.rdm_life.proofs.LoansTaken.{still_taken}
 
 -- a range that may be lent is missing
-lent_first : (own : Own) (ports : ℕ) (port_log log : List Deed) (from : Life) (to : Connid) (load : Load) (l : Loan) → LifeLocal own log → AllTakenFit log
+lent_first : (own : Own) (ports : ℕ) (port_log log : List Deed) (from : Life) (to : Connid) (load : Load) (l : Loan) → LifeLocal own log → AllTakenRead log
     → item_class (life_scene ports own port_log log) from to (item_of load) ≡ None → brought (kept own log) from (item_of load) ≡ Some l → 0 < l.len → IsLent (kept own log) from to load l
 lent_first own ports port_log log from to load l local fit none brings some =
     let k = record_kept own log fit local in
@@ -40,7 +40,7 @@ loans_begin job port connid log from to load l local is =
     (λ none brings some. lent_first own (port_count job) port_log (of_life connid port_log) from to load l (life_local job port connid log local) (deeds_fit job port connid log) none brings some)
 
 -- it stays lent by a deed that spares it
-lent_still : (own : Own) (d : Deed) (log : List Deed) (from : Life) (to : Connid) (load : Load) (l : Loan) → LifeLocal own (d ∷ log) → AllTakenFit (d ∷ log)
+lent_still : (own : Own) (d : Deed) (log : List Deed) (from : Life) (to : Connid) (load : Load) (l : Loan) → LifeLocal own (d ∷ log) → AllTakenRead (d ∷ log)
     → IsLent (kept own log) from to load l → Spares (kept own log) d l → IsLent (after d (kept own log)) from to load l
 lent_still own d log from to load l local fit lent spares =
     let k = record_kept own log fit.0 local.0 in

@@ -22,7 +22,7 @@ use Rattle.rdm_life.specs.Forgetting.{is_among, names_one, is_of_one, concerns}
 use Rattle.rdm_life.specs.Handling.{after}
 use Rattle.rdm_life.specs.Facts.{is_of, receive_from, passes, matched_passes}
 use Rattle.rdm_life.specs.Lending.{Loan, range_of, Spares}
-use Rattle.rdm_life.proofs.TakenFits.{AllTakenFit}
+use Rattle.rdm_life.proofs.TakenRead.{AllTakenRead}
 use Rattle.rdm_life.proofs.LoansLast.{lasts}
 use Rattle.rdm_life.proofs.LoansMatched.{new_from, paired}
 use Rattle.rdm_life.proofs.LoansBrought.{TakesBytes, missing_of}
@@ -92,7 +92,7 @@ pub record Stays (v w : Kept) (from : Life) (l : Loan) (t : TakesBytes v from l)
   pub grants_more : t.message.granted ≤ takes.message.granted
 
 -- missing bytes of a live receive are still for it
-pub stays : (own : Own) (d : Deed) (log : List Deed) (v : Kept) (from : Life) (l : Loan) → LifeLocal own (d ∷ log) → AllTakenFit (d ∷ log) → Keeps own log v → 0 < l.len → (t : TakesBytes v from l) → Spares v d l
+pub stays : (own : Own) (d : Deed) (log : List Deed) (v : Kept) (from : Life) (l : Loan) → LifeLocal own (d ∷ log) → AllTakenRead (d ∷ log) → Keeps own log v → 0 < l.len → (t : TakesBytes v from l) → Spares v d l
     → Stays v (after d v) from l t
 stays own d log v from l local fit k some t spares =
     let s = lasts own d log v l local fit k (missing_of v from l some t) spares in

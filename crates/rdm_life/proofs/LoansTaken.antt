@@ -30,7 +30,7 @@ use Rattle.rdm_life.specs.Keeps.{Keeps, KeepsMatching, KeepsReceives}
 use Rattle.rdm_life.specs.Handling.{receive_of, after}
 use Rattle.rdm_life.specs.Facts.{head_in_receive, head_or_matched, came_or_outside, came_in_matched, came_in_receive, came_in_early, receive_from, matched_passes, class_facts_in}
 use Rattle.rdm_life.specs.Lending.{Loan, range_of, brought, Spares}
-use Rattle.rdm_life.proofs.TakenFits.{AllTakenFit}
+use Rattle.rdm_life.proofs.TakenRead.{AllTakenRead}
 use Rattle.rdm_life.proofs.RecordKept.{keeps_step}
 use Rattle.rdm_life.proofs.LoansMatched.{IsUnclassed, unclassed, no_class, paired, found_by_message, paired_heard, paired_early}
 use Rattle.rdm_life.proofs.LoansBrought.{TakesBytes, named_takes, packet_takes, heard_life}
@@ -57,7 +57,7 @@ unclassed_still f g from to item u now cur key op agrees new =
 -- what is kept before a deed and after it, of a datagram that no class fits and a range that the deed spares
 record Lent (own : Own) (d : Deed) (log : List Deed) (v : Kept) (from : Life) (to : Connid) (item : Item) (l : Loan) : Type 0 where
   local : LifeLocal own (d ∷ log)
-  fit : AllTakenFit (d ∷ log)
+  fit : AllTakenRead (d ∷ log)
   keeps : Keeps own log v
   none : IsUnclassed (class_facts_in v) from to item
   some : 0 < l.len
@@ -204,7 +204,7 @@ packet_still own d log v from to number tag confirm opt form l h is =
 -- ---- all of them
 
 -- a datagram that no class fits stays one, with the same bytes for the same receive
-pub still_taken : (own : Own) (d : Deed) (log : List Deed) (v : Kept) (from : Life) (to : Connid) (item : Item) (l : Loan) → LifeLocal own (d ∷ log) → AllTakenFit (d ∷ log) → Keeps own log v
+pub still_taken : (own : Own) (d : Deed) (log : List Deed) (v : Kept) (from : Life) (to : Connid) (item : Item) (l : Loan) → LifeLocal own (d ∷ log) → AllTakenRead (d ∷ log) → Keeps own log v
     → item_class_by (class_facts_in v) from to item ≡ None → brought v from item ≡ Some l → 0 < l.len → Spares v d l
     → (item_class_by (class_facts_in (after d v)) from to item ≡ None) × (brought (after d v) from item ≡ Some l)
 unfolding brought is_bad_key is_no_op is_mismatch is_overlap

@@ -20,7 +20,7 @@ use Rattle.rdm_life.proofs.MeetsPacket.{packet_meets}
 use Rattle.rdm_life.proofs.MeetsReceive.{recv_meets}
 use Rattle.rdm_life.proofs.SettledOwed.{settled_owed}
 use Rattle.rdm_life.proofs.SettledReceives.{settled_receives}
-use Rattle.rdm_life.proofs.TakenFits.{AllTakenFit}
+use Rattle.rdm_life.proofs.TakenRead.{AllTakenRead}
 use Rattle.rdm_life.proofs.Settling.{IsLanding, Touches, Landed, numbers_of}
 
 -- a receive that is posted, and a packet of a message that was not heard of
@@ -69,7 +69,7 @@ meeting_settles own d log v m local keeps =
     }
 
 -- so what is kept of receives and memory, and what is owed and completed, is what the definitions say
-pub meets_kept : (own : Own) (d : Deed) (log : List Deed) (v : Kept) → IsMeeting log d → LifeLocal own (d ∷ log) → AllTakenFit (d ∷ log) → Keeps own log v
+pub meets_kept : (own : Own) (d : Deed) (log : List Deed) (v : Kept) → IsMeeting log d → LifeLocal own (d ∷ log) → AllTakenRead (d ∷ log) → Keeps own log v
     → KeepsReceives own (d ∷ log) (after d v) × KeepsOwed own (d ∷ log) (after d v)
 meets_kept own d log v m local fit keeps =
     let s = meeting_settles own d log v m local keeps in

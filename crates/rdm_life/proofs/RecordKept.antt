@@ -13,7 +13,7 @@ use Rattle.rdm_law.proofs.Lives.Lives.{LifeLocal}
 use Rattle.rdm_life.specs.Kept.{Kept}
 use Rattle.rdm_life.specs.Keeps.{Keeps}
 use Rattle.rdm_life.specs.Handling.{after, kept}
-use Rattle.rdm_life.proofs.TakenFits.{AllTakenFit}
+use Rattle.rdm_life.proofs.TakenRead.{AllTakenRead}
 use Rattle.rdm_life.proofs.LivesKept.{lives_start, lives_step}
 use Rattle.rdm_life.proofs.MatchingStep.{matching_start, matching_step}
 use Rattle.rdm_life.proofs.KeepsSends.{sends_start, sends_step}
@@ -27,7 +27,7 @@ use Rattle.rdm_life.proofs.MeetsKept.{meets_kept}
 
 -- a packet that opens a message, which was heard of before or not
 rtm_both : (own : Own) (from : Life) (number : MsgNo) (tag : Option ℕ) (confirm : Bool) (opt : Opt) (form : Form) (log : List Deed) (v : Kept)
-    → AllTakenFit (Took from (Spelled (Rtm number tag confirm opt form)) ∷ log) → LifeLocal own (Took from (Spelled (Rtm number tag confirm opt form)) ∷ log) → Keeps own log v
+    → AllTakenRead (Took from (Spelled (Rtm number tag confirm opt form)) ∷ log) → LifeLocal own (Took from (Spelled (Rtm number tag confirm opt form)) ∷ log) → Keeps own log v
     → KeepsBoth own (Took from (Spelled (Rtm number tag confirm opt form)) ∷ log) (after (Took from (Spelled (Rtm number tag confirm opt form))) v)
 rtm_both own from number tag confirm opt form log v fit local k =
     let item : Item = Spelled (Rtm number tag confirm opt form) in
@@ -37,7 +37,7 @@ rtm_both own from number tag confirm opt form log v fit local k =
     ]) refl
 
 -- after each deed
-both_step : (own : Own) (d : Deed) (log : List Deed) (v : Kept) → AllTakenFit (d ∷ log) → LifeLocal own (d ∷ log) → Keeps own log v → KeepsBoth own (d ∷ log) (after d v)
+both_step : (own : Own) (d : Deed) (log : List Deed) (v : Kept) → AllTakenRead (d ∷ log) → LifeLocal own (d ∷ log) → Keeps own log v → KeepsBoth own (d ∷ log) (after d v)
 both_step own (Did (Insert life)) log v fit local k = (receives_insert own life log v local k, owed_unpushed own (Did (Insert life)) log v tt local k)
 both_step own (Did (Recv req)) log v fit local k = meets_kept own (Did (Recv req)) log v tt local fit k
 both_step own Pushed log v fit local k = (receives_light own Pushed log v local tt k, owed_pushed own log v local k)
@@ -47,7 +47,7 @@ both_step own (Took from (Gives g)) log v fit local k = landed_kept own from (Gi
 both_step own d log v fit local k = (receives_light own d log v local tt k, owed_unpushed own d log v tt local k)
 
 -- what is kept after a deed is what the definitions say
-pub keeps_step : (own : Own) (d : Deed) (log : List Deed) (v : Kept) → AllTakenFit (d ∷ log) → LifeLocal own (d ∷ log) → Keeps own log v → Keeps own (d ∷ log) (after d v)
+pub keeps_step : (own : Own) (d : Deed) (log : List Deed) (v : Kept) → AllTakenRead (d ∷ log) → LifeLocal own (d ∷ log) → Keeps own log v → Keeps own (d ∷ log) (after d v)
 keeps_step own d log v fit local k =
     let both = both_step own d log v fit local k in
     record {
@@ -59,7 +59,7 @@ keeps_step own d log v fit local k =
     }
 
 -- so it is after all deeds of a life
-pub record_kept : (own : Own) (log : List Deed) → AllTakenFit log → LifeLocal own log → Keeps own log (kept own log)
+pub record_kept : (own : Own) (log : List Deed) → AllTakenRead log → LifeLocal own log → Keeps own log (kept own log)
 unfolding kept
 record_kept own [] fit local =
     record { lives = lives_start own; matching = matching_start own; receives = receives_start own; sends = sends_start own; owed = owed_start own }

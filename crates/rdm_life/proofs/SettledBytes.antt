@@ -31,7 +31,7 @@ use Rattle.rdm_life.proofs.Places.{place_parts, place_there, range_before}
 use Rattle.rdm_life.proofs.SettledEnds.{is_whole, fills, whole_ends, ends_are, PairOf, pair_with, has_pair, fills_by, fills_with, fills_none}
 use Rattle.rdm_life.proofs.SettledPairs.{touched, out_accepted, accepted_found}
 use Rattle.rdm_life.proofs.Settling.{IsLanding, Touches, out_with, landed_receive}
-use Rattle.rdm_life.proofs.TakenFits.{AllTakenFit}
+use Rattle.rdm_life.proofs.TakenRead.{AllTakenRead}
 use Rattle.rdm_life.proofs.TakenWithin.{came_inside}
 use Rattle.rdm_life.proofs.Writes.{slice_get_take}
 
@@ -53,7 +53,7 @@ value_below f n k low =
     s.1 ∙ ap Some (sym q.2 ∙ ap f (below_at n k q.0 q.1))
 
 -- past the message nothing came
-none_past : (own : Own) (log : List Deed) (p : Pair) (k : ℕ) (o : Option ℕ) → LifeLocal own log → AllTakenFit log → byte_came own log p.message.life p.message.no.0 k ≡ o
+none_past : (own : Own) (log : List Deed) (p : Pair) (k : ℕ) (o : Option ℕ) → LifeLocal own log → AllTakenRead log → byte_came own log p.message.life p.message.no.0 k ≡ o
     → ((told own log).head p.message.life p.message.no.0).length ≤ k → None ≡ o
 none_past own log p k None local fit is past = refl
 none_past own log p k (Some b) local fit is past = absurd (let low = came_inside own log p.message.life p.message.no.0 k b local fit is in omega arith)
@@ -64,7 +64,7 @@ byte_there None h = cc
 byte_there (Some b) h = refl
 
 -- a message that came whole writes the bytes that came
-written_is : (own : Own) (d : Deed) (log : List Deed) (p : Pair) (capacity k : ℕ) → LifeLocal own (d ∷ log) → AllTakenFit (d ∷ log) → is_whole own d log p ≡ true → k < capacity
+written_is : (own : Own) (d : Deed) (log : List Deed) (p : Pair) (capacity k : ℕ) → LifeLocal own (d ∷ log) → AllTakenRead (d ∷ log) → is_whole own d log p ≡ true → k < capacity
     → slice_get (kept_bytes (told own (d ∷ log)) p capacity) k ≡ byte_came own (d ∷ log) p.message.life p.message.no.0 k
 unfolding kept_bytes heard_by bytes_by
 written_is own d log p capacity k local fit whole low =
@@ -179,7 +179,7 @@ same_pair own d log ps q r x y same =
     (sym x.number_is ∙ ap (λ (z : Receive). z.number) same ∙ y.number_is)
 
 -- a place in the range of one that is filled has the byte that comes home with it
-pub settled_inside : (own : Own) (d : Deed) (log : List Deed) (is_new : Bool) (ps : List Pair) (region place : ℕ) (r : Receive) → LifeLocal own (d ∷ log) → AllTakenFit (d ∷ log) → IsLanding d
+pub settled_inside : (own : Own) (d : Deed) (log : List Deed) (is_new : Bool) (ps : List Pair) (region place : ℕ) (r : Receive) → LifeLocal own (d ∷ log) → AllTakenRead (d ∷ log) → IsLanding d
     → Touches own d log is_new ps → Member r (out_with own d log) → fills own d log ps r ≡ true → is_place_of r.req region place ≡ true
     → Some ((landed_receive own d log r).part (place - r.req.at)) ≡ region_byte own (d ∷ log) region place
 unfolding written_by ended_recv

@@ -30,7 +30,7 @@ use Rattle.rdm_life.proofs.SettledOwed.{window_now}
 use Rattle.rdm_life.proofs.Settling.{IsLanding, Touches, Landed, out_with, landed_message, landed_receive, numbers_of}
 use Rattle.rdm_life.proofs.Stays.{built_same}
 use Rattle.rdm_life.proofs.TakenBy.{pair_found}
-use Rattle.rdm_life.proofs.TakenFits.{AllTakenFit}
+use Rattle.rdm_life.proofs.TakenRead.{AllTakenRead}
 use Rattle.rdm_life.proofs.Windows.{newer_granted}
 
 -- ---- the message of a receive
@@ -122,7 +122,7 @@ settled_stays own d log is_new ps r local i t m stays =
 -- ---- all
 
 -- what is kept of receives and regions after a deed that makes pairs or brings bytes
-pub settled_receives : (own : Own) (d : Deed) (log : List Deed) (is_new : Bool) (ps : List Pair) (u : Kept) → LifeLocal own (d ∷ log) → AllTakenFit (d ∷ log) → IsLanding d
+pub settled_receives : (own : Own) (d : Deed) (log : List Deed) (is_new : Bool) (ps : List Pair) (u : Kept) → LifeLocal own (d ∷ log) → AllTakenRead (d ∷ log) → IsLanding d
     → Touches own d log is_new ps → Landed own d log u → KeepsReceives own (d ∷ log) (settle is_new (numbers_of ps) u)
 unfolding settle change_where is_out
 settled_receives own d log is_new ps u local fit i t l =

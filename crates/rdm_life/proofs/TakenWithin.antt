@@ -38,7 +38,7 @@ use Rattle.rdm_law.proofs.Classes.Classed.{IsTaken, taken_parts}
 use Rattle.rdm_law.proofs.Lives.Lives.{LifeLocal, LifeStep, life_scene}
 use Rattle.rdm_law.proofs.Matching.Numbered.{matching_numbered}
 use Rattle.rdm_law.proofs.Windows.Granted.{byte_ends}
-use Rattle.rdm_life.proofs.TakenFits.{TakenFits, AllTakenFit}
+use Rattle.rdm_life.proofs.TakenRead.{TakenIsRead, AllTakenRead}
 use Rattle.rdm_life.specs.Keeps.{told, own_pairs, byte_came}
 use Rattle.rdm_life.proofs.CameWithin.{some_cond, live_is}
 use Rattle.rdm_life.proofs.Windows.{opened_first, newer_pieces}
@@ -146,7 +146,7 @@ named_within s shape from source n recv offset bytes place b (Some q) live op ne
     subst (λ (k : ℕ). place < (s.ms.head source k).length) number (subst (λ (y : Life). place < (s.ms.head y q.message.no.0).length) life low)
 
 -- what is taken
-item_inside : (own : Own) (before : List Deed) (source : Life) (n : ℕ) (item : Item) (ports : ℕ) (port_log : List Deed) (x : Piece) (place b : ℕ) → TakenFits (Took source item)
+item_inside : (own : Own) (before : List Deed) (source : Life) (n : ℕ) (item : Item) (ports : ℕ) (port_log : List Deed) (x : Piece) (place b : ℕ) → TakenIsRead (Took source item)
     → IsTaken (life_scene ports own port_log before) source own.life.connid item
     → piece_by (own_pairs own before) source n item ≡ Some x → byte_in x place ≡ Some b → place < (heads_by (Took source item ∷ before) source n).length
 unfolding piece_by is_no_op is_overlap heard_by
@@ -172,7 +172,7 @@ item_inside own before source n _ ports port_log x place b fit taken piece is = 
 -- ---- all that came
 
 -- what any deed brings
-deed_inside : (own : Own) (d : Deed) (before : List Deed) (source : Life) (n : ℕ) (x : Piece) (place b : ℕ) → LifeStep own before d → TakenFits d
+deed_inside : (own : Own) (d : Deed) (before : List Deed) (source : Life) (n : ℕ) (x : Piece) (place b : ℕ) → LifeStep own before d → TakenIsRead d
     → carried_by (own_pairs own before) source n d ≡ Some x → byte_in x place ≡ Some b → place < (heads_by (d ∷ before) source n).length
 unfolding carried_by
 deed_inside own (Took from item) before source n x place b step fit brings is =
@@ -191,7 +191,7 @@ told_longer d before source n place None heard low = absurd (let e : (heads_by b
 told_longer d before source n place (Some h) heard low = length_grows d before source n place h heard low
 
 -- each piece that came lies within its message
-pieces_inside : (own : Own) (log : List Deed) (source : Life) (n : ℕ) (x : Piece) (place b : ℕ) → LifeLocal own log → AllTakenFit log
+pieces_inside : (own : Own) (log : List Deed) (source : Life) (n : ℕ) (x : Piece) (place b : ℕ) → LifeLocal own log → AllTakenRead log
     → Member x (carried_pieces own.limits.first (told own log).head log source n) → byte_in x place ≡ Some b → place < (heads_by log source n).length
 unfolding carried_pieces
 pieces_inside own [] source n x place b local fit m is = elim m [ ]
@@ -204,7 +204,7 @@ pieces_inside own (d ∷ before) source n x place b local fit m is =
     ]
 
 -- each byte that came lies within its message
-pub came_inside : (own : Own) (log : List Deed) (source : Life) (n place b : ℕ) → LifeLocal own log → AllTakenFit log → byte_came own log source n place ≡ Some b
+pub came_inside : (own : Own) (log : List Deed) (source : Life) (n place b : ℕ) → LifeLocal own log → AllTakenRead log → byte_came own log source n place ≡ Some b
     → place < ((told own log).head source n).length
 unfolding heard_by
 came_inside own log source n place b local fit is =

@@ -41,20 +41,20 @@ abbrev pub HasBytes : Item → Type 0
 HasBytes (Spelled (Rtm number tag confirm opt form)) = FormHasBytes form
 HasBytes _ = Unit {0}
 
--- an item that is a packet meets its conditions
-abbrev pub ItemFits : Item → Type 0
-ItemFits (Spelled p) = packet_fits p ≡ true
-ItemFits _ = Unit {0}
+-- an item that is a packet meets its conditions, as one that is read from bytes does
+abbrev pub ItemIsRead : Item → Type 0
+ItemIsRead (Spelled p) = packet_fits p ≡ true
+ItemIsRead _ = Unit {0}
 
 -- what a deed takes does
-abbrev pub TakenFits : Deed → Type 0
-TakenFits (Took from item) = ItemFits item
-TakenFits _ = Unit {0}
+abbrev pub TakenIsRead : Deed → Type 0
+TakenIsRead (Took from item) = ItemIsRead item
+TakenIsRead _ = Unit {0}
 
 -- and so does what each of them takes
-abbrev pub AllTakenFit : List Deed → Type 0
-AllTakenFit [] = Unit {0}
-AllTakenFit (d ∷ log) = AllTakenFit log × TakenFits d
+abbrev pub AllTakenRead : List Deed → Type 0
+AllTakenRead [] = Unit {0}
+AllTakenRead (d ∷ log) = AllTakenRead log × TakenIsRead d
 
 -- the grammar has no empty segment
 form_has_bytes : (form : Form) → form_fits form ≡ true → FormHasBytes form
@@ -73,7 +73,7 @@ packet_has_bytes (Rtm number tag confirm opt form) h = form_has_bytes form (and_
 packet_has_bytes _ h = tt
 
 -- so what fits it has bytes where it is a segment
-pub item_has_bytes : (item : Item) → ItemFits item → HasBytes item
+pub item_has_bytes : (item : Item) → ItemIsRead item → HasBytes item
 item_has_bytes (Spelled p) h = packet_has_bytes p h
 item_has_bytes _ h = tt
 
@@ -90,40 +90,40 @@ spelled_fits bytes p q h =
     ]) refl h
 
 -- by the row of its first byte
-row_fits : (bytes : List ℕ) (row : Option Row) (o : Option Packet) → option_and_then (λ (r : Row). if_spelled bytes (values_at r bytes)) row ≡ o → ItemFits (packet_item o)
+row_fits : (bytes : List ℕ) (row : Option Row) (o : Option Packet) → option_and_then (λ (r : Row). if_spelled bytes (values_at r bytes)) row ≡ o → ItemIsRead (packet_item o)
 unfolding packet_item
 row_fits bytes row None h = tt
 row_fits bytes None (Some p) h = cc
 row_fits bytes (Some r) (Some p) h = spelled_fits bytes (values_at r bytes) p h
 
 -- whatever comes over the wire
-pub load_fits : (load : Load) → ItemFits (item_of load)
+pub load_fits : (load : Load) → ItemIsRead (item_of load)
 unfolding item_of packet_in
 load_fits (PacketLoad bytes) = row_fits bytes (row_of (number_at 0 1 bytes)) _ refl
 load_fits (Ask ask) = tt
 load_fits (Given data') = tt
 
 -- what an answer makes of a datagram
-handled_fits : (src : PortNo) (body : Body) (answer : Handled) → TakenFits (deed_by_handle src body answer)
+handled_fits : (src : PortNo) (body : Body) (answer : Handled) → TakenIsRead (deed_by_handle src body answer)
 unfolding deed_by_handle
 handled_fits src (Note note) (TookAnswer entered) = tt
 handled_fits src (Between from to load) (TookAnswer entered) = load_fits load
 handled_fits src _ _ = tt
 
 -- an instruction takes nothing
-next_fits : (o : Option Instr) (answer : Answer) → TakenFits (deed_by_next o answer)
+next_fits : (o : Option Instr) (answer : Answer) → TakenIsRead (deed_by_next o answer)
 unfolding deed_by_next
 next_fits (Some instr) (DidAnswer what) = tt
 next_fits _ _ = tt
 
 -- nor does a push
-push_fits : (body : Body) → TakenFits (deed_by_push body)
+push_fits : (body : Body) → TakenIsRead (deed_by_push body)
 unfolding deed_by_push
 push_fits (Note note) = tt
 push_fits (Between from to load) = tt
 
 -- so it is with whatever a port does
-pub act_fits : (ops : List Instr) (act : Act) → TakenFits (deed_of ops act)
+pub act_fits : (ops : List Instr) (act : Act) → TakenIsRead (deed_of ops act)
 unfolding deed_of
 act_fits ops (Next index op answer) = next_fits (slice_get ops index) answer
 act_fits ops (Push d) = push_fits d.body
@@ -131,10 +131,10 @@ act_fits ops (Handle d answer) = handled_fits d.src d.body answer
 act_fits ops (Poll c) = tt
 
 -- and with the deeds of each of its lives
-pub deeds_fit : (job : Job) (port : ℕ) (connid : Connid) (entries : List Entry) → AllTakenFit (of_life connid (deeds_at job port entries))
+pub deeds_fit : (job : Job) (port : ℕ) (connid : Connid) (entries : List Entry) → AllTakenRead (of_life connid (deeds_at job port entries))
 unfolding deeds_at deeds of_life
 deeds_fit job port connid [] = tt
 deeds_fit job port connid (e ∷ before) =
     let rest = deeds_fit job port connid before in
-    at_of_life AllTakenFit connid (deed_of (rank_of job port).ops e.act) (deeds_at job port before)
+    at_of_life AllTakenRead connid (deed_of (rank_of job port).ops e.act) (deeds_at job port before)
     (λ s. (rest, act_fits (rank_of job port).ops e.act)) (λ s. rest)
