@@ -44,20 +44,23 @@ one_more_fits false n m size e h = omega arith
 pub not_there : {A : Type 0} (o : Option A) → IsSome o → o ≡ None → ⊥
 not_there o there none = let e : false ≡ true = sym (ap is_some none) ∙ there in cc
 
--- a message that is put in its own place
-same_message : (held : Held) (life : Life) (number : MsgNo) (m : Message) → Some m ≡ message_at held life number → with_message held life number m ≡ held
-same_message held life number m is =
-    ap (held_in held.size) (map.same_map message_order_total message_order-IsAntisymmetric _ _ (λ q.
-    map.get-insert message_order_total held.messages (key_of life number) m q
-    ∙ elim (eq_by_cmp message_order q (key_of life number)) as (λ b. eq_by_cmp message_order q (key_of life number) ≡ b → cond b (Some m) (map.get held.messages q) ≡ map.get held.messages q) [
-      | true ↦ λ e. is ∙ map.get_tied message_order_total held.messages q (key_of life number) ((Equal-is _).0 e)
-      | false ↦ λ e. refl
-    ] refl))
+-- a message that is held, once w is put in its place
+module _ (held : Held) (life : Life) (number : MsgNo) (m w : Message) (was : Some m ≡ message_at held life number) where
+  -- what was held, where w is the message itself
+  pub with_same : w ≡ m → with_message held life number w ≡ held
+  with_same is =
+      ap (with_message held life number) is
+      ∙ ap (held_in held.size) (map.same_map message_order_total message_order-IsAntisymmetric _ _ (λ q.
+      map.get-insert message_order_total held.messages (key_of life number) m q
+      ∙ elim (eq_by_cmp message_order q (key_of life number)) as (λ b. eq_by_cmp message_order q (key_of life number) ≡ b → cond b (Some m) (map.get held.messages q) ≡ map.get held.messages q) [
+        | true ↦ λ e. was ∙ map.get_tied message_order_total held.messages q (key_of life number) ((Equal-is _).0 e)
+        | false ↦ λ e. refl
+      ] refl))
 
--- a message that is held is changed
-change_put : (held : Held) (life : Life) (number : MsgNo) (m : Message) (change : Message → Message) → Some m ≡ message_at held life number → with_message held life number (change m) ≡ changed held life number change
-unfolding put_back
-change_put held life number m change is = ap (λ o. put_back held life number (option_map change o)) is
+  -- what was held with the message changed, where w is the changed one
+  pub with_changed : (change : Message → Message) → w ≡ change m → with_message held life number w ≡ changed held life number change
+  unfolding put_back
+  with_changed change is = ap (with_message held life number) is ∙ ap (λ o. put_back held life number (option_map change o)) was
 
 -- what is held beside the entries that hold it
 module _ (size : ℕ) (es : Entries) (held : Held) (is : held_of size es ≡ held) where
@@ -89,13 +92,3 @@ module _ (size : ℕ) (es : Entries) (held : Held) (is : held_of size es ≡ hel
     held_without at =
         ap (held_in size) (map_without message_order_total message_order-IsAntisymmetric es fs (key_of life number) at)
         ∙ ap (λ h. without_message h life number) is
-
-    module _ (m w : Message) (was : Some m ≡ message_at held life number) (writes : Changes message_order es fs (key_of life number) (Some w)) where
-      -- the messages after one was changed
-      pub held_changed : (change : Message → Message) → w ≡ change m → held_of size fs ≡ changed held life number change
-      held_changed change new =
-          held_with w writes ∙ ap (with_message held life number) new ∙ change_put held life number m change was
-
-      -- the messages after one was written as it was
-      pub held_rewritten : w ≡ m → held_of size fs ≡ held
-      held_rewritten new = held_with w writes ∙ ap (with_message held life number) new ∙ same_message held life number m was

@@ -1,10 +1,13 @@
 //! Messages that were heard and are not matched yet.
 ghost use Rattle.std.specs.Prelude.{◌≡◌, ◌⊎◌, ◌↔◌, ◌<◌, ◌≤◌, length, Ok, Err, None, Some, IfOk, IsTrue, OnOk, OnErr, IsSome};
 ghost use Rattle.std.specs.Option.{option_copied, IsSomeAnd};
+ghost use Rattle.std.specs.Borrow.{sem, Lends};
 ghost use Rattle.std.specs.FinMap as map;
 ghost use Rattle.rdm_window.specs.Message.{opened, Awaits, filled, room, with_room, with_spent};
 ghost use Rattle.rdm_window.specs.Early.{none_held, message_at, with_message, hold_answer, after_hold, changed, without_message, without_life, IsHeldOf};
 ghost use Rattle.rdm_window.specs.Early as held;
+ghost use Rattle.rdm_window.specs.contracts.early.Early.{the_row};
+ghost use Rattle.rdm_window.specs.contracts.message.EarlyMessage.{the_row as message_row};
 
 use crate::message::EarlyMessage;
 use rdm_num::{Head, Life, MsgNo, NoMemory};
@@ -94,10 +97,7 @@ impl Early {
         ensures room { OnOk result (IsSomeAnd (message_at self.new life no) (λ m. 0 < room m)) }
         ensures err { OnErr result (self.new ≡ self.old) }
     {
-        match self.messages.get_mut(&key(life, no)) {
-            Some(message) => message.reserve_add(),
-            None => unreachable!(),
-        }
+        self.held_mut(life, no).reserve_add()
     }
 
     /// Adds a piece to a message that is held, of which no byte came. It wants no memory, and spends one
@@ -107,10 +107,7 @@ impl Early {
         requires room { IsSomeAnd (message_at self.old life no) (λ m. 0 < room m) }
         ensures { self.new ≡ changed self.old life no (λ m. with_spent (filled m at bytes.now)) }
     {
-        match self.messages.get_mut(&key(life, no)) {
-            Some(message) => message.add_reserved(at, bytes),
-            None => unreachable!(),
-        }
+        self.held_mut(life, no).add_reserved(at, bytes);
     }
 
     /// Adds a piece to a message that is held, of which no byte came.
@@ -119,8 +116,18 @@ impl Early {
         ensures ok { OnOk result (self.new ≡ changed self.old life no (λ m. filled m at bytes.now)) }
         ensures err { OnErr result (self.new ≡ self.old) }
     {
+        self.held_mut(life, no).add(at, bytes)
+    }
+
+    /// The message with that number, which is held, for writing.
+    #[inline(always)]
+    fn held_mut(&mut self, life: Life, no: MsgNo) -> &mut EarlyMessage
+        requires { IsSome (message_at self.old life no) }
+        ensures* writes_back { sem 𝓛 (Lends the_row message_row self.entry result (with_message self.old life no)) }
+        ensures value { Some result.now ≡ message_at self.old life no }
+    {
         match self.messages.get_mut(&key(life, no)) {
-            Some(message) => message.add(at, bytes),
+            Some(message) => message,
             None => unreachable!(),
         }
     }
