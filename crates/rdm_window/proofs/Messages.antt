@@ -1,8 +1,9 @@
 -- The messages that are held beside the tree map that keeps them.
-use Rattle.std.proofs.Common.{◌≡◌, refl, sym, ap, ◌∙◌, ℕ, ◌+◌, ◌<◌, ◌≤◌, Bool, true, false, List, Option, Some, None, length, arith, IsSome}
-use Rattle.std.specs.Ordering.{nat_cmp, eq_by_cmp}
-use Rattle.std.specs.Cmp.{IsTotalOrder, Equal-is, nat_cmp_total, then_total, on_total}
+use Rattle.std.proofs.Common.{◌≡◌, refl, sym, ap, subst, ◌∙◌, ℕ, ◌+◌, ◌<◌, ◌≤◌, Bool, true, false, List, Option, Some, None, length, arith, IsSome}
+use Rattle.std.specs.Ordering.{nat_cmp, is_eq, eq_by_cmp}
+use Rattle.std.specs.Cmp.{IsTotalOrder, Equal-is, tied_itself, nat_cmp_total, then_total, on_total}
 use Rattle.std.specs.Prelude.{cond, is_some, option_map}
+use Rattle.std.specs.Option.{IsSomeAnd}
 use Rattle.std.specs.List.Sorted.{IsStrictlySortedBy}
 use Rattle.std.specs.Map.{lookup, keys_of}
 use Rattle.std.specs.BTreeMap.{is_at}
@@ -10,7 +11,7 @@ use Rattle.std.specs.FinMap as map
 use Rattle.std.proofs.lemmas.Map.Lookups.{exact_pairs, exact_unsigned}
 use Rattle.rdm_num.specs.declared.numbers.Life.{Life}
 use Rattle.rdm_num.specs.declared.numbers.MsgNo.{MsgNo}
-use Rattle.rdm_window.specs.Message.{Message}
+use Rattle.rdm_window.specs.Message.{Message, room, with_room}
 use Rattle.rdm_window.specs.Early.{Key, Held, message_order, key_of, message_at, with_message, without_message, put_back, changed}
 use Rattle.rdm_window.proofs.Maps.{Changes, get_is_lookup, len_is_length, map_after, map_without}
 
@@ -61,6 +62,18 @@ module _ (held : Held) (life : Life) (number : MsgNo) (m w : Message) (was : Som
   pub with_changed : (change : Message → Message) → w ≡ change m → with_message held life number w ≡ changed held life number change
   unfolding put_back
   with_changed change is = ap (with_message held life number) is ∙ ap (λ o. put_back held life number (option_map change o)) was
+
+-- a message that was put in a place is there
+at_with : (held : Held) (life : Life) (number : MsgNo) (w : Message) → message_at (with_message held life number w) life number ≡ Some w
+at_with held life number w =
+    map.get-insert message_order_total held.messages (key_of life number) w (key_of life number)
+    ∙ ap (λ r. cond (is_eq r) (Some w) (map.get held.messages (key_of life number))) (tied_itself message_order_total (key_of life number))
+
+-- a reservation that was made for a message that is held can be spent
+pub has_room : (held : Held) (life : Life) (number : MsgNo) (m w : Message) → w ≡ with_room m → IsSomeAnd (message_at (with_message held life number w) life number) (λ n. 0 < room n)
+has_room held life number m w is =
+    let more : 0 < room w = let some : 0 < room (with_room m) = omega arith in rw is some in
+    subst (λ o. IsSomeAnd o (λ n. 0 < room n)) (sym (at_with held life number w)) more
 
 -- what is held beside the entries that hold it
 module _ (size : ℕ) (es : Entries) (held : Held) (is : held_of size es ≡ held) where
