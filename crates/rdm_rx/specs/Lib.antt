@@ -1,0 +1,2 @@
+-- What a matched receive asks for, grants and ends with.
+pub mod Owing
