@@ -1,2 +1,4 @@
 -- What a matched receive asks for, grants and ends with.
+pub mod Asking
+pub mod Left
 pub mod Owing

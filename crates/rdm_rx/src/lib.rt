@@ -1,8 +1,10 @@
 //! What a matched receive asks for, grants and ends with. Nothing here takes memory or is refused.
 #![tactic(auto)]
 
+mod asks;
 mod ends;
 mod grants;
 
+pub use asks::Asks;
 pub use ends::end;
 pub use grants::{grant, next_window};

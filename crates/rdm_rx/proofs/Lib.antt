@@ -1,0 +1,3 @@
+-- Lemmas on the asks of a read.
+pub mod Steps
+pub mod Padding

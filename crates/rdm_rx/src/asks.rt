@@ -1,0 +1,96 @@
+//! What a receive asks for of a message that it reads.
+ghost use Rattle.std.specs.Prelude.{◌≡◌, ◌<◌, ◌≤◌, ◌^◌, ◌==◌, IsTrue, length, slice_get, drop};
+ghost use Rattle.std.specs.List.{list_all};
+ghost use Rattle.rdm_model.specs.Reads.{asks_from};
+ghost use Rattle.rdm_rx.specs.Asking.{IsReadList, read_length, has_end, padded_list};
+
+use rdm_num::{ASK_MAX, Iov, IovEntry, OpId};
+use rdm_wire::ReadAsk;
+
+/// The most ranges of a read list.
+const RANGES_MAX: usize = 4;
+
+/// A range with no bytes, which no ask is for.
+const NO_RANGE: IovEntry = IovEntry {
+    offset: 0,
+    length: 0,
+    key: 0,
+};
+
+/// The asks of one read that are left, in rising order.
+#[derive(Clone, Copy, Debug, PartialEq, Eq)]
+pub struct Asks {
+    send_id: OpId,
+    recv_id: OpId,
+    /// The read list, with empty ranges after its last one.
+    ranges: [IovEntry; RANGES_MAX],
+    /// How many bytes of the message were asked for, or came otherwise.
+    at: u64,
+    ghost ends: { IsTrue (list_all has_end ranges) },
+    ghost few_bytes: { read_length ranges < 2 ^ 64 },
+}
+
+impl Asks {
+    ghost use Rattle.rdm_rx.specs.Left.{left};
+
+    /// The asks of a read from that byte of the message on, where `iov` lists the whole message.
+    pub fn new(send: OpId, recv: OpId, iov: &Iov, from: u64) -> Asks
+        requires { IsReadList iov.now }
+        ensures { left result ≡ asks_from send recv iov.now 0 from }
+    {
+        Asks {
+            send_id: send,
+            recv_id: recv,
+            ranges: padded(iov.as_slice()),
+            at: from,
+        }
+    }
+
+    /// The ask that goes out next, if one is left.
+    pub fn first(&self) -> Option<ReadAsk>
+        ensures { result ≡ slice_get (left self.now) 0 }
+    {
+        let mut begin = 0;
+        for range in &self.ranges {
+            let end = begin + range.length;
+            if self.at < end {
+                return Some(ReadAsk {
+                    send_id: self.send_id,
+                    recv_id: self.recv_id,
+                    key: range.key,
+                    offset: range.offset + (self.at - begin),
+                    length: (end - self.at).min(ASK_MAX),
+                    at: self.at,
+                });
+            }
+            begin = end;
+        }
+        None
+    }
+
+    /// The first ask went out.
+    pub fn step(&mut self)
+        ensures { left self.new ≡ drop 1 (left self.old) }
+    {
+        if let Some(ask) = self.first() {
+            self.at = ask.at + ask.length;
+        }
+    }
+
+    /// Whether all asks went out.
+    pub fn is_done(&self) -> bool
+        ensures { result ≡ (length (left self.now) == 0) }
+    {
+        self.first().is_none()
+    }
+}
+
+/// The ranges, with empty ones after the last.
+fn padded(iov: &[IovEntry]) -> [IovEntry; RANGES_MAX]
+    requires { length iov.now ≤ 4 }
+    ensures { result ≡ padded_list iov.now }
+{
+    let mut ranges = [NO_RANGE; RANGES_MAX];
+    ranges[..iov.len()].copy_from_slice(iov);
+    ranges
+}
