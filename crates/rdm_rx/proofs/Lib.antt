@@ -1,3 +1,4 @@
 -- Lemmas on the asks of a read.
 pub mod Steps
 pub mod Padding
+pub mod ReadLists

@@ -4,6 +4,8 @@
 mod asks;
 mod ends;
 mod grants;
+#[cfg(test)]
+mod tests;
 
 pub use asks::Asks;
 pub use ends::end;
