@@ -17,7 +17,8 @@ const NO_RANGE: IovEntry = IovEntry {
     key: 0,
 };
 
-/// The asks of one read that are left, in rising order.
+/// The asks of one read that are left, in rising order. An endpoint owes them as one answer, from
+/// the match until the last of them went out. It is a few numbers, so a copy takes no memory.
 #[derive(Clone, Copy, Debug, PartialEq, Eq)]
 pub struct Asks {
     send_id: OpId,
@@ -33,7 +34,8 @@ pub struct Asks {
 impl Asks {
     ghost use Rattle.rdm_rx.specs.Left.{left};
 
-    /// The asks of a read from that byte of the message on, where `iov` lists the whole message.
+    /// The asks of a read from that byte of the message on: from 0, or past the first part where the
+    /// message has one. `iov` lists the whole message.
     pub fn new(send: OpId, recv: OpId, iov: &Iov, from: u64) -> Asks
         requires { IsReadList iov.now }
         ensures { left result ≡ asks_from send recv iov.now 0 from }
@@ -68,7 +70,7 @@ impl Asks {
         None
     }
 
-    /// The first ask went out.
+    /// The first ask went out. Where none is left, nothing changes.
     pub fn step(&mut self)
         ensures { left self.new ≡ drop 1 (left self.old) }
     {
