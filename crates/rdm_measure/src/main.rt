@@ -1,27 +1,58 @@
-//! Work to be timed from outside: `hash COUNT` inserts into a hash map, and `bins COUNT AHEAD`
-//! posts receives and lets their messages arrive, each of a tag of its own.
+//! Work to be timed from outside: a part of an endpoint, or what std has for the like of it. The words are
+//! what is done, how often, and for `bins` how many receives are posted ahead.
 #![tactic(auto)]
 
-ghost use Rattle.std.specs.Prelude.{◌≡◌, ℕ, ◌<◌, false};
-ghost use Rattle.rdm_match.specs.Waiting.{is_posted};
+mod hearing;
+mod landing;
+mod matching;
+mod owing;
+mod sending;
 
-use rdm_bins::Bins;
-use rdm_match::{Arrived, PostedRecv, TagMatcher};
-use rdm_num::{Connid, Life, MsgNo, NoMemory, PortNo, RecvNo, Want};
+use rdm_num::NoMemory;
 use std::alloc::Global;
-use std::collections::HashMap;
 use std::{env, io};
+
+/// What is timed: a part of an endpoint, after its equal in std.
+#[derive(Clone, Copy)]
+enum Work {
+    Hash,
+    Bins,
+    Set,
+    Window,
+    Copy,
+    Send,
+    Write,
+    Land,
+    Queue,
+    Owed,
+}
 
 fn main(rt: HostRuntime) -> io::Result<()> {
     let words = env::args(&rt)?.skip(1).collect::<Vec<String>>(rt.alloc())?;
     let count = number_at(words.as_slice(), 1);
-    let is_hash = words.first().is_some_and(|word| word.as_str() == "hash");
-    let done = if is_hash {
-        inserts(rt.alloc(), count)?
-    } else {
-        meetings(rt.alloc(), count, number_at(words.as_slice(), 2))?
+    let ahead = number_at(words.as_slice(), 2);
+    let done = match words.first().and_then(|word| work_of(word.as_str())) {
+        Some(work) => done(rt.alloc(), work, count, ahead)?,
+        None => 0,
     };
     println!(rt; "{done}")
+}
+
+/// The work that a word names.
+fn work_of(word: &str) -> Option<Work> {
+    match word {
+        "hash" => Some(Work::Hash),
+        "bins" => Some(Work::Bins),
+        "set" => Some(Work::Set),
+        "window" => Some(Work::Window),
+        "copy" => Some(Work::Copy),
+        "send" => Some(Work::Send),
+        "write" => Some(Work::Write),
+        "land" => Some(Work::Land),
+        "queue" => Some(Work::Queue),
+        "owed" => Some(Work::Owed),
+        _ => None,
+    }
 }
 
 /// The number that a word spells, or 0.
@@ -32,70 +63,23 @@ fn number_at(words: &[String], at: usize) -> u64 {
     word.parse::<u64>().unwrap_or(0)
 }
 
-/// The tag of a number: each has another, and they jump about.
-fn tag_of(number: u64) -> u64 {
-    number.wrapping_mul(0x9E37_79B9_7F4A_7C15)
-}
-
-/// Inserts so many numbers by their tags, and gives how many there are then.
-fn inserts(alloc: Global, count: u64) -> Result<u64, NoMemory> {
-    let mut numbers = HashMap::new(alloc);
-    for number in 0..count {
-        numbers.insert(tag_of(number), number)?;
+/// Does the work so often, and gives a number that shows that it was done.
+fn done(alloc: Global, work: Work, count: u64, ahead: u64) -> Result<u64, NoMemory> {
+    match work {
+        Work::Hash => matching::inserts(alloc, count),
+        Work::Bins => matching::meetings(alloc, count, ahead),
+        Work::Set => hearing::inserts(alloc, count),
+        Work::Window => hearing::heard(alloc, count),
+        Work::Copy => sending::copies(alloc, count),
+        Work::Send => sending::sends(alloc, count),
+        Work::Write => landing::writes(alloc, count),
+        Work::Land => landing::landings(alloc, count),
+        Work::Queue => owing::queued(alloc, count),
+        Work::Owed => owing::owed(alloc, count),
     }
-    let len = numbers.len();
-    Ok(u64::try_from(len).unwrap_or(u64::MAX))
 }
 
-/// Posts so many receives. A message arrives once so many further receives are posted; in the end the
-/// others arrive. Gives how many messages met a receive.
-#[tactic(auto, unfolding(rdm_match::specs::Waiting::is_posted))]
-fn meetings(alloc: Global, count: u64, ahead: u64) -> Result<u64, NoMemory> {
-    let mut bins = Bins::new(alloc);
-    let mut met = 0u64;
-    for number in 0..count {
-        post(&mut bins, number)?;
-        if number >= ahead {
-            met = met.saturating_add(arrive(&mut bins, number - ahead)?);
-        }
-    }
-    for number in count.saturating_sub(ahead)..count {
-        met = met.saturating_add(arrive(&mut bins, number)?);
-    }
-    Ok(met)
-}
-
-/// Posts the receive of a number.
-#[tactic(auto, using(rdm_match::proofs::Unposted::free_after_post))]
-fn post(bins: &mut Bins, number: u64) -> Result<(), NoMemory>
-    requires { is_posted bins.old.waiting number ≡ false }
-    ensures { (k : ℕ) → number < k → is_posted bins.old.waiting k ≡ false → is_posted bins.new.waiting k ≡ false }
-{
-    let r = PostedRecv {
-        id: RecvNo(number),
-        from: None,
-        want: Some(Want {
-            tag: tag_of(number),
-            ignore: 0,
-        }),
-    };
-    bins.post(r)?;
-    Ok(())
-}
-
-/// Lets the message of a number arrive, and gives 1 if it met a receive.
-#[tactic(auto, using(rdm_match::proofs::Unposted::free_after_arrive))]
-fn arrive(bins: &mut Bins, number: u64) -> Result<u64, NoMemory>
-    ensures { (k : ℕ) → is_posted bins.old.waiting k ≡ false → is_posted bins.new.waiting k ≡ false }
-{
-    let a = Arrived {
-        life: Life {
-            port: PortNo(0),
-            connid: Connid(5),
-        },
-        no: MsgNo(0),
-        tag: Some(tag_of(number)),
-    };
-    let met = bins.arrive(a)?.is_some();
-    Ok(u64::from(met))
+/// So many bytes, each 1.
+fn ones(alloc: Global, len: usize) -> Result<Vec<u8>, NoMemory> {
+    vec![in alloc; 1; len]
 }

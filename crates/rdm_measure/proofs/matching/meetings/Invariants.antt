@@ -1,6 +1,6 @@
 use Rattle.std.proofs.Common.{◌≡◌, ℕ, ◌≤◌, false}
 use Rattle.rdm_match.specs.Waiting.{is_posted}
-use Rattle.rdm_measure.proofs.meetings.Given as goal
+use Rattle.rdm_measure.proofs.matching.meetings.Given as goal
 
 -- no receive is posted of the number that comes now, nor of a later one
 abbrev pub invariant-loop-number : goal.invariant-loop-number
