@@ -9,7 +9,7 @@ use Rattle.rdm_pkt.specs.declared.Packet.TheVariants.{Rtm, Handshake, Receipt}
 use Rattle.rdm_pkt.specs.declared.Form.TheVariants as Form
 use Rattle.rdm_pkt.specs.declared.Kind.TheVariants as Kind
 use Rattle.rdm_match.specs.Matcher.{Pair}
-use Rattle.rdm_model.specs.declared.job.Instr.TheVariants.{OpenLife, Insert, Reg, Send, Recv, Wait}
+use Rattle.rdm_model.specs.declared.job.Instr.TheVariants.{OpenLife, Insert, Reg, Wait}
 use Rattle.rdm_model.specs.declared.report.Report.{Report}
 use Rattle.rdm_model.specs.Deeds.{Spelled}
 use Rattle.rdm_model.specs.Scenes.{Scene}
@@ -22,13 +22,10 @@ use Rattle.rdm_model.specs.Lawful.{Lawful, IsReceived, IsPartOf, IsApart, sent_s
 use Rattle.rdm_model.specs.Reports.{RightReport}
 use Rattle.rdm_law.specs.Headline.{SaysRight}
 use Rattle.rdm_law.proofs.Central.TheLaw.{the_headline}
-use Rattle.rdm_rows.proofs.Greeted.{zero_five, nothing, nothing_either, IsOpened, opened, port_apart, number_apart}
+use Rattle.rdm_rows.proofs.Greeted.{nothing, nothing_either, IsOpened, opened, port_apart, number_apart}
 use Rattle.rdm_rows.proofs.Confirming.{job, history, before_hello, before_receipt, log_0, log_1}
+use Rattle.rdm_rows.specs.Jobs.{zero_five, one_seven, send_with, recv}
 use Rattle.rdm_rows.specs.Words.{every_word}
-
--- the life of rank 1
-abbrev pub one_seven : Life
-one_seven = record { port = record { 0 = 1 }; connid = record { 0 = 7 } }
 
 -- the send of `hello`, as it was accepted
 abbrev pub hello : Sent
@@ -87,7 +84,7 @@ received t m =
 pub history_is_lawful : Lawful job history
 unfolding every_word
 history_is_lawful =
-    (((((((((((((((((((((((tt, tt, tt, (refl, omega arith, (refl, (OpenLife (record { 0 = 5 }), refl, refl, refl), refl)), λ source n p e. nothing p e, λ t m c f. elim m [ ]), inr (refl, omega arith), tt, (refl, omega arith, (refl, (OpenLife (record { 0 = 7 }), refl, refl, refl), refl)), λ source n p e. nothing p e, λ t m c f. elim m [ ]), inl (omega arith), tt, (refl, omega arith, (refl, refl, refl, (GoesNote (record { to = record { 0 = 1 }; body = NoteBody.Opened (record { 0 = 5 }) }), refl, (refl, refl)))), λ source n p e. nothing p e, λ t m c f. elim m [ ]), inr (refl, omega arith), tt, (refl, omega arith, (refl, refl, refl, (GoesNote (record { to = record { 0 = 0 }; body = NoteBody.Opened (record { 0 = 7 }) }), refl, (refl, refl)))), λ source n p e. nothing p e, λ t m c f. elim m [ ]), inl (omega arith), (refl, inl refl, ((((tt, tt), tt), tt), tt)), (refl, omega arith, (refl, refl)), λ source n p e. nothing p e, λ t m c f. elim m [ ]), inr (refl, omega arith), (refl, inr (inl refl), (((((tt, tt), tt), tt), tt), λ s n. omega (arith, port_apart _ _ s))), (refl, omega arith, (refl, refl)), λ source n p e. nothing p e, λ t m c f. elim m [ ]), inl (omega arith), tt, (refl, omega arith, (refl, (Insert (record { port = record { 0 = 1 }; connid = record { 0 = 7 } }), refl, refl, refl), refl)), λ source n p e. nothing p e, λ t m c f. elim m [ ]), inr (refl, omega arith), tt, (refl, omega arith, (refl, (Reg (replicate 8 0), refl, refl, refl), refl)), λ source n p e. nothing p e, λ t m c f. elim m [ ]), inl (omega arith), tt, (refl, omega arith, (refl, refl, refl, (Goes (record { port = record { 0 = 1 }; connid = record { 0 = 7 } }) (Spelled (Handshake (27 ∷ []) (record { 0 = 5 }) (Some (record { 0 = 0 })))), refl, (refl, (Load.Packet (9 ∷ 4 ∷ 1 ∷ 0 ∷ 4 ∷ 0 ∷ 0 ∷ 0 ∷ 27 ∷ 0 ∷ 0 ∷ 0 ∷ 0 ∷ 0 ∷ 0 ∷ 0 ∷ 32 ∷ 0 ∷ 0 ∷ 0 ∷ 0 ∷ 0 ∷ 0 ∷ 0 ∷ 0 ∷ 0 ∷ 0 ∷ 0 ∷ 0 ∷ 0 ∷ 0 ∷ 0 ∷ 0 ∷ 0 ∷ 0 ∷ 0 ∷ 1 ∷ 0 ∷ 0 ∷ 0 ∷ 5 ∷ 0 ∷ 0 ∷ 0 ∷ 0 ∷ 0 ∷ 0 ∷ 0 ∷ 0 ∷ 0 ∷ 0 ∷ 0 ∷ []), refl, (refl, refl)))))), λ source n p e. nothing p e, λ t m c f. elim m [ ]), inr (refl, omega arith), tt, (refl, omega arith, (refl, (Recv (record { from = None; region = record { 0 = 0 }; at = 0; len = 8; want = Some (record { tag = 7; ignore = 0 }) }), refl, refl, refl), refl)), λ source n p e. nothing p e, λ t m c f. elim m [ ]), inl (omega arith), tt, (refl, omega arith, (refl, (Reg (104 ∷ 101 ∷ 108 ∷ 108 ∷ 111 ∷ []), refl, refl, refl), refl)), λ source n p e. nothing p e, λ t m c f. elim m [ ]), inr (refl, omega arith), (refl, inr (inl refl), (((((((((((tt, tt), tt), tt), tt), λ s n. omega (arith, port_apart _ _ s)), λ s n. omega (arith, number_apart _ _ n)), tt), tt), tt), tt), tt)), (refl, omega arith, (refl, refl)), λ source n p e. nothing_either _ p e, λ t m c f. elim m [ ]), inl (omega arith), tt, (refl, omega arith, (refl, refl, refl, (Goes (record { port = record { 0 = 0 }; connid = record { 0 = 5 } }) (Spelled (Handshake (27 ∷ []) (record { 0 = 7 }) None)), refl, (refl, (Load.Packet (9 ∷ 4 ∷ 0 ∷ 128 ∷ 4 ∷ 0 ∷ 0 ∷ 0 ∷ 27 ∷ 0 ∷ 0 ∷ 0 ∷ 0 ∷ 0 ∷ 0 ∷ 0 ∷ 7 ∷ 0 ∷ 0 ∷ 0 ∷ []), refl, (refl, refl)))))), λ source n p e. nothing p e, λ t m c f. elim m [ ]), inl (omega arith), (refl, inl refl, (((((((((((((tt, tt), tt), tt), tt), λ s n. omega (arith, number_apart _ _ n)), λ s n. omega (arith, port_apart _ _ s)), tt), tt), tt), tt), tt), λ s n. omega (arith, port_apart _ _ s)), tt)), (refl, omega arith, (refl, refl)), λ source n p e. nothing_either _ p e, λ t m c f. elim m [ ]), inl (omega arith), tt, (refl, omega arith, (refl, (Send (record { to = record { 0 = 1 }; parts = record { region = record { 0 = 0 }; at = 0; len = 5 } ∷ []; tag = (Some 7); cq_data = None; confirm = true }), refl, refl, refl), refl)), λ source n p e. nothing p e, λ t m c f. elim m [ ]), inl (omega arith), tt, (refl, omega arith, (refl, refl, refl, (Goes (record { port = record { 0 = 1 }; connid = record { 0 = 7 } }) (Spelled (Rtm (record { 0 = 0 }) (Some 7) true (record { raw = None; cq_data = None; connid = Some 5 }) (Form.Eager (104 ∷ 101 ∷ 108 ∷ 108 ∷ 111 ∷ [])))), refl, (refl, (Load.Packet (201 ∷ 4 ∷ 8 ∷ 128 ∷ 0 ∷ 0 ∷ 0 ∷ 0 ∷ 7 ∷ 0 ∷ 0 ∷ 0 ∷ 0 ∷ 0 ∷ 0 ∷ 0 ∷ 5 ∷ 0 ∷ 0 ∷ 0 ∷ 104 ∷ 101 ∷ 108 ∷ 108 ∷ 111 ∷ []), refl, (refl, refl)))))), λ source n p e. nothing p e, λ t m c f. elim m [ ]), inl (omega arith), (refl, inl refl, ((((((((((((((((tt, tt), tt), tt), tt), λ s n. omega (arith, port_apart _ _ s)), λ s n. omega (arith, number_apart _ _ n)), tt), tt), tt), tt), tt), λ s n. omega (arith, number_apart _ _ n)), tt), λ s n. omega (arith, port_apart _ _ s)), tt), tt)), (refl, omega arith, (refl, refl)), λ source n p e. carries_hello source n p (opened source n _ p e), λ t m c f. elim m [ ]), inl (omega arith), tt, (refl, omega arith, refl), λ source n p e. nothing p e, λ t m c f. elim m [ ]), inl (omega arith), tt, (refl, omega arith, (refl, (Wait 1, refl, refl, refl), refl)), λ source n p e. nothing p e, λ t m c f. elim m [ ]), inl (omega arith), tt, (refl, omega arith, (refl, refl, refl, (Goes (record { port = record { 0 = 0 }; connid = record { 0 = 5 } }) (Spelled (Receipt (record { 0 = 0 }) (record { 0 = 7 }))), refl, (refl, (Load.Packet (10 ∷ 4 ∷ 0 ∷ 128 ∷ 0 ∷ 0 ∷ 0 ∷ 0 ∷ 7 ∷ 0 ∷ 0 ∷ 0 ∷ []), refl, (refl, refl)))))), λ source n p e. nothing p e, λ t m c f. elim m [ ]), inl (omega arith), (refl, inl refl, ((((((((((((((((((((tt, tt), tt), tt), tt), λ s n. omega (arith, number_apart _ _ n)), λ s n. omega (arith, port_apart _ _ s)), tt), tt), tt), tt), tt), λ s n. omega (arith, port_apart _ _ s)), tt), λ s n. omega (arith, number_apart _ _ n)), tt), tt), λ s n. omega (arith, port_apart _ _ s)), tt), tt), tt)), (refl, omega arith, (refl, refl)), λ source n p e. nothing_either _ p e, λ t m c f. received t m), inl (omega arith), tt, (refl, omega arith, refl), λ source n p e. nothing p e, λ t m c f. elim m [ ]), inl (omega arith), tt, (refl, omega arith, (refl, (Wait 1, refl, refl, refl), refl)), λ source n p e. nothing p e, λ t m c f. elim m [ ])
+    (((((((((((((((((((((((tt, tt, tt, (refl, omega arith, (refl, (OpenLife (record { 0 = 5 }), refl, refl, refl), refl)), λ source n p e. nothing p e, λ t m c f. elim m [ ]), inr (refl, omega arith), tt, (refl, omega arith, (refl, (OpenLife (record { 0 = 7 }), refl, refl, refl), refl)), λ source n p e. nothing p e, λ t m c f. elim m [ ]), inl (omega arith), tt, (refl, omega arith, (refl, refl, refl, (GoesNote (record { to = record { 0 = 1 }; body = NoteBody.Opened (record { 0 = 5 }) }), refl, (refl, refl)))), λ source n p e. nothing p e, λ t m c f. elim m [ ]), inr (refl, omega arith), tt, (refl, omega arith, (refl, refl, refl, (GoesNote (record { to = record { 0 = 0 }; body = NoteBody.Opened (record { 0 = 7 }) }), refl, (refl, refl)))), λ source n p e. nothing p e, λ t m c f. elim m [ ]), inl (omega arith), (refl, inl refl, ((((tt, tt), tt), tt), tt)), (refl, omega arith, (refl, refl)), λ source n p e. nothing p e, λ t m c f. elim m [ ]), inr (refl, omega arith), (refl, inr (inl refl), (((((tt, tt), tt), tt), tt), λ s n. omega (arith, port_apart _ _ s))), (refl, omega arith, (refl, refl)), λ source n p e. nothing p e, λ t m c f. elim m [ ]), inl (omega arith), tt, (refl, omega arith, (refl, (Insert one_seven, refl, refl, refl), refl)), λ source n p e. nothing p e, λ t m c f. elim m [ ]), inr (refl, omega arith), tt, (refl, omega arith, (refl, (Reg (replicate 8 0), refl, refl, refl), refl)), λ source n p e. nothing p e, λ t m c f. elim m [ ]), inl (omega arith), tt, (refl, omega arith, (refl, refl, refl, (Goes one_seven (Spelled (Handshake (27 ∷ []) (record { 0 = 5 }) (Some (record { 0 = 0 })))), refl, (refl, (Load.Packet (9 ∷ 4 ∷ 1 ∷ 0 ∷ 4 ∷ 0 ∷ 0 ∷ 0 ∷ 27 ∷ 0 ∷ 0 ∷ 0 ∷ 0 ∷ 0 ∷ 0 ∷ 0 ∷ 32 ∷ 0 ∷ 0 ∷ 0 ∷ 0 ∷ 0 ∷ 0 ∷ 0 ∷ 0 ∷ 0 ∷ 0 ∷ 0 ∷ 0 ∷ 0 ∷ 0 ∷ 0 ∷ 0 ∷ 0 ∷ 0 ∷ 0 ∷ 1 ∷ 0 ∷ 0 ∷ 0 ∷ 5 ∷ 0 ∷ 0 ∷ 0 ∷ 0 ∷ 0 ∷ 0 ∷ 0 ∷ 0 ∷ 0 ∷ 0 ∷ 0 ∷ []), refl, (refl, refl)))))), λ source n p e. nothing p e, λ t m c f. elim m [ ]), inr (refl, omega arith), tt, (refl, omega arith, (refl, (recv 0 8 7, refl, refl, refl), refl)), λ source n p e. nothing p e, λ t m c f. elim m [ ]), inl (omega arith), tt, (refl, omega arith, (refl, (Reg (104 ∷ 101 ∷ 108 ∷ 108 ∷ 111 ∷ []), refl, refl, refl), refl)), λ source n p e. nothing p e, λ t m c f. elim m [ ]), inr (refl, omega arith), (refl, inr (inl refl), (((((((((((tt, tt), tt), tt), tt), λ s n. omega (arith, port_apart _ _ s)), λ s n. omega (arith, number_apart _ _ n)), tt), tt), tt), tt), tt)), (refl, omega arith, (refl, refl)), λ source n p e. nothing_either _ p e, λ t m c f. elim m [ ]), inl (omega arith), tt, (refl, omega arith, (refl, refl, refl, (Goes zero_five (Spelled (Handshake (27 ∷ []) (record { 0 = 7 }) None)), refl, (refl, (Load.Packet (9 ∷ 4 ∷ 0 ∷ 128 ∷ 4 ∷ 0 ∷ 0 ∷ 0 ∷ 27 ∷ 0 ∷ 0 ∷ 0 ∷ 0 ∷ 0 ∷ 0 ∷ 0 ∷ 7 ∷ 0 ∷ 0 ∷ 0 ∷ []), refl, (refl, refl)))))), λ source n p e. nothing p e, λ t m c f. elim m [ ]), inl (omega arith), (refl, inl refl, (((((((((((((tt, tt), tt), tt), tt), λ s n. omega (arith, number_apart _ _ n)), λ s n. omega (arith, port_apart _ _ s)), tt), tt), tt), tt), tt), λ s n. omega (arith, port_apart _ _ s)), tt)), (refl, omega arith, (refl, refl)), λ source n p e. nothing_either _ p e, λ t m c f. elim m [ ]), inl (omega arith), tt, (refl, omega arith, (refl, (send_with true 1 0 5 7, refl, refl, refl), refl)), λ source n p e. nothing p e, λ t m c f. elim m [ ]), inl (omega arith), tt, (refl, omega arith, (refl, refl, refl, (Goes one_seven (Spelled (Rtm (record { 0 = 0 }) (Some 7) true (record { raw = None; cq_data = None; connid = Some 5 }) (Form.Eager (104 ∷ 101 ∷ 108 ∷ 108 ∷ 111 ∷ [])))), refl, (refl, (Load.Packet (201 ∷ 4 ∷ 8 ∷ 128 ∷ 0 ∷ 0 ∷ 0 ∷ 0 ∷ 7 ∷ 0 ∷ 0 ∷ 0 ∷ 0 ∷ 0 ∷ 0 ∷ 0 ∷ 5 ∷ 0 ∷ 0 ∷ 0 ∷ 104 ∷ 101 ∷ 108 ∷ 108 ∷ 111 ∷ []), refl, (refl, refl)))))), λ source n p e. nothing p e, λ t m c f. elim m [ ]), inl (omega arith), (refl, inl refl, ((((((((((((((((tt, tt), tt), tt), tt), λ s n. omega (arith, port_apart _ _ s)), λ s n. omega (arith, number_apart _ _ n)), tt), tt), tt), tt), tt), λ s n. omega (arith, number_apart _ _ n)), tt), λ s n. omega (arith, port_apart _ _ s)), tt), tt)), (refl, omega arith, (refl, refl)), λ source n p e. carries_hello source n p (opened source n _ p e), λ t m c f. elim m [ ]), inl (omega arith), tt, (refl, omega arith, refl), λ source n p e. nothing p e, λ t m c f. elim m [ ]), inl (omega arith), tt, (refl, omega arith, (refl, (Wait 1, refl, refl, refl), refl)), λ source n p e. nothing p e, λ t m c f. elim m [ ]), inl (omega arith), tt, (refl, omega arith, (refl, refl, refl, (Goes zero_five (Spelled (Receipt (record { 0 = 0 }) (record { 0 = 7 }))), refl, (refl, (Load.Packet (10 ∷ 4 ∷ 0 ∷ 128 ∷ 0 ∷ 0 ∷ 0 ∷ 0 ∷ 7 ∷ 0 ∷ 0 ∷ 0 ∷ []), refl, (refl, refl)))))), λ source n p e. nothing p e, λ t m c f. elim m [ ]), inl (omega arith), (refl, inl refl, ((((((((((((((((((((tt, tt), tt), tt), tt), λ s n. omega (arith, number_apart _ _ n)), λ s n. omega (arith, port_apart _ _ s)), tt), tt), tt), tt), tt), λ s n. omega (arith, port_apart _ _ s)), tt), λ s n. omega (arith, number_apart _ _ n)), tt), tt), λ s n. omega (arith, port_apart _ _ s)), tt), tt), tt)), (refl, omega arith, (refl, refl)), λ source n p e. nothing_either _ p e, λ t m c f. received t m), inl (omega arith), tt, (refl, omega arith, refl), λ source n p e. nothing p e, λ t m c f. elim m [ ]), inl (omega arith), tt, (refl, omega arith, (refl, (Wait 1, refl, refl, refl), refl)), λ source n p e. nothing p e, λ t m c f. elim m [ ])
 
 -- the report of this history
 abbrev pub report : Report
@@ -116,9 +113,9 @@ report_says = the_headline job report is_fair_job report_is_right
 local_0 : Local job 0 log_0
 unfolding every_word
 local_0 =
-    ((((((((((((tt, refl, (refl, omega arith, (refl, (OpenLife (record { 0 = 5 }), refl, refl, refl), refl))), refl, (refl, omega arith, (refl, refl, refl, (GoesNote (record { to = record { 0 = 1 }; body = NoteBody.Opened (record { 0 = 5 }) }), refl, (refl, refl))))), refl, (refl, omega arith, (refl, refl))), refl, (refl, omega arith, (refl, (Insert (record { port = record { 0 = 1 }; connid = record { 0 = 7 } }), refl, refl, refl), refl))), refl, (refl, omega arith, (refl, refl, refl, (Goes (record { port = record { 0 = 1 }; connid = record { 0 = 7 } }) (Spelled (Handshake (27 ∷ []) (record { 0 = 5 }) (Some (record { 0 = 0 })))), refl, (refl, (Load.Packet (9 ∷ 4 ∷ 1 ∷ 0 ∷ 4 ∷ 0 ∷ 0 ∷ 0 ∷ 27 ∷ 0 ∷ 0 ∷ 0 ∷ 0 ∷ 0 ∷ 0 ∷ 0 ∷ 32 ∷ 0 ∷ 0 ∷ 0 ∷ 0 ∷ 0 ∷ 0 ∷ 0 ∷ 0 ∷ 0 ∷ 0 ∷ 0 ∷ 0 ∷ 0 ∷ 0 ∷ 0 ∷ 0 ∷ 0 ∷ 0 ∷ 0 ∷ 1 ∷ 0 ∷ 0 ∷ 0 ∷ 5 ∷ 0 ∷ 0 ∷ 0 ∷ 0 ∷ 0 ∷ 0 ∷ 0 ∷ 0 ∷ 0 ∷ 0 ∷ 0 ∷ []), refl, (refl, refl))))))), refl, (refl, omega arith, (refl, (Reg (104 ∷ 101 ∷ 108 ∷ 108 ∷ 111 ∷ []), refl, refl, refl), refl))), refl, (refl, omega arith, (refl, refl))), refl, (refl, omega arith, (refl, (Send (record { to = record { 0 = 1 }; parts = record { region = record { 0 = 0 }; at = 0; len = 5 } ∷ []; tag = (Some 7); cq_data = None; confirm = true }), refl, refl, refl), refl))), refl, (refl, omega arith, (refl, refl, refl, (Goes (record { port = record { 0 = 1 }; connid = record { 0 = 7 } }) (Spelled (Rtm (record { 0 = 0 }) (Some 7) true (record { raw = None; cq_data = None; connid = Some 5 }) (Form.Eager (104 ∷ 101 ∷ 108 ∷ 108 ∷ 111 ∷ [])))), refl, (refl, (Load.Packet (201 ∷ 4 ∷ 8 ∷ 128 ∷ 0 ∷ 0 ∷ 0 ∷ 0 ∷ 7 ∷ 0 ∷ 0 ∷ 0 ∷ 0 ∷ 0 ∷ 0 ∷ 0 ∷ 5 ∷ 0 ∷ 0 ∷ 0 ∷ 104 ∷ 101 ∷ 108 ∷ 108 ∷ 111 ∷ []), refl, (refl, refl))))))), refl, (refl, omega arith, (refl, refl))), refl, (refl, omega arith, refl)), refl, (refl, omega arith, (refl, (Wait 1, refl, refl, refl), refl)))
+    ((((((((((((tt, refl, (refl, omega arith, (refl, (OpenLife (record { 0 = 5 }), refl, refl, refl), refl))), refl, (refl, omega arith, (refl, refl, refl, (GoesNote (record { to = record { 0 = 1 }; body = NoteBody.Opened (record { 0 = 5 }) }), refl, (refl, refl))))), refl, (refl, omega arith, (refl, refl))), refl, (refl, omega arith, (refl, (Insert one_seven, refl, refl, refl), refl))), refl, (refl, omega arith, (refl, refl, refl, (Goes one_seven (Spelled (Handshake (27 ∷ []) (record { 0 = 5 }) (Some (record { 0 = 0 })))), refl, (refl, (Load.Packet (9 ∷ 4 ∷ 1 ∷ 0 ∷ 4 ∷ 0 ∷ 0 ∷ 0 ∷ 27 ∷ 0 ∷ 0 ∷ 0 ∷ 0 ∷ 0 ∷ 0 ∷ 0 ∷ 32 ∷ 0 ∷ 0 ∷ 0 ∷ 0 ∷ 0 ∷ 0 ∷ 0 ∷ 0 ∷ 0 ∷ 0 ∷ 0 ∷ 0 ∷ 0 ∷ 0 ∷ 0 ∷ 0 ∷ 0 ∷ 0 ∷ 0 ∷ 1 ∷ 0 ∷ 0 ∷ 0 ∷ 5 ∷ 0 ∷ 0 ∷ 0 ∷ 0 ∷ 0 ∷ 0 ∷ 0 ∷ 0 ∷ 0 ∷ 0 ∷ 0 ∷ []), refl, (refl, refl))))))), refl, (refl, omega arith, (refl, (Reg (104 ∷ 101 ∷ 108 ∷ 108 ∷ 111 ∷ []), refl, refl, refl), refl))), refl, (refl, omega arith, (refl, refl))), refl, (refl, omega arith, (refl, (send_with true 1 0 5 7, refl, refl, refl), refl))), refl, (refl, omega arith, (refl, refl, refl, (Goes one_seven (Spelled (Rtm (record { 0 = 0 }) (Some 7) true (record { raw = None; cq_data = None; connid = Some 5 }) (Form.Eager (104 ∷ 101 ∷ 108 ∷ 108 ∷ 111 ∷ [])))), refl, (refl, (Load.Packet (201 ∷ 4 ∷ 8 ∷ 128 ∷ 0 ∷ 0 ∷ 0 ∷ 0 ∷ 7 ∷ 0 ∷ 0 ∷ 0 ∷ 0 ∷ 0 ∷ 0 ∷ 0 ∷ 5 ∷ 0 ∷ 0 ∷ 0 ∷ 104 ∷ 101 ∷ 108 ∷ 108 ∷ 111 ∷ []), refl, (refl, refl))))))), refl, (refl, omega arith, (refl, refl))), refl, (refl, omega arith, refl)), refl, (refl, omega arith, (refl, (Wait 1, refl, refl, refl), refl)))
 
 local_1 : Local job 1 log_1
 unfolding every_word
 local_1 =
-    (((((((((((tt, refl, (refl, omega arith, (refl, (OpenLife (record { 0 = 7 }), refl, refl, refl), refl))), refl, (refl, omega arith, (refl, refl, refl, (GoesNote (record { to = record { 0 = 0 }; body = NoteBody.Opened (record { 0 = 7 }) }), refl, (refl, refl))))), refl, (refl, omega arith, (refl, refl))), refl, (refl, omega arith, (refl, (Reg (replicate 8 0), refl, refl, refl), refl))), refl, (refl, omega arith, (refl, (Recv (record { from = None; region = record { 0 = 0 }; at = 0; len = 8; want = Some (record { tag = 7; ignore = 0 }) }), refl, refl, refl), refl))), refl, (refl, omega arith, (refl, refl))), refl, (refl, omega arith, (refl, refl, refl, (Goes (record { port = record { 0 = 0 }; connid = record { 0 = 5 } }) (Spelled (Handshake (27 ∷ []) (record { 0 = 7 }) None)), refl, (refl, (Load.Packet (9 ∷ 4 ∷ 0 ∷ 128 ∷ 4 ∷ 0 ∷ 0 ∷ 0 ∷ 27 ∷ 0 ∷ 0 ∷ 0 ∷ 0 ∷ 0 ∷ 0 ∷ 0 ∷ 7 ∷ 0 ∷ 0 ∷ 0 ∷ []), refl, (refl, refl))))))), refl, (refl, omega arith, (refl, refl))), refl, (refl, omega arith, refl)), refl, (refl, omega arith, (refl, (Wait 1, refl, refl, refl), refl))), refl, (refl, omega arith, (refl, refl, refl, (Goes (record { port = record { 0 = 0 }; connid = record { 0 = 5 } }) (Spelled (Receipt (record { 0 = 0 }) (record { 0 = 7 }))), refl, (refl, (Load.Packet (10 ∷ 4 ∷ 0 ∷ 128 ∷ 0 ∷ 0 ∷ 0 ∷ 0 ∷ 7 ∷ 0 ∷ 0 ∷ 0 ∷ []), refl, (refl, refl)))))))
+    (((((((((((tt, refl, (refl, omega arith, (refl, (OpenLife (record { 0 = 7 }), refl, refl, refl), refl))), refl, (refl, omega arith, (refl, refl, refl, (GoesNote (record { to = record { 0 = 0 }; body = NoteBody.Opened (record { 0 = 7 }) }), refl, (refl, refl))))), refl, (refl, omega arith, (refl, refl))), refl, (refl, omega arith, (refl, (Reg (replicate 8 0), refl, refl, refl), refl))), refl, (refl, omega arith, (refl, (recv 0 8 7, refl, refl, refl), refl))), refl, (refl, omega arith, (refl, refl))), refl, (refl, omega arith, (refl, refl, refl, (Goes zero_five (Spelled (Handshake (27 ∷ []) (record { 0 = 7 }) None)), refl, (refl, (Load.Packet (9 ∷ 4 ∷ 0 ∷ 128 ∷ 4 ∷ 0 ∷ 0 ∷ 0 ∷ 27 ∷ 0 ∷ 0 ∷ 0 ∷ 0 ∷ 0 ∷ 0 ∷ 0 ∷ 7 ∷ 0 ∷ 0 ∷ 0 ∷ []), refl, (refl, refl))))))), refl, (refl, omega arith, (refl, refl))), refl, (refl, omega arith, refl)), refl, (refl, omega arith, (refl, (Wait 1, refl, refl, refl), refl))), refl, (refl, omega arith, (refl, refl, refl, (Goes zero_five (Spelled (Receipt (record { 0 = 0 }) (record { 0 = 7 }))), refl, (refl, (Load.Packet (10 ∷ 4 ∷ 0 ∷ 128 ∷ 0 ∷ 0 ∷ 0 ∷ 0 ∷ 7 ∷ 0 ∷ 0 ∷ 0 ∷ []), refl, (refl, refl)))))))

@@ -9,7 +9,7 @@ use Rattle.rdm_wire.specs.declared.NoteBody.TheVariants as NoteBody
 use Rattle.rdm_wire.specs.declared.Load.TheVariants as Load
 use Rattle.rdm_model.specs.declared.job.Job.{Job}
 use Rattle.rdm_model.specs.declared.job.Instr.{Instr}
-use Rattle.rdm_model.specs.declared.job.Instr.TheVariants.{OpenLife, Insert, Reg, Send, Recv, Wait}
+use Rattle.rdm_model.specs.declared.job.Instr.TheVariants.{OpenLife, Insert, Reg, Wait}
 use Rattle.rdm_model.specs.declared.entry.Entry.{Entry}
 use Rattle.rdm_model.specs.declared.entry.Act.TheVariants as Act
 use Rattle.rdm_model.specs.declared.answer.OpName.TheVariants as Op
@@ -17,6 +17,7 @@ use Rattle.rdm_model.specs.declared.answer.Next.TheVariants as Next
 use Rattle.rdm_model.specs.declared.answer.DidWhat.TheVariants as Did
 use Rattle.rdm_model.specs.declared.answer.Handled.TheVariants as Handled
 use Rattle.rdm_model.specs.Played.{played_world}
+use Rattle.rdm_rows.specs.Jobs.{zero_five, one_seven, recv, two_ranks_with, send_with}
 use Rattle.rdm_rows.specs.Limits.{default_limits}
 use Rattle.rdm_rows.specs.Words.{every_word}
 
@@ -24,9 +25,9 @@ use Rattle.rdm_rows.specs.Words.{every_word}
 abbrev pub job_ops_0 : List Instr
 job_ops_0 =
     OpenLife (record { 0 = 5 })
-    ∷ Insert (record { port = record { 0 = 1 }; connid = record { 0 = 7 } })
+    ∷ Insert one_seven
     ∷ Reg (104 ∷ 101 ∷ 108 ∷ 108 ∷ 111 ∷ [])
-    ∷ Send (record { to = record { 0 = 1 }; parts = record { region = record { 0 = 0 }; at = 0; len = 5 } ∷ []; tag = (Some 7); cq_data = None; confirm = true })
+    ∷ send_with true 1 0 5 7
     ∷ Wait 1
     ∷ []
 
@@ -34,19 +35,12 @@ abbrev pub job_ops_1 : List Instr
 job_ops_1 =
     OpenLife (record { 0 = 7 })
     ∷ Reg (replicate 8 0)
-    ∷ Recv (record { from = None; region = record { 0 = 0 }; at = 0; len = 8; want = Some (record { tag = 7; ignore = 0 }) })
+    ∷ recv 0 8 7
     ∷ Wait 1
     ∷ []
 
 abbrev pub job : Job
-job =
-    record {
-      limits = default_limits;
-      inbox = 256;
-      clock = 0;
-      ranks = record { features = 27; limits = default_limits; ops = job_ops_0 } ∷ record { features = 27; limits = default_limits; ops = job_ops_1 } ∷ [];
-      choices = [];
-    }
+job = two_ranks_with 27 27 default_limits job_ops_0 job_ops_1
 
 -- The datagrams: what each port tells of its life, the handshakes, the message, and its receipt.
 
@@ -100,7 +94,7 @@ before_hello =
 abbrev pub before_push : List Entry
 before_push =
     record { stamp = record { 0 = 13 }; port = record { 0 = 1 }; act = Act.Next 3 Op.Wait (Next.Did Did.Plain) }
-    ∷ record { stamp = record { 0 = 12 }; port = record { 0 = 1 }; act = Act.Poll (Completion.Recv (record { 0 = 0 }) (Took (record { port = record { 0 = 0 }; connid = record { 0 = 5 } }) (Some 7) None (104 ∷ 101 ∷ 108 ∷ 108 ∷ 111 ∷ []) 0)) }
+    ∷ record { stamp = record { 0 = 12 }; port = record { 0 = 1 }; act = Act.Poll (Completion.Recv (record { 0 = 0 }) (Took zero_five (Some 7) None (104 ∷ 101 ∷ 108 ∷ 108 ∷ 111 ∷ []) 0)) }
     ∷ record { stamp = record { 0 = 11 }; port = record { 0 = 1 }; act = Act.Handle datagram_0_2 (Handled.Took (Some (record { first = record { 0 = 0 }; count = 1 }))) }
     ∷ before_hello
 
@@ -148,7 +142,7 @@ abbrev pub log_1 : List Entry
 log_1 =
     record { stamp = record { 0 = 14 }; port = record { 0 = 1 }; act = Act.Push datagram_1_2 }
     ∷ record { stamp = record { 0 = 13 }; port = record { 0 = 1 }; act = Act.Next 3 Op.Wait (Next.Did Did.Plain) }
-    ∷ record { stamp = record { 0 = 12 }; port = record { 0 = 1 }; act = Act.Poll (Completion.Recv (record { 0 = 0 }) (Took (record { port = record { 0 = 0 }; connid = record { 0 = 5 } }) (Some 7) None (104 ∷ 101 ∷ 108 ∷ 108 ∷ 111 ∷ []) 0)) }
+    ∷ record { stamp = record { 0 = 12 }; port = record { 0 = 1 }; act = Act.Poll (Completion.Recv (record { 0 = 0 }) (Took zero_five (Some 7) None (104 ∷ 101 ∷ 108 ∷ 108 ∷ 111 ∷ []) 0)) }
     ∷ record { stamp = record { 0 = 11 }; port = record { 0 = 1 }; act = Act.Handle datagram_0_2 (Handled.Took (Some (record { first = record { 0 = 0 }; count = 1 }))) }
     ∷ record { stamp = record { 0 = 7 }; port = record { 0 = 1 }; act = Act.Push datagram_1_1 }
     ∷ record { stamp = record { 0 = 6 }; port = record { 0 = 1 }; act = Act.Handle datagram_0_1 (Handled.Took None) }

@@ -21,6 +21,7 @@ use Rattle.rdm_rows.proofs.Greeting as Greeting
 use Rattle.rdm_rows.proofs.Greeting.{datagram_0_0, datagram_0_1, datagram_1_0}
 use Rattle.rdm_rows.proofs.Refused.{before_hello, before_poll}
 use Rattle.rdm_rows.proofs.Says.{told, sender}
+use Rattle.rdm_rows.specs.Jobs.{one_seven, two_ranks}
 use Rattle.rdm_rows.specs.Limits.{default_limits}
 use Rattle.rdm_rows.specs.Words.{every_word}
 
@@ -29,14 +30,7 @@ closing_ops = OpenLife (record { 0 = 7 }) ∷ CloseLife ∷ []
 
 -- the greeting, to a life that is closed before the message comes
 abbrev closing : Job
-closing =
-    record {
-      limits = default_limits;
-      inbox = 256;
-      clock = 0;
-      ranks = record { features = 25; limits = default_limits; ops = Greeting.job_ops_0 } ∷ record { features = 25; limits = default_limits; ops = closing_ops } ∷ [];
-      choices = [];
-    }
+closing = two_ranks default_limits Greeting.job_ops_0 closing_ops
 
 abbrev closed : List Entry
 closed =
@@ -108,7 +102,7 @@ unsent =
     ∷ []
 
 abbrev receiver : Life
-receiver = record { port = record { 0 = 1 }; connid = record { 0 = 7 } }
+receiver = one_seven
 
 -- one message is not none
 one_is_none : (a : Arrived) → a ∷ [] ≡ [] → ⊥

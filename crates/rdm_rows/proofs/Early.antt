@@ -1,13 +1,13 @@
 -- Receipts that no port of the job pushed come to a live send: which of them it takes.
 use Rattle.std.proofs.Common.{◌≡◌, ℕ, List, [], ◌∷◌, refl}
-use Rattle.std.specs.Prelude.{Bool, true, false, ◌==◌, Option, Some, None, replicate}
+use Rattle.std.specs.Prelude.{Bool, true, false, ◌==◌, Option, None, replicate}
 use Rattle.rdm_num.specs.declared.limits.EpLimits.{EpLimits}
 use Rattle.rdm_wire.specs.declared.Datagram.{Datagram}
 use Rattle.rdm_wire.specs.declared.Body.TheVariants as Body
 use Rattle.rdm_wire.specs.declared.Load.TheVariants as Load
 use Rattle.rdm_model.specs.declared.job.Job.{Job}
 use Rattle.rdm_model.specs.declared.job.Instr.{Instr}
-use Rattle.rdm_model.specs.declared.job.Instr.TheVariants.{OpenLife, Insert, Reg, Send, Recv, Wait}
+use Rattle.rdm_model.specs.declared.job.Instr.TheVariants.{OpenLife, Insert, Reg, Wait}
 use Rattle.rdm_model.specs.declared.entry.Act.{Act}
 use Rattle.rdm_model.specs.declared.answer.Class.{Class}
 use Rattle.rdm_model.specs.declared.answer.Entered.{Entered}
@@ -21,9 +21,9 @@ use Rattle.rdm_model.specs.Classes.{class_of}
 use Rattle.rdm_model.specs.Takes.{handled_answer}
 use Rattle.rdm_model.specs.Steps.{Does}
 use Rattle.rdm_rows.specs.Shown.{log_at, is_push_of, is_handle_of}
+use Rattle.rdm_rows.specs.Jobs.{one_seven, recv, send_with, two_ranks_with}
 use Rattle.rdm_rows.specs.Limits.{default_limits}
 use Rattle.rdm_rows.specs.Words.{every_word}
-use Rattle.rdm_rows.proofs.Confirmed.{one_seven}
 
 -- one message of that length goes from rank 0 to rank 1, with or without a receipt
 abbrev pub ops_0 : (confirm : Bool) → (len : ℕ) → List Instr
@@ -31,7 +31,7 @@ ops_0 confirm len =
     OpenLife (record { 0 = 5 })
     ∷ Insert one_seven
     ∷ Reg (replicate len 0)
-    ∷ Send (record { to = record { 0 = 1 }; parts = record { region = record { 0 = 0 }; at = 0; len = len } ∷ []; tag = Some 1; cq_data = None; confirm = confirm })
+    ∷ send_with confirm 1 0 len 1
     ∷ Wait 1
     ∷ []
 
@@ -39,20 +39,13 @@ abbrev pub ops_1 : (len : ℕ) → List Instr
 ops_1 len =
     OpenLife (record { 0 = 7 })
     ∷ Reg (replicate len 0)
-    ∷ Recv (record { from = None; region = record { 0 = 0 }; at = 0; len = len; want = Some (record { tag = 1; ignore = 0 }) })
+    ∷ recv 0 len 1
     ∷ Wait 1
     ∷ []
 
 -- both ranks can confirm
 abbrev pub job_of : EpLimits → (confirm : Bool) → (len : ℕ) → Job
-job_of limits confirm len =
-    record {
-      limits = limits;
-      inbox = 256;
-      clock = 0;
-      ranks = record { features = 27; limits = limits; ops = ops_0 confirm len } ∷ record { features = 27; limits = limits; ops = ops_1 len } ∷ [];
-      choices = [];
-    }
+job_of limits confirm len = two_ranks_with 27 27 limits (ops_0 confirm len) (ops_1 len)
 
 -- a packet has it all
 abbrev pub eager : Bool → Job

@@ -21,24 +21,13 @@ use Rattle.rdm_model.specs.Classes.{class_of}
 use Rattle.rdm_model.specs.Takes.{handled_answer}
 use Rattle.rdm_model.specs.Played.{played_world}
 use Rattle.rdm_rows.specs.Shown.{pushed_items}
+use Rattle.rdm_rows.specs.Jobs.{zero_five, one_seven, two_ranks_with}
 use Rattle.rdm_rows.specs.Limits.{default_limits}
 use Rattle.rdm_rows.specs.Words.{every_word}
-use Rattle.rdm_rows.proofs.Greeted.{zero_five}
-use Rattle.rdm_rows.proofs.Confirmed.{one_seven}
 
 -- two ranks with these features and programs
 abbrev job_of : (own peer : ℕ) → (ops_0 ops_1 : List Instr) → Job
-job_of own peer ops_0 ops_1 =
-    record {
-      limits = default_limits;
-      inbox = 256;
-      clock = 0;
-      ranks =
-          record { features = own; limits = default_limits; ops = OpenLife (record { 0 = 5 }) ∷ ops_0 }
-          ∷ record { features = peer; limits = default_limits; ops = OpenLife (record { 0 = 7 }) ∷ ops_1 }
-          ∷ [];
-      choices = [];
-    }
+job_of own peer ops_0 ops_1 = two_ranks_with own peer default_limits (OpenLife (record { 0 = 5 }) ∷ ops_0) (OpenLife (record { 0 = 7 }) ∷ ops_1)
 
 -- both insert each other
 abbrev both : (own peer : ℕ) → Job

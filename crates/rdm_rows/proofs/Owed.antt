@@ -1,5 +1,5 @@
 -- Which receives owe a receipt, what it frees, and a confirmed send whose receiver is gone.
-use Rattle.std.proofs.Common.{◌≡◌, ℕ, List, [], ◌∷◌, refl}
+use Rattle.std.proofs.Common.{◌≡◌, List, [], ◌∷◌, refl}
 use Rattle.std.specs.Prelude.{false, true, Some, None, replicate}
 use Rattle.rdm_num.specs.declared.completion.Completion.{Completion}
 use Rattle.rdm_num.specs.declared.completion.Outcome.TheVariants.{Took, Cancelled}
@@ -9,7 +9,7 @@ use Rattle.rdm_pkt.specs.declared.Packet.TheVariants.{Rtm, Handshake, Receipt}
 use Rattle.rdm_pkt.specs.declared.Form.TheVariants as Form
 use Rattle.rdm_model.specs.declared.job.Job.{Job}
 use Rattle.rdm_model.specs.declared.job.Instr.{Instr}
-use Rattle.rdm_model.specs.declared.job.Instr.TheVariants.{OpenLife, Insert, Reg, Send, Recv, Cancel, Note, Await, Wait, CloseLife}
+use Rattle.rdm_model.specs.declared.job.Instr.TheVariants.{OpenLife, Insert, Reg, Cancel, Note, Await, Wait, CloseLife}
 use Rattle.rdm_model.specs.declared.answer.Next.TheVariants as Next
 use Rattle.rdm_model.specs.declared.answer.DidWhat.TheVariants as Did
 use Rattle.rdm_model.specs.declared.answer.Why.TheVariants as Why
@@ -23,37 +23,16 @@ use Rattle.rdm_model.specs.Takes.{handled_answer}
 use Rattle.rdm_model.specs.Classes.{class_of}
 use Rattle.rdm_model.specs.Played.{played_world}
 use Rattle.rdm_rows.specs.Shown.{pushed_items, polls, answers, ends}
+use Rattle.rdm_rows.specs.Jobs.{zero_five, one_seven, send_with, recv, two_ranks_with}
 use Rattle.rdm_rows.specs.Limits.{default_limits}
 use Rattle.rdm_rows.specs.Words.{every_word}
-use Rattle.rdm_rows.proofs.Greeted.{zero_five}
-use Rattle.rdm_rows.proofs.Confirmed.{one_seven}
 
 -- two ranks that can confirm; rank 0 sends `hello` with a receipt, and then does this
 abbrev job_of : (sender receiver : List Instr) → Job
 job_of sender receiver =
-    record {
-      limits = default_limits;
-      inbox = 256;
-      clock = 0;
-      ranks =
-          record {
-            features = 27;
-            limits = default_limits;
-            ops =
-                OpenLife (record { 0 = 5 })
-                ∷ Insert one_seven
-                ∷ Reg (104 ∷ 101 ∷ 108 ∷ 108 ∷ 111 ∷ [])
-                ∷ Send (record { to = record { 0 = 1 }; parts = record { region = record { 0 = 0 }; at = 0; len = 5 } ∷ []; tag = Some 7; cq_data = None; confirm = true })
-                ∷ sender;
-          }
-          ∷ record { features = 27; limits = default_limits; ops = OpenLife (record { 0 = 7 }) ∷ Reg (replicate 8 0) ∷ receiver }
-          ∷ [];
-      choices = [];
-    }
-
--- a receive of messages with that tag
-abbrev recv : (tag at len : ℕ) → Instr
-recv tag at len = Recv (record { from = None; region = record { 0 = 0 }; at = at; len = len; want = Some (record { tag = tag; ignore = 0 }) })
+    two_ranks_with 27 27 default_limits
+    (OpenLife (record { 0 = 5 }) ∷ Insert one_seven ∷ Reg (104 ∷ 101 ∷ 108 ∷ 108 ∷ 111 ∷ []) ∷ send_with true 1 0 5 7 ∷ sender)
+    (OpenLife (record { 0 = 7 }) ∷ Reg (replicate 8 0) ∷ receiver)
 
 -- what rank 1 pushes: its handshake, and the receipt
 abbrev with_receipt : List Item
@@ -65,7 +44,7 @@ without_receipt = Spelled (Handshake (27 ∷ []) (record { 0 = 7 }) None) ∷ []
 
 -- the receive is posted once the message has come
 abbrev late : Job
-late = job_of (Note (record { 0 = 1 }) 1 ∷ Wait 1 ∷ []) (Await (record { 0 = 0 }) 1 ∷ recv 7 0 8 ∷ Wait 1 ∷ [])
+late = job_of (Note (record { 0 = 1 }) 1 ∷ Wait 1 ∷ []) (Await (record { 0 = 0 }) 1 ∷ recv 0 8 7 ∷ Wait 1 ∷ [])
 
 late_pushes : pushed_items ((played_world late).logs 1) ≡ with_receipt
 unfolding every_word
@@ -77,7 +56,7 @@ late_completes = refl
 
 -- the receive has room for 3 bytes
 abbrev short : Job
-short = job_of (Wait 1 ∷ []) (recv 7 0 3 ∷ Wait 1 ∷ [])
+short = job_of (Wait 1 ∷ []) (recv 0 3 7 ∷ Wait 1 ∷ [])
 
 short_takes : polls ((played_world short).logs 1) ≡ Completion.Recv (record { 0 = 0 }) (Took zero_five (Some 7) None (104 ∷ 101 ∷ 108 ∷ []) 2) ∷ []
 unfolding every_word
@@ -89,7 +68,7 @@ short_pushes = refl
 
 -- the receive is taken back before the message comes, and no other one takes it
 abbrev cancelled : Job
-cancelled = job_of (Wait 1 ∷ []) (recv 7 0 8 ∷ Cancel (record { 0 = 0 }) ∷ Wait 1 ∷ [])
+cancelled = job_of (Wait 1 ∷ []) (recv 0 8 7 ∷ Cancel (record { 0 = 0 }) ∷ Wait 1 ∷ [])
 
 cancelled_takes : polls ((played_world cancelled).logs 1) ≡ Completion.Recv (record { 0 = 0 }) Cancelled ∷ []
 unfolding every_word
@@ -109,7 +88,7 @@ cancelled_ends = refl
 
 -- a receive into the range of the send: it is refused though all was pushed, and accepted once the receipt has come
 abbrev in_use : Job
-in_use = job_of (recv 9 4 1 ∷ Wait 1 ∷ recv 9 4 1 ∷ []) (recv 7 0 8 ∷ Wait 1 ∷ [])
+in_use = job_of (recv 4 1 9 ∷ Wait 1 ∷ recv 4 1 9 ∷ []) (recv 0 8 7 ∷ Wait 1 ∷ [])
 
 in_use_answers : answers ((played_world in_use).logs 0) ≡
     Next.Did Did.Plain

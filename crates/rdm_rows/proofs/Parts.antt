@@ -8,7 +8,7 @@ use Rattle.rdm_pkt.specs.declared.Packet.TheVariants.{Rtm, Eor, Handshake}
 use Rattle.rdm_pkt.specs.declared.Form.TheVariants as Form
 use Rattle.rdm_model.specs.declared.job.Job.{Job}
 use Rattle.rdm_model.specs.declared.job.Instr.{Instr}
-use Rattle.rdm_model.specs.declared.job.Instr.TheVariants.{OpenLife, Insert, Reg, Send, Recv, Wait}
+use Rattle.rdm_model.specs.declared.job.Instr.TheVariants.{OpenLife, Insert, Reg, Send, Wait}
 use Rattle.rdm_model.specs.declared.job.Choice.TheVariants as Choice
 use Rattle.rdm_model.specs.declared.answer.Next.TheVariants as Next
 use Rattle.rdm_model.specs.declared.answer.DidWhat.TheVariants as Did
@@ -17,10 +17,9 @@ use Rattle.rdm_model.specs.Deeds.{Spelled, Asks, Gives}
 use Rattle.rdm_model.specs.Played.{played_world}
 use Rattle.rdm_model.specs.Worlds.{after_choices, new_world}
 use Rattle.rdm_rows.specs.Shown.{pushed_items, polls, answers}
+use Rattle.rdm_rows.specs.Jobs.{zero_five, one_seven, recv, one_rank, two_ranks_with}
 use Rattle.rdm_rows.specs.Limits.{default_limits}
 use Rattle.rdm_rows.specs.Words.{every_word}
-use Rattle.rdm_rows.proofs.Greeted.{zero_five}
-use Rattle.rdm_rows.proofs.Confirmed.{one_seven}
 
 -- a range
 abbrev span : (region at len : ℕ) → Span
@@ -32,7 +31,7 @@ to_itself parts = Send (record { to = record { 0 = 0 }; parts = parts; tag = Som
 
 -- a receive of one byte
 abbrev byte_at_place : ℕ → Instr
-byte_at_place at = Recv (record { from = None; region = record { 0 = 0 }; at = at; len = 1; want = Some (record { tag = 1; ignore = 0 }) })
+byte_at_place at = recv at 1 1
 
 -- a region of 4 bytes, of which a receive has the third
 abbrev tried_ops : List Instr
@@ -50,16 +49,7 @@ tried_ops =
     ∷ []
 
 abbrev tried : Job
-tried =
-    record {
-      limits = default_limits;
-      inbox = 256;
-      clock = 0;
-      ranks = record { features = 25; limits = default_limits; ops = tried_ops } ∷ [];
-      choices =
-          Choice.Next 0 ∷ Choice.Next 0 ∷ Choice.Next 0 ∷ Choice.Next 0 ∷ Choice.Next 0 ∷ Choice.Next 0 ∷ Choice.Next 0 ∷ Choice.Next 0 ∷ Choice.Next 0
-          ∷ Choice.Next 0 ∷ [];
-    }
+tried = record (one_rank default_limits tried_ops) { choices = replicate 10 (Choice.Next 0) }
 
 -- refused are ranges of which one meets the receive, one passes the end, or one is of no region, which comes first. The same range
 -- twice and empty ones are not. Then a receive is refused that meets one of the ranges
@@ -93,23 +83,13 @@ abbrev read_ops_1 : List Instr
 read_ops_1 =
     OpenLife (record { 0 = 7 })
     ∷ Reg (replicate 320 0)
-    ∷ Recv (record { from = None; region = record { 0 = 0 }; at = 0; len = 320; want = Some (record { tag = 1; ignore = 0 }) })
+    ∷ recv 0 320 1
     ∷ Wait 1
     ∷ []
 
 -- the message is read, and asks for a receipt
 abbrev read : Job
-read =
-    record {
-      limits = record default_limits { mtu = 256; read_limit = 280 };
-      inbox = 256;
-      clock = 0;
-      ranks =
-          record { features = 27; limits = record default_limits { mtu = 256; read_limit = 280 }; ops = read_ops_0 }
-          ∷ record { features = 27; limits = record default_limits { mtu = 256; read_limit = 280 }; ops = read_ops_1 }
-          ∷ [];
-      choices = [];
-    }
+read = two_ranks_with 27 27 (record default_limits { mtu = 256; read_limit = 280 }) read_ops_0 read_ops_1
 
 -- the read list has the ranges that are not empty, and says nothing of a receipt
 read_pushed_0 : pushed_items ((played_world read).logs 0) ≡

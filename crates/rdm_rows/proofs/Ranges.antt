@@ -13,7 +13,7 @@ use Rattle.rdm_pkt.specs.declared.Packet.TheVariants.{Rtm, Handshake}
 use Rattle.rdm_pkt.specs.declared.Form.TheVariants as Form
 use Rattle.rdm_model.specs.declared.job.Job.{Job}
 use Rattle.rdm_model.specs.declared.job.Instr.{Instr}
-use Rattle.rdm_model.specs.declared.job.Instr.TheVariants.{OpenLife, Insert, Reg, Send, Recv, Wait}
+use Rattle.rdm_model.specs.declared.job.Instr.TheVariants.{OpenLife, Insert, Reg, Send, Wait}
 use Rattle.rdm_model.specs.declared.entry.Entry.{Entry}
 use Rattle.rdm_model.specs.declared.entry.Act.TheVariants as Act
 use Rattle.rdm_model.specs.declared.answer.OpName.TheVariants as Op
@@ -28,7 +28,8 @@ use Rattle.rdm_model.specs.Played.{played_world}
 use Rattle.rdm_model.specs.Sends.{Sent, sends}
 use Rattle.rdm_model.specs.Completions.{completions}
 use Rattle.rdm_model.specs.Lawful.{Lawful, IsPartOf, IsApart, sent_scene}
-use Rattle.rdm_rows.proofs.Greeted.{zero_five, nothing, nothing_either, plain_ends, IsOpened, opened, port_apart, number_apart}
+use Rattle.rdm_rows.proofs.Greeted.{nothing, nothing_either, plain_ends, IsOpened, opened, port_apart, number_apart}
+use Rattle.rdm_rows.specs.Jobs.{zero_five, one_seven, recv, two_ranks}
 use Rattle.rdm_rows.specs.Limits.{default_limits}
 use Rattle.rdm_rows.specs.Words.{every_word}
 
@@ -36,7 +37,7 @@ use Rattle.rdm_rows.specs.Words.{every_word}
 abbrev pub job_ops_0 : List Instr
 job_ops_0 =
     OpenLife (record { 0 = 5 })
-    ∷ Insert (record { port = record { 0 = 1 }; connid = record { 0 = 7 } })
+    ∷ Insert one_seven
     ∷ Reg (104 ∷ 101 ∷ 108 ∷ 108 ∷ 111 ∷ 32 ∷ 119 ∷ 111 ∷ 114 ∷ 108 ∷ 100 ∷ [])
     ∷ Send (record { to = record { 0 = 1 }; parts = record { region = record { 0 = 0 }; at = 0; len = 5 } ∷ record { region = record { 0 = 0 }; at = 6; len = 5 } ∷ []; tag = (Some 7); cq_data = None; confirm = false })
     ∷ Wait 1
@@ -46,19 +47,12 @@ abbrev pub job_ops_1 : List Instr
 job_ops_1 =
     OpenLife (record { 0 = 7 })
     ∷ Reg (replicate 10 0)
-    ∷ Recv (record { from = None; region = record { 0 = 0 }; at = 0; len = 10; want = Some (record { tag = 7; ignore = 0 }) })
+    ∷ recv 0 10 7
     ∷ Wait 1
     ∷ []
 
 abbrev pub job : Job
-job =
-    record {
-      limits = default_limits;
-      inbox = 256;
-      clock = 0;
-      ranks = record { features = 25; limits = default_limits; ops = job_ops_0 } ∷ record { features = 25; limits = default_limits; ops = job_ops_1 } ∷ [];
-      choices = [];
-    }
+job = two_ranks default_limits job_ops_0 job_ops_1
 
 abbrev pub datagram_0_0 : Datagram
 datagram_0_0 = record { src = record { 0 = 0 }; number = record { 0 = 0 }; stamp = record { 0 = 2 }; dst = record { 0 = 1 }; body = Body.Note (NoteBody.Opened (record { 0 = 5 })) }
@@ -108,7 +102,7 @@ history =
     ∷ record { stamp = record { 0 = 12 }; port = record { 0 = 0 }; act = Act.Handle datagram_1_1 (Handled.Took None) }
     ∷ record { stamp = record { 0 = 11 }; port = record { 0 = 1 }; act = Act.Push datagram_1_1 }
     ∷ record { stamp = record { 0 = 10 }; port = record { 0 = 1 }; act = Act.Next 3 Op.Wait (Next.Did Did.Plain) }
-    ∷ record { stamp = record { 0 = 9 }; port = record { 0 = 1 }; act = Act.Poll (Completion.Recv (record { 0 = 0 }) (Took (record { port = record { 0 = 0 }; connid = record { 0 = 5 } }) (Some 7) None (104 ∷ 101 ∷ 108 ∷ 108 ∷ 111 ∷ 119 ∷ 111 ∷ 114 ∷ 108 ∷ 100 ∷ []) 0)) }
+    ∷ record { stamp = record { 0 = 9 }; port = record { 0 = 1 }; act = Act.Poll (Completion.Recv (record { 0 = 0 }) (Took zero_five (Some 7) None (104 ∷ 101 ∷ 108 ∷ 108 ∷ 111 ∷ 119 ∷ 111 ∷ 114 ∷ 108 ∷ 100 ∷ []) 0)) }
     ∷ record { stamp = record { 0 = 9 }; port = record { 0 = 0 }; act = Act.Next 4 Op.Wait (Next.Did Did.Plain) }
     ∷ record { stamp = record { 0 = 8 }; port = record { 0 = 1 }; act = Act.Handle datagram_0_1 (Handled.Took (Some (record { first = record { 0 = 0 }; count = 1 }))) }
     ∷ before_handling
@@ -161,4 +155,4 @@ carries_words source n p o =
 history_is_lawful : Lawful job history
 unfolding every_word
 history_is_lawful =
-    (((((((((((((((((((((tt, tt, tt, (refl, omega arith, (refl, (OpenLife (record { 0 = 5 }), refl, refl, refl), refl)), λ source n p e. nothing p e, λ t m c f. elim m [ ]), inr (refl, omega arith), tt, (refl, omega arith, (refl, (OpenLife (record { 0 = 7 }), refl, refl, refl), refl)), λ source n p e. nothing p e, λ t m c f. elim m [ ]), inl (omega arith), tt, (refl, omega arith, (refl, refl, refl, (GoesNote (record { to = record { 0 = 1 }; body = NoteBody.Opened (record { 0 = 5 }) }), refl, (refl, refl)))), λ source n p e. nothing p e, λ t m c f. elim m [ ]), inr (refl, omega arith), tt, (refl, omega arith, (refl, refl, refl, (GoesNote (record { to = record { 0 = 0 }; body = NoteBody.Opened (record { 0 = 7 }) }), refl, (refl, refl)))), λ source n p e. nothing p e, λ t m c f. elim m [ ]), inl (omega arith), (refl, inl refl, ((((tt, tt), tt), tt), tt)), (refl, omega arith, (refl, refl)), λ source n p e. nothing p e, λ t m c f. elim m [ ]), inr (refl, omega arith), (refl, inr (inl refl), (((((tt, tt), tt), tt), tt), λ s n. omega (arith, port_apart _ _ s))), (refl, omega arith, (refl, refl)), λ source n p e. nothing p e, λ t m c f. elim m [ ]), inl (omega arith), tt, (refl, omega arith, (refl, (Insert (record { port = record { 0 = 1 }; connid = record { 0 = 7 } }), refl, refl, refl), refl)), λ source n p e. nothing p e, λ t m c f. elim m [ ]), inr (refl, omega arith), tt, (refl, omega arith, (refl, (Reg (replicate 10 0), refl, refl, refl), refl)), λ source n p e. nothing p e, λ t m c f. elim m [ ]), inl (omega arith), tt, (refl, omega arith, (refl, (Reg (104 ∷ 101 ∷ 108 ∷ 108 ∷ 111 ∷ 32 ∷ 119 ∷ 111 ∷ 114 ∷ 108 ∷ 100 ∷ []), refl, refl, refl), refl)), λ source n p e. nothing p e, λ t m c f. elim m [ ]), inr (refl, omega arith), tt, (refl, omega arith, (refl, (Recv (record { from = None; region = record { 0 = 0 }; at = 0; len = 10; want = Some (record { tag = 7; ignore = 0 }) }), refl, refl, refl), refl)), λ source n p e. nothing p e, λ t m c f. elim m [ ]), inl (omega arith), tt, (refl, omega arith, (refl, (Send (record { to = record { 0 = 1 }; parts = record { region = record { 0 = 0 }; at = 0; len = 5 } ∷ record { region = record { 0 = 0 }; at = 6; len = 5 } ∷ []; tag = (Some 7); cq_data = None; confirm = false }), refl, refl, refl), refl)), λ source n p e. nothing p e, λ t m c f. elim m [ ]), inl (omega arith), tt, (refl, omega arith, (refl, refl, refl, (Goes (record { port = record { 0 = 1 }; connid = record { 0 = 7 } }) (Spelled (Rtm (record { 0 = 0 }) (Some 7) false (record { raw = Some (0, 5); cq_data = None; connid = None }) (Form.Eager (104 ∷ 101 ∷ 108 ∷ 108 ∷ 111 ∷ 119 ∷ 111 ∷ 114 ∷ 108 ∷ 100 ∷ [])))), refl, (refl, (Load.Packet (65 ∷ 4 ∷ 9 ∷ 0 ∷ 0 ∷ 0 ∷ 0 ∷ 0 ∷ 7 ∷ 0 ∷ 0 ∷ 0 ∷ 0 ∷ 0 ∷ 0 ∷ 0 ∷ 32 ∷ 0 ∷ 0 ∷ 0 ∷ 0 ∷ 0 ∷ 0 ∷ 0 ∷ 0 ∷ 0 ∷ 0 ∷ 0 ∷ 0 ∷ 0 ∷ 0 ∷ 0 ∷ 0 ∷ 0 ∷ 0 ∷ 0 ∷ 1 ∷ 0 ∷ 0 ∷ 0 ∷ 5 ∷ 0 ∷ 0 ∷ 0 ∷ 0 ∷ 0 ∷ 0 ∷ 0 ∷ 0 ∷ 0 ∷ 0 ∷ 0 ∷ 104 ∷ 101 ∷ 108 ∷ 108 ∷ 111 ∷ 119 ∷ 111 ∷ 114 ∷ 108 ∷ 100 ∷ []), refl, (refl, refl)))))), λ source n p e. nothing p e, λ t m c f. plain_ends _ t m refl c), inl (omega arith), tt, (refl, omega arith, refl), λ source n p e. nothing p e, λ t m c f. elim m [ ]), inr (refl, omega arith), (refl, inr (inl refl), (((((((((((((tt, tt), tt), tt), tt), λ s n. omega (arith, port_apart _ _ s)), λ s n. omega (arith, number_apart _ _ n)), tt), tt), tt), tt), tt), tt), tt)), (refl, omega arith, (refl, refl)), λ source n p e. carries_words source n p (opened source n _ p e), λ t m c f. elim m [ ]), inl (omega arith), tt, (refl, omega arith, (refl, (Wait 1, refl, refl, refl), refl)), λ source n p e. nothing p e, λ t m c f. elim m [ ]), inr (refl, omega arith), tt, (refl, omega arith, refl), λ source n p e. nothing p e, λ t m c f. elim m [ ]), inl (omega arith), tt, (refl, omega arith, (refl, (Wait 1, refl, refl, refl), refl)), λ source n p e. nothing p e, λ t m c f. elim m [ ]), inl (omega arith), tt, (refl, omega arith, (refl, refl, refl, (Goes (record { port = record { 0 = 0 }; connid = record { 0 = 5 } }) (Spelled (Handshake (25 ∷ []) (record { 0 = 7 }) None)), refl, (refl, (Load.Packet (9 ∷ 4 ∷ 0 ∷ 128 ∷ 4 ∷ 0 ∷ 0 ∷ 0 ∷ 25 ∷ 0 ∷ 0 ∷ 0 ∷ 0 ∷ 0 ∷ 0 ∷ 0 ∷ 7 ∷ 0 ∷ 0 ∷ 0 ∷ []), refl, (refl, refl)))))), λ source n p e. nothing p e, λ t m c f. elim m [ ]), inl (omega arith), (refl, inl refl, ((((((((((((((((((tt, tt), tt), tt), tt), λ s n. omega (arith, number_apart _ _ n)), λ s n. omega (arith, port_apart _ _ s)), tt), tt), tt), tt), tt), tt), tt), λ s n. omega (arith, port_apart _ _ s)), tt), tt), tt), tt)), (refl, omega arith, (refl, refl)), λ source n p e. nothing_either _ p e, λ t m c f. elim m [ ]), inl (omega arith), tt, (refl, omega arith, (refl, refl, refl, (Goes (record { port = record { 0 = 1 }; connid = record { 0 = 7 } }) (Spelled (Handshake (25 ∷ []) (record { 0 = 5 }) None)), refl, (refl, (Load.Packet (9 ∷ 4 ∷ 0 ∷ 128 ∷ 4 ∷ 0 ∷ 0 ∷ 0 ∷ 25 ∷ 0 ∷ 0 ∷ 0 ∷ 0 ∷ 0 ∷ 0 ∷ 0 ∷ 5 ∷ 0 ∷ 0 ∷ 0 ∷ []), refl, (refl, refl)))))), λ source n p e. nothing p e, λ t m c f. elim m [ ]), inl (omega arith), (refl, inl refl, ((((((((((((((((((((tt, tt), tt), tt), tt), λ s n. omega (arith, port_apart _ _ s)), λ s n. omega (arith, number_apart _ _ n)), tt), tt), tt), tt), tt), tt), tt), λ s n. omega (arith, number_apart _ _ n)), tt), tt), tt), tt), λ s n. omega (arith, port_apart _ _ s)), tt)), (refl, omega arith, (refl, refl)), λ source n p e. nothing_either _ p e, λ t m c f. elim m [ ])
+    (((((((((((((((((((((tt, tt, tt, (refl, omega arith, (refl, (OpenLife (record { 0 = 5 }), refl, refl, refl), refl)), λ source n p e. nothing p e, λ t m c f. elim m [ ]), inr (refl, omega arith), tt, (refl, omega arith, (refl, (OpenLife (record { 0 = 7 }), refl, refl, refl), refl)), λ source n p e. nothing p e, λ t m c f. elim m [ ]), inl (omega arith), tt, (refl, omega arith, (refl, refl, refl, (GoesNote (record { to = record { 0 = 1 }; body = NoteBody.Opened (record { 0 = 5 }) }), refl, (refl, refl)))), λ source n p e. nothing p e, λ t m c f. elim m [ ]), inr (refl, omega arith), tt, (refl, omega arith, (refl, refl, refl, (GoesNote (record { to = record { 0 = 0 }; body = NoteBody.Opened (record { 0 = 7 }) }), refl, (refl, refl)))), λ source n p e. nothing p e, λ t m c f. elim m [ ]), inl (omega arith), (refl, inl refl, ((((tt, tt), tt), tt), tt)), (refl, omega arith, (refl, refl)), λ source n p e. nothing p e, λ t m c f. elim m [ ]), inr (refl, omega arith), (refl, inr (inl refl), (((((tt, tt), tt), tt), tt), λ s n. omega (arith, port_apart _ _ s))), (refl, omega arith, (refl, refl)), λ source n p e. nothing p e, λ t m c f. elim m [ ]), inl (omega arith), tt, (refl, omega arith, (refl, (Insert one_seven, refl, refl, refl), refl)), λ source n p e. nothing p e, λ t m c f. elim m [ ]), inr (refl, omega arith), tt, (refl, omega arith, (refl, (Reg (replicate 10 0), refl, refl, refl), refl)), λ source n p e. nothing p e, λ t m c f. elim m [ ]), inl (omega arith), tt, (refl, omega arith, (refl, (Reg (104 ∷ 101 ∷ 108 ∷ 108 ∷ 111 ∷ 32 ∷ 119 ∷ 111 ∷ 114 ∷ 108 ∷ 100 ∷ []), refl, refl, refl), refl)), λ source n p e. nothing p e, λ t m c f. elim m [ ]), inr (refl, omega arith), tt, (refl, omega arith, (refl, (recv 0 10 7, refl, refl, refl), refl)), λ source n p e. nothing p e, λ t m c f. elim m [ ]), inl (omega arith), tt, (refl, omega arith, (refl, (Send (record { to = record { 0 = 1 }; parts = record { region = record { 0 = 0 }; at = 0; len = 5 } ∷ record { region = record { 0 = 0 }; at = 6; len = 5 } ∷ []; tag = (Some 7); cq_data = None; confirm = false }), refl, refl, refl), refl)), λ source n p e. nothing p e, λ t m c f. elim m [ ]), inl (omega arith), tt, (refl, omega arith, (refl, refl, refl, (Goes one_seven (Spelled (Rtm (record { 0 = 0 }) (Some 7) false (record { raw = Some (0, 5); cq_data = None; connid = None }) (Form.Eager (104 ∷ 101 ∷ 108 ∷ 108 ∷ 111 ∷ 119 ∷ 111 ∷ 114 ∷ 108 ∷ 100 ∷ [])))), refl, (refl, (Load.Packet (65 ∷ 4 ∷ 9 ∷ 0 ∷ 0 ∷ 0 ∷ 0 ∷ 0 ∷ 7 ∷ 0 ∷ 0 ∷ 0 ∷ 0 ∷ 0 ∷ 0 ∷ 0 ∷ 32 ∷ 0 ∷ 0 ∷ 0 ∷ 0 ∷ 0 ∷ 0 ∷ 0 ∷ 0 ∷ 0 ∷ 0 ∷ 0 ∷ 0 ∷ 0 ∷ 0 ∷ 0 ∷ 0 ∷ 0 ∷ 0 ∷ 0 ∷ 1 ∷ 0 ∷ 0 ∷ 0 ∷ 5 ∷ 0 ∷ 0 ∷ 0 ∷ 0 ∷ 0 ∷ 0 ∷ 0 ∷ 0 ∷ 0 ∷ 0 ∷ 0 ∷ 104 ∷ 101 ∷ 108 ∷ 108 ∷ 111 ∷ 119 ∷ 111 ∷ 114 ∷ 108 ∷ 100 ∷ []), refl, (refl, refl)))))), λ source n p e. nothing p e, λ t m c f. plain_ends _ t m refl c), inl (omega arith), tt, (refl, omega arith, refl), λ source n p e. nothing p e, λ t m c f. elim m [ ]), inr (refl, omega arith), (refl, inr (inl refl), (((((((((((((tt, tt), tt), tt), tt), λ s n. omega (arith, port_apart _ _ s)), λ s n. omega (arith, number_apart _ _ n)), tt), tt), tt), tt), tt), tt), tt)), (refl, omega arith, (refl, refl)), λ source n p e. carries_words source n p (opened source n _ p e), λ t m c f. elim m [ ]), inl (omega arith), tt, (refl, omega arith, (refl, (Wait 1, refl, refl, refl), refl)), λ source n p e. nothing p e, λ t m c f. elim m [ ]), inr (refl, omega arith), tt, (refl, omega arith, refl), λ source n p e. nothing p e, λ t m c f. elim m [ ]), inl (omega arith), tt, (refl, omega arith, (refl, (Wait 1, refl, refl, refl), refl)), λ source n p e. nothing p e, λ t m c f. elim m [ ]), inl (omega arith), tt, (refl, omega arith, (refl, refl, refl, (Goes zero_five (Spelled (Handshake (25 ∷ []) (record { 0 = 7 }) None)), refl, (refl, (Load.Packet (9 ∷ 4 ∷ 0 ∷ 128 ∷ 4 ∷ 0 ∷ 0 ∷ 0 ∷ 25 ∷ 0 ∷ 0 ∷ 0 ∷ 0 ∷ 0 ∷ 0 ∷ 0 ∷ 7 ∷ 0 ∷ 0 ∷ 0 ∷ []), refl, (refl, refl)))))), λ source n p e. nothing p e, λ t m c f. elim m [ ]), inl (omega arith), (refl, inl refl, ((((((((((((((((((tt, tt), tt), tt), tt), λ s n. omega (arith, number_apart _ _ n)), λ s n. omega (arith, port_apart _ _ s)), tt), tt), tt), tt), tt), tt), tt), λ s n. omega (arith, port_apart _ _ s)), tt), tt), tt), tt)), (refl, omega arith, (refl, refl)), λ source n p e. nothing_either _ p e, λ t m c f. elim m [ ]), inl (omega arith), tt, (refl, omega arith, (refl, refl, refl, (Goes one_seven (Spelled (Handshake (25 ∷ []) (record { 0 = 5 }) None)), refl, (refl, (Load.Packet (9 ∷ 4 ∷ 0 ∷ 128 ∷ 4 ∷ 0 ∷ 0 ∷ 0 ∷ 25 ∷ 0 ∷ 0 ∷ 0 ∷ 0 ∷ 0 ∷ 0 ∷ 0 ∷ 5 ∷ 0 ∷ 0 ∷ 0 ∷ []), refl, (refl, refl)))))), λ source n p e. nothing p e, λ t m c f. elim m [ ]), inl (omega arith), (refl, inl refl, ((((((((((((((((((((tt, tt), tt), tt), tt), λ s n. omega (arith, port_apart _ _ s)), λ s n. omega (arith, number_apart _ _ n)), tt), tt), tt), tt), tt), tt), tt), λ s n. omega (arith, number_apart _ _ n)), tt), tt), tt), tt), λ s n. omega (arith, port_apart _ _ s)), tt)), (refl, omega arith, (refl, refl)), λ source n p e. nothing_either _ p e, λ t m c f. elim m [ ])

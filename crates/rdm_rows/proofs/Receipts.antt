@@ -28,10 +28,10 @@ use Rattle.rdm_model.specs.Lawful.{Lawful, Confirms, sent_scene}
 use Rattle.rdm_law.specs.Headline.{SaysRight}
 use Rattle.rdm_rows.proofs.Says.{told}
 use Rattle.rdm_rows.proofs.Confirming.{job, before_hello, before_push, before_receipt, after_receipt, own_after_receipt, datagram_1_2}
-use Rattle.rdm_rows.proofs.Confirmed.{hello, one_seven}
-use Rattle.rdm_rows.proofs.Greeted.{zero_five}
+use Rattle.rdm_rows.proofs.Confirmed.{hello}
 use Rattle.rdm_rows.proofs.Early.{read}
 use Rattle.rdm_rows.specs.Shown.{log_at, is_push_of}
+use Rattle.rdm_rows.specs.Jobs.{zero_five, one_seven}
 use Rattle.rdm_rows.specs.Words.{every_word}
 
 nothing_is_polled : (c : Completion) → None ≡ Some c → ⊥

@@ -11,7 +11,7 @@ use Rattle.rdm_match.specs.declared.Arrived.{Arrived}
 use Rattle.rdm_match.specs.Matcher.{Pair}
 use Rattle.rdm_model.specs.declared.job.Job.{Job}
 use Rattle.rdm_model.specs.declared.job.Instr.{Instr}
-use Rattle.rdm_model.specs.declared.job.Instr.TheVariants.{OpenLife, Reg, Recv}
+use Rattle.rdm_model.specs.declared.job.Instr.TheVariants.{OpenLife, Reg}
 use Rattle.rdm_model.specs.declared.entry.Entry.{Entry}
 use Rattle.rdm_model.specs.declared.entry.Act.TheVariants as Act
 use Rattle.rdm_model.specs.declared.answer.OpName.TheVariants as Op
@@ -34,6 +34,7 @@ use Rattle.rdm_rows.proofs.Greeting.{datagram_0_0, datagram_0_1, datagram_0_2, d
 use Rattle.rdm_rows.proofs.Greeted as Greeted
 use Rattle.rdm_rows.proofs.Fairness.{greeting_is_fair}
 use Rattle.rdm_rows.proofs.Refused.{before_poll}
+use Rattle.rdm_rows.specs.Jobs.{zero_five, recv, two_ranks}
 use Rattle.rdm_rows.specs.Limits.{default_limits}
 use Rattle.rdm_rows.specs.Words.{every_word}
 
@@ -46,7 +47,7 @@ abbrev polls : ℕ → ℕ → Outcome → Entry
 polls stamp recv o = record { stamp = record { 0 = stamp }; port = record { 0 = 1 }; act = Act.Poll (Completion.Recv (record { 0 = recv }) o) }
 
 abbrev pub sender : Life
-sender = record { port = record { 0 = 0 }; connid = record { 0 = 5 } }
+sender = zero_five
 
 -- the message `hello`, as it was sent
 abbrev hello : Outcome
@@ -153,20 +154,13 @@ abbrev twice_ops : List Instr
 twice_ops =
     OpenLife (record { 0 = 7 })
     ∷ Reg (replicate 16 0)
-    ∷ Recv (record { from = None; region = record { 0 = 0 }; at = 0; len = 8; want = Some (record { tag = 7; ignore = 0 }) })
-    ∷ Recv (record { from = None; region = record { 0 = 0 }; at = 8; len = 8; want = Some (record { tag = 7; ignore = 0 }) })
+    ∷ recv 0 8 7
+    ∷ recv 8 8 7
     ∷ []
 
 -- the greeting, with two receives for the one message
 abbrev twice : Job
-twice =
-    record {
-      limits = default_limits;
-      inbox = 256;
-      clock = 0;
-      ranks = record { features = 25; limits = default_limits; ops = Greeting.job_ops_0 } ∷ record { features = 25; limits = default_limits; ops = twice_ops } ∷ [];
-      choices = [];
-    }
+twice = two_ranks default_limits Greeting.job_ops_0 twice_ops
 
 -- what comes before the polls: receive 0 takes the message
 abbrev before_twice : List Entry

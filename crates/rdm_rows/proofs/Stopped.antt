@@ -28,19 +28,13 @@ use Rattle.rdm_model.specs.Played.{IsReportOf, IsPlayed}
 use Rattle.rdm_model.specs.Reports.{RightReport}
 use Rattle.rdm_law.specs.Worlds.{IsWaiting, HasWaiting, is_quiet_alone}
 use Rattle.rdm_law.proofs.Played.Stopped.{stopped_is_right}
+use Rattle.rdm_rows.specs.Jobs.{two_ranks}
 use Rattle.rdm_rows.specs.Limits.{default_limits}
 use Rattle.rdm_rows.specs.Words.{every_word}
 
 -- four stamps are left
 abbrev job : Job
-job =
-    record {
-      limits = default_limits;
-      inbox = 256;
-      clock = 9223372036854775803;
-      ranks = record { features = 25; limits = default_limits; ops = Note (record { 0 = 1 }) 5 ∷ Note (record { 0 = 1 }) 6 ∷ [] } ∷ record { features = 25; limits = default_limits; ops = [] } ∷ [];
-      choices = [];
-    }
+job = record (two_ranks default_limits (Note (record { 0 = 1 }) 5 ∷ Note (record { 0 = 1 }) 6 ∷ []) []) { clock = 9223372036854775803 }
 
 abbrev first : Datagram
 first = record { src = record { 0 = 0 }; number = record { 0 = 0 }; stamp = record { 0 = 9223372036854775806 }; dst = record { 0 = 1 }; body = Body.Note (NoteBody.Said 5) }

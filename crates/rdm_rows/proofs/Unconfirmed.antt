@@ -1,13 +1,12 @@
 -- Which confirmed sends are refused, and which wait until it is known whether their receiver can confirm.
 use Rattle.std.proofs.Common.{◌≡◌, ℕ, List, [], ◌∷◌, refl}
-use Rattle.std.specs.Prelude.{Bool, true, false, ◌==◌, Some, None, replicate}
+use Rattle.std.specs.Prelude.{Bool, true, false, ◌==◌, Some, replicate}
 use Rattle.rdm_num.specs.declared.limits.EpLimits.{EpLimits}
 use Rattle.rdm_model.specs.declared.job.Job.{Job}
 use Rattle.rdm_model.specs.declared.job.Instr.{Instr}
-use Rattle.rdm_model.specs.declared.job.Instr.TheVariants.{OpenLife, Insert, Reg, Send, Recv, Wait}
+use Rattle.rdm_model.specs.declared.job.Instr.TheVariants.{OpenLife, Insert, Reg, Wait}
 use Rattle.rdm_model.specs.declared.job.Choice.{Choice}
 use Rattle.rdm_model.specs.declared.entry.Act.{Act}
-use Rattle.rdm_model.specs.declared.answer.Next.{Next as Answer}
 use Rattle.rdm_model.specs.declared.answer.Next.TheVariants as Next
 use Rattle.rdm_model.specs.declared.answer.DidWhat.TheVariants as Did
 use Rattle.rdm_model.specs.declared.answer.Why.TheVariants as Why
@@ -17,37 +16,28 @@ use Rattle.rdm_model.specs.Worlds.{after_choices, new_world}
 use Rattle.rdm_model.specs.Scenes.{deeds_at}
 use Rattle.rdm_model.specs.Local.{own_scene}
 use Rattle.rdm_model.specs.Answers.{answer_of}
+use Rattle.rdm_model.specs.declared.answer.Next.{Next as Answer}
 use Rattle.rdm_rows.specs.Shown.{answers, ends, log_at, is_handle_of}
+use Rattle.rdm_rows.specs.Jobs.{one_seven, recv, send_with, two_ranks_with}
 use Rattle.rdm_rows.specs.Limits.{default_limits}
 use Rattle.rdm_rows.specs.Words.{every_word}
-use Rattle.rdm_rows.proofs.Confirmed.{one_seven}
 
 -- a send of `hello` to rank 1, with or without a receipt
 abbrev hello : (confirm : Bool) → Instr
-hello confirm =
-    Send (record { to = record { 0 = 1 }; parts = record { region = record { 0 = 0 }; at = 0; len = 5 } ∷ []; tag = Some 7; cq_data = None; confirm = confirm })
+hello confirm = send_with confirm 1 0 5 7
 
 abbrev receiver_ops : List Instr
 receiver_ops =
     OpenLife (record { 0 = 7 })
     ∷ Reg (replicate 8 0)
-    ∷ Recv (record { from = None; region = record { 0 = 0 }; at = 0; len = 8; want = Some (record { tag = 7; ignore = 0 }) })
+    ∷ recv 0 8 7
     ∷ Wait 1
     ∷ []
 
 -- the features of both ranks, the limits, and what rank 0 does after its first three instructions
 abbrev job_of : (own peer : ℕ) → EpLimits → List Instr → List Choice → Job
 job_of own peer limits ops choices =
-    record {
-      limits = limits;
-      inbox = 256;
-      clock = 0;
-      ranks =
-          record { features = own; limits = limits; ops = OpenLife (record { 0 = 5 }) ∷ Insert one_seven ∷ Reg (104 ∷ 101 ∷ 108 ∷ 108 ∷ 111 ∷ []) ∷ ops }
-          ∷ record { features = peer; limits = limits; ops = receiver_ops }
-          ∷ [];
-      choices = choices;
-    }
+    record (two_ranks_with own peer limits (OpenLife (record { 0 = 5 }) ∷ Insert one_seven ∷ Reg (104 ∷ 101 ∷ 108 ∷ 108 ∷ 111 ∷ []) ∷ ops) receiver_ops) { choices = choices }
 
 -- one send that is confirmed
 abbrev job : (own peer : ℕ) → Job

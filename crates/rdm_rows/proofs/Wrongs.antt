@@ -6,7 +6,7 @@ use Rattle.rdm_num.specs.declared.completion.Outcome.TheVariants.{Took}
 use Rattle.rdm_wire.specs.declared.Datagram.{Datagram}
 use Rattle.rdm_model.specs.declared.job.Job.{Job}
 use Rattle.rdm_model.specs.declared.job.Instr.{Instr}
-use Rattle.rdm_model.specs.declared.job.Instr.TheVariants.{OpenLife, Insert, Reg, Send, Recv}
+use Rattle.rdm_model.specs.declared.job.Instr.TheVariants.{OpenLife, Insert, Reg, Recv}
 use Rattle.rdm_model.specs.declared.entry.Act.{Act}
 use Rattle.rdm_model.specs.declared.answer.Class.{Class}
 use Rattle.rdm_model.specs.declared.answer.Entered.{Entered}
@@ -18,6 +18,7 @@ use Rattle.rdm_model.specs.Played.{played_world}
 use Rattle.rdm_model.specs.Scenes.{Scene, deeds_at}
 use Rattle.rdm_model.specs.Steps.{Does}
 use Rattle.rdm_rows.specs.Shown.{log_at, is_push_of, is_handle_of}
+use Rattle.rdm_rows.specs.Jobs.{zero_five, one_seven, send, recv, two_ranks}
 use Rattle.rdm_rows.specs.Limits.{default_limits}
 use Rattle.rdm_rows.specs.Words.{every_word}
 use Rattle.rdm_rows.proofs.Asked as Read
@@ -27,9 +28,9 @@ use Rattle.rdm_rows.proofs.Strangers as Strangers
 abbrev sender_ops : List Instr
 sender_ops =
     OpenLife (record { 0 = 5 })
-    ∷ Insert (record { port = record { 0 = 1 }; connid = record { 0 = 7 } })
+    ∷ Insert one_seven
     ∷ Reg (97 ∷ [])
-    ∷ Send (record { to = record { 0 = 1 }; parts = record { region = record { 0 = 0 }; at = 0; len = 1 } ∷ []; tag = (Some 257); cq_data = None; confirm = false })
+    ∷ send 1 0 1 257
     ∷ []
 
 -- two receives of tags 256 to 511, and between them one of tag 257
@@ -38,19 +39,12 @@ receiver_ops =
     OpenLife (record { 0 = 7 })
     ∷ Reg (replicate 3 0)
     ∷ Recv (record { from = None; region = record { 0 = 0 }; at = 0; len = 1; want = Some (record { tag = 256; ignore = 255 }) })
-    ∷ Recv (record { from = None; region = record { 0 = 0 }; at = 1; len = 1; want = Some (record { tag = 257; ignore = 0 }) })
+    ∷ recv 1 1 257
     ∷ Recv (record { from = None; region = record { 0 = 0 }; at = 2; len = 1; want = Some (record { tag = 256; ignore = 255 }) })
     ∷ []
 
 abbrev job : Job
-job =
-    record {
-      limits = default_limits;
-      inbox = 256;
-      clock = 0;
-      ranks = record { features = 25; limits = default_limits; ops = sender_ops } ∷ record { features = 25; limits = default_limits; ops = receiver_ops } ∷ [];
-      choices = [];
-    }
+job = two_ranks default_limits sender_ops receiver_ops
 
 -- the scene of a port of a job after the entry that passes
 abbrev scene_after : Job → ℕ → (Act → Bool) → Scene
@@ -66,7 +60,7 @@ recv_of _ = 3
 
 -- the message that all three receives take
 abbrev taken_by : ℕ → Completion
-taken_by n = Completion.Recv (record { 0 = n }) (Took (record { port = record { 0 = 0 }; connid = record { 0 = 5 } }) (Some 257) None (97 ∷ []) 0)
+taken_by n = Completion.Recv (record { 0 = n }) (Took zero_five (Some 257) None (97 ∷ []) 0)
 
 first_takes : (n : ℕ) → Some (taken_by 0) ≡ Some (taken_by n) → 0 ≡ n
 unfolding recv_of
@@ -109,7 +103,7 @@ first_byte _ = 0
 
 -- the segmented message with these bytes
 abbrev segmented : List ℕ → Completion
-segmented bytes = Completion.Recv (record { 0 = 0 }) (Took (record { port = record { 0 = 0 }; connid = record { 0 = 5 } }) (Some 1) None bytes 0)
+segmented bytes = Completion.Recv (record { 0 = 0 }) (Took zero_five (Some 1) None bytes 0)
 
 begins_otherwise : (bytes rest : List ℕ) → Some (segmented (0 ∷ bytes)) ≡ Some (segmented (105 ∷ rest)) → ⊥
 unfolding first_byte
