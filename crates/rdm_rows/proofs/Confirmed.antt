@@ -24,7 +24,7 @@ use Rattle.rdm_law.specs.Headline.{SaysRight}
 use Rattle.rdm_law.proofs.Central.TheLaw.{the_headline}
 use Rattle.rdm_rows.proofs.Greeted.{nothing, nothing_either, IsOpened, opened, port_apart, number_apart}
 use Rattle.rdm_rows.proofs.Confirming.{job, history, before_hello, before_receipt, log_0, log_1}
-use Rattle.rdm_rows.specs.Jobs.{zero_five, one_seven, send_with, recv}
+use Rattle.rdm_rows.specs.Jobs.{zero_five, one_seven, send_with, recv, send}
 use Rattle.rdm_rows.specs.Words.{every_word}
 
 -- the send of `hello`, as it was accepted

@@ -1,7 +1,6 @@
 -- Reports that are refused by what a right report says of drops, of pools, of what was sent, and of the end.
 use Rattle.std.proofs.Common.{◌≡◌, ℕ, ◌≤◌, List, [], ◌∷◌, refl, sym, arith}
 use Rattle.std.specs.Prelude.{Some, None}
-use Rattle.rdm_num.specs.declared.numbers.Life.{Life}
 use Rattle.rdm_match.specs.declared.Arrived.{Arrived}
 use Rattle.rdm_model.specs.declared.job.Job.{Job}
 use Rattle.rdm_model.specs.declared.job.Instr.{Instr}
@@ -18,11 +17,11 @@ use Rattle.rdm_model.specs.declared.report.End.{End}
 use Rattle.rdm_law.specs.Matched.{merge_in, arrivals_from, arrivals_in, sent_messages}
 use Rattle.rdm_law.specs.Headline.{SaysRight}
 use Rattle.rdm_rows.proofs.Greeting as Greeting
-use Rattle.rdm_rows.proofs.Greeting.{datagram_0_0, datagram_0_1, datagram_1_0}
-use Rattle.rdm_rows.proofs.Refused.{before_hello, before_poll}
-use Rattle.rdm_rows.proofs.Says.{told, sender}
-use Rattle.rdm_rows.specs.Jobs.{one_seven, two_ranks}
+use Rattle.rdm_rows.proofs.Greeting.{before_hello, before_poll, datagram_0_1}
+use Rattle.rdm_rows.proofs.Says.{told}
+use Rattle.rdm_rows.specs.Jobs.{one_seven, two_ranks, zero_five}
 use Rattle.rdm_rows.specs.Limits.{default_limits}
+use Rattle.rdm_rows.specs.Met.{met}
 use Rattle.rdm_rows.specs.Words.{every_word}
 
 abbrev closing_ops : List Instr
@@ -40,13 +39,7 @@ closed =
     ∷ record { stamp = record { 0 = 5 }; port = record { 0 = 0 }; act = Act.Next 2 Op.Reg (Next.Did (Did.Region (record { 0 = 0 }))) }
     ∷ record { stamp = record { 0 = 4 }; port = record { 0 = 1 }; act = Act.Next 1 Op.Close (Next.Did Did.Plain) }
     ∷ record { stamp = record { 0 = 4 }; port = record { 0 = 0 }; act = Act.Next 1 Op.Insert (Next.Did Did.Plain) }
-    ∷ record { stamp = record { 0 = 3 }; port = record { 0 = 1 }; act = Act.Handle datagram_0_0 (Handled.Took None) }
-    ∷ record { stamp = record { 0 = 3 }; port = record { 0 = 0 }; act = Act.Handle datagram_1_0 (Handled.Took None) }
-    ∷ record { stamp = record { 0 = 2 }; port = record { 0 = 1 }; act = Act.Push datagram_1_0 }
-    ∷ record { stamp = record { 0 = 2 }; port = record { 0 = 0 }; act = Act.Push datagram_0_0 }
-    ∷ record { stamp = record { 0 = 1 }; port = record { 0 = 1 }; act = Act.Next 0 Op.Open (Next.Did Did.Plain) }
-    ∷ record { stamp = record { 0 = 1 }; port = record { 0 = 0 }; act = Act.Next 0 Op.Open (Next.Did Did.Plain) }
-    ∷ []
+    ∷ met
 
 -- an end of a port that has nothing left, with so many drops of either kind
 abbrev ended : ℕ → ℕ → ℕ → End
@@ -93,16 +86,7 @@ abbrev unsent : List Entry
 unsent =
     record { stamp = record { 0 = 8 }; port = record { 0 = 1 }; act = Act.Handle datagram_0_1 (Handled.Took (Some (record { first = record { 0 = 0 }; count = 1 }))) }
     ∷ record { stamp = record { 0 = 7 }; port = record { 0 = 0 }; act = Act.Push datagram_0_1 }
-    ∷ record { stamp = record { 0 = 3 }; port = record { 0 = 1 }; act = Act.Handle datagram_0_0 (Handled.Took None) }
-    ∷ record { stamp = record { 0 = 3 }; port = record { 0 = 0 }; act = Act.Handle datagram_1_0 (Handled.Took None) }
-    ∷ record { stamp = record { 0 = 2 }; port = record { 0 = 1 }; act = Act.Push datagram_1_0 }
-    ∷ record { stamp = record { 0 = 2 }; port = record { 0 = 0 }; act = Act.Push datagram_0_0 }
-    ∷ record { stamp = record { 0 = 1 }; port = record { 0 = 1 }; act = Act.Next 0 Op.Open (Next.Did Did.Plain) }
-    ∷ record { stamp = record { 0 = 1 }; port = record { 0 = 0 }; act = Act.Next 0 Op.Open (Next.Did Did.Plain) }
-    ∷ []
-
-abbrev receiver : Life
-receiver = one_seven
+    ∷ met
 
 -- one message is not none
 one_is_none : (a : Arrived) → a ∷ [] ≡ [] → ⊥
@@ -111,7 +95,7 @@ one_is_none a e = absurd cc
 -- a message that was not sent
 unsent_is_refused : (ends : List End) → SaysRight Greeting.job (told unsent ends) → ⊥
 unfolding every_word merge_in arrivals_in arrivals_from sent_messages
-unsent_is_refused ends s = one_is_none _ (s.matched.come receiver sender)
+unsent_is_refused ends s = one_is_none _ (s.matched.come one_seven zero_five)
 
 -- a datagram that is handled twice
 second_handling_is_refused : (ends : List End)

@@ -31,6 +31,7 @@ use Rattle.rdm_model.specs.Lawful.{Lawful, IsPartOf, IsApart, sent_scene}
 use Rattle.rdm_rows.proofs.Greeted.{nothing, nothing_either, plain_ends, IsOpened, opened, port_apart, number_apart}
 use Rattle.rdm_rows.specs.Jobs.{zero_five, one_seven, recv, two_ranks}
 use Rattle.rdm_rows.specs.Limits.{default_limits}
+use Rattle.rdm_rows.specs.Met.{met}
 use Rattle.rdm_rows.specs.Words.{every_word}
 
 -- `hello` and `world`, without what stands between them
@@ -54,12 +55,6 @@ job_ops_1 =
 abbrev pub job : Job
 job = two_ranks default_limits job_ops_0 job_ops_1
 
-abbrev pub datagram_0_0 : Datagram
-datagram_0_0 = record { src = record { 0 = 0 }; number = record { 0 = 0 }; stamp = record { 0 = 2 }; dst = record { 0 = 1 }; body = Body.Note (NoteBody.Opened (record { 0 = 5 })) }
-
-abbrev pub datagram_1_0 : Datagram
-datagram_1_0 = record { src = record { 0 = 1 }; number = record { 0 = 0 }; stamp = record { 0 = 2 }; dst = record { 0 = 0 }; body = Body.Note (NoteBody.Opened (record { 0 = 7 })) }
-
 abbrev pub datagram_0_1 : Datagram
 datagram_0_1 = record { src = record { 0 = 0 }; number = record { 0 = 1 }; stamp = record { 0 = 7 }; dst = record { 0 = 1 }; body = Body.Between (record { 0 = 5 }) (record { 0 = 7 }) (Load.Packet (65 ∷ 4 ∷ 9 ∷ 0 ∷ 0 ∷ 0 ∷ 0 ∷ 0 ∷ 7 ∷ 0 ∷ 0 ∷ 0 ∷ 0 ∷ 0 ∷ 0 ∷ 0 ∷ 32 ∷ 0 ∷ 0 ∷ 0 ∷ 0 ∷ 0 ∷ 0 ∷ 0 ∷ 0 ∷ 0 ∷ 0 ∷ 0 ∷ 0 ∷ 0 ∷ 0 ∷ 0 ∷ 0 ∷ 0 ∷ 0 ∷ 0 ∷ 1 ∷ 0 ∷ 0 ∷ 0 ∷ 5 ∷ 0 ∷ 0 ∷ 0 ∷ 0 ∷ 0 ∷ 0 ∷ 0 ∷ 0 ∷ 0 ∷ 0 ∷ 0 ∷ 104 ∷ 101 ∷ 108 ∷ 108 ∷ 111 ∷ 119 ∷ 111 ∷ 114 ∷ 108 ∷ 100 ∷ [])) }
 
@@ -80,13 +75,7 @@ before_words =
     ∷ record { stamp = record { 0 = 5 }; port = record { 0 = 0 }; act = Act.Next 2 Op.Reg (Next.Did (Did.Region (record { 0 = 0 }))) }
     ∷ record { stamp = record { 0 = 4 }; port = record { 0 = 1 }; act = Act.Next 1 Op.Reg (Next.Did (Did.Region (record { 0 = 0 }))) }
     ∷ record { stamp = record { 0 = 4 }; port = record { 0 = 0 }; act = Act.Next 1 Op.Insert (Next.Did Did.Plain) }
-    ∷ record { stamp = record { 0 = 3 }; port = record { 0 = 1 }; act = Act.Handle datagram_0_0 (Handled.Took None) }
-    ∷ record { stamp = record { 0 = 3 }; port = record { 0 = 0 }; act = Act.Handle datagram_1_0 (Handled.Took None) }
-    ∷ record { stamp = record { 0 = 2 }; port = record { 0 = 1 }; act = Act.Push datagram_1_0 }
-    ∷ record { stamp = record { 0 = 2 }; port = record { 0 = 0 }; act = Act.Push datagram_0_0 }
-    ∷ record { stamp = record { 0 = 1 }; port = record { 0 = 1 }; act = Act.Next 0 Op.Open (Next.Did Did.Plain) }
-    ∷ record { stamp = record { 0 = 1 }; port = record { 0 = 0 }; act = Act.Next 0 Op.Open (Next.Did Did.Plain) }
-    ∷ []
+    ∷ met
 
 -- up to its handling, which is left out
 abbrev pub before_handling : List Entry

@@ -30,12 +30,12 @@ use Rattle.rdm_law.specs.Polled.{IsMatched, PollsMatched}
 use Rattle.rdm_law.specs.Headline.{SaysRight}
 use Rattle.rdm_law.proofs.Central.TheLaw.{the_headline}
 use Rattle.rdm_rows.proofs.Greeting as Greeting
-use Rattle.rdm_rows.proofs.Greeting.{datagram_0_0, datagram_0_1, datagram_0_2, datagram_1_0, datagram_1_1}
+use Rattle.rdm_rows.proofs.Greeting.{before_poll, after_poll, datagram_0_1}
 use Rattle.rdm_rows.proofs.Greeted as Greeted
 use Rattle.rdm_rows.proofs.Fairness.{greeting_is_fair}
-use Rattle.rdm_rows.proofs.Refused.{before_poll}
 use Rattle.rdm_rows.specs.Jobs.{zero_five, recv, two_ranks}
 use Rattle.rdm_rows.specs.Limits.{default_limits}
+use Rattle.rdm_rows.specs.Met.{met}
 use Rattle.rdm_rows.specs.Words.{every_word}
 
 -- a report of a history with these ends
@@ -46,22 +46,9 @@ told history ends = record { stuck = false; history = history; ends = ends }
 abbrev polls : ℕ → ℕ → Outcome → Entry
 polls stamp recv o = record { stamp = record { 0 = stamp }; port = record { 0 = 1 }; act = Act.Poll (Completion.Recv (record { 0 = recv }) o) }
 
-abbrev pub sender : Life
-sender = zero_five
-
 -- the message `hello`, as it was sent
 abbrev hello : Outcome
-hello = Took sender (Some 7) None (104 ∷ 101 ∷ 108 ∷ 108 ∷ 111 ∷ []) 0
-
--- what comes after the poll in the history of the greeting
-abbrev after_poll : List Entry
-after_poll =
-    record { stamp = record { 0 = 14 }; port = record { 0 = 1 }; act = Act.Handle datagram_0_2 (Handled.Took None) }
-    ∷ record { stamp = record { 0 = 13 }; port = record { 0 = 0 }; act = Act.Push datagram_0_2 }
-    ∷ record { stamp = record { 0 = 12 }; port = record { 0 = 0 }; act = Act.Handle datagram_1_1 (Handled.Took None) }
-    ∷ record { stamp = record { 0 = 11 }; port = record { 0 = 1 }; act = Act.Push datagram_1_1 }
-    ∷ record { stamp = record { 0 = 10 }; port = record { 0 = 1 }; act = Act.Next 3 Op.Wait (Next.Did Did.Plain) }
-    ∷ []
+hello = Took zero_five (Some 7) None (104 ∷ 101 ∷ 108 ∷ 108 ∷ 111 ∷ []) 0
 
 -- the greeting with another outcome of its receive
 abbrev greeting : Outcome → List Entry
@@ -97,9 +84,9 @@ none_left [] b e = omega (arith, e)
 none_left (x ∷ xs) b e = absurd cc
 
 -- the greeting's receive of 8 bytes, polled as cut off to nothing
-truncated_is_refused : (ends : List End) → SaysRight Greeting.job (told (greeting (Took sender (Some 7) None [] 5)) ends) → ⊥
+truncated_is_refused : (ends : List End) → SaysRight Greeting.job (told (greeting (Took zero_five (Some 7) None [] 5)) ends) → ⊥
 truncated_is_refused ends s =
-    let p = s.polled after_poll (polls 9 0 (Took sender (Some 7) None [] 5)) before_poll (record { 0 = 0 }) (Took sender (Some 7) None [] 5) refl refl in
+    let p = s.polled after_poll (polls 9 0 (Took zero_five (Some 7) None [] 5)) before_poll (record { 0 = 0 }) (Took zero_five (Some 7) None [] 5) refl refl in
     let eight = asked_8 p.connid p.receive p.is_open p.is_receive in
     none_left p.ended.send.message.bytes (subst (λ (n : ℕ). [] ≡ take n p.ended.send.message.bytes) (sym eight) p.ended.bytes_are)
     (subst (λ (n : ℕ). 5 ≡ length p.ended.send.message.bytes - n) (sym eight) p.ended.excess_is)
@@ -134,7 +121,7 @@ greeting_receive =
 
 -- the first message of rank 0, as it comes to rank 1
 abbrev greeting_message : Arrived
-greeting_message = record { life = sender; no = record { 0 = 0 }; tag = Some 7 }
+greeting_message = record { life = zero_five; no = record { 0 = 0 }; tag = Some 7 }
 
 -- it was matched to that receive, before and after the poll
 first_polls : PollsMatched Greeting.job before_poll (polls 9 0 hello) (record { 0 = 7 }) greeting_message
@@ -174,13 +161,7 @@ before_twice =
     ∷ record { stamp = record { 0 = 5 }; port = record { 0 = 0 }; act = Act.Next 2 Op.Reg (Next.Did (Did.Region (record { 0 = 0 }))) }
     ∷ record { stamp = record { 0 = 4 }; port = record { 0 = 1 }; act = Act.Next 1 Op.Reg (Next.Did (Did.Region (record { 0 = 0 }))) }
     ∷ record { stamp = record { 0 = 4 }; port = record { 0 = 0 }; act = Act.Next 1 Op.Insert (Next.Did Did.Plain) }
-    ∷ record { stamp = record { 0 = 3 }; port = record { 0 = 1 }; act = Act.Handle datagram_0_0 (Handled.Took None) }
-    ∷ record { stamp = record { 0 = 3 }; port = record { 0 = 0 }; act = Act.Handle datagram_1_0 (Handled.Took None) }
-    ∷ record { stamp = record { 0 = 2 }; port = record { 0 = 1 }; act = Act.Push datagram_1_0 }
-    ∷ record { stamp = record { 0 = 2 }; port = record { 0 = 0 }; act = Act.Push datagram_0_0 }
-    ∷ record { stamp = record { 0 = 1 }; port = record { 0 = 1 }; act = Act.Next 0 Op.Open (Next.Did Did.Plain) }
-    ∷ record { stamp = record { 0 = 1 }; port = record { 0 = 0 }; act = Act.Next 0 Op.Open (Next.Did Did.Plain) }
-    ∷ []
+    ∷ met
 
 -- the number of a receive, as the matcher sees it
 posted_number : Option Receive → ℕ
