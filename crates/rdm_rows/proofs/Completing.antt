@@ -9,14 +9,13 @@ use Rattle.rdm_pkt.specs.declared.Form.TheVariants as Form
 use Rattle.rdm_model.specs.declared.answer.Class.TheVariants as Class
 use Rattle.rdm_model.specs.declared.answer.Handled.{Handled}
 use Rattle.rdm_model.specs.Deeds.{Item, Spelled}
-use Rattle.rdm_model.specs.Scenes.{Scene, deeds_at}
-use Rattle.rdm_model.specs.Local.{own_scene}
+use Rattle.rdm_model.specs.Scenes.{Scene}
 use Rattle.rdm_model.specs.Classes.{class_of}
 use Rattle.rdm_model.specs.Takes.{handled_answer}
 use Rattle.rdm_model.specs.Going.{going}
 use Rattle.rdm_model.specs.Completions.{completions}
 use Rattle.rdm_model.specs.Played.{played_world}
-use Rattle.rdm_rows.specs.Shown.{pushed_items, polls, log_at, is_push_of, is_handle_of}
+use Rattle.rdm_rows.specs.Shown.{pushed_items, polls, is_push_of, is_handle_of, scene_then}
 use Rattle.rdm_rows.specs.Words.{every_word}
 use Rattle.rdm_rows.proofs.Early.{eager, segmented, granted}
 
@@ -36,7 +35,7 @@ completed = Completion.Send (record { 0 = 0 }) false
 -- Without a receipt, between ranks that could confirm:
 
 abbrev plain_scene : Scene
-plain_scene = own_scene (eager false) 0 (deeds_at (eager false) 0 (log_at (is_push_of 2) ((played_world (eager false)).logs 0)))
+plain_scene = scene_then (eager false) 0 (is_push_of 2)
 
 -- the send completes when it is pushed
 plain_completes : completions plain_scene.own plain_scene.ms plain_scene.log ≡ completed ∷ []
@@ -86,7 +85,7 @@ granted_polled_0 = refl
 
 -- once all was pushed nothing goes, and the send is not complete
 abbrev granted_scene : Scene
-granted_scene = own_scene granted 0 (deeds_at granted 0 (log_at (is_push_of 3) ((played_world granted).logs 0)))
+granted_scene = scene_then granted 0 (is_push_of 3)
 
 granted_waits : going granted_scene ≡ None
 unfolding every_word
@@ -101,7 +100,7 @@ granted_is_live = refl
 -- its answer to the second one, in a packet of that type
 abbrev answer : (type' : ℕ) → Handled
 answer type' =
-    handled_answer class_of (own_scene segmented 1 (deeds_at segmented 1 (log_at (is_handle_of 0 2) ((played_world segmented).logs 1))))
+    handled_answer class_of (scene_then segmented 1 (is_handle_of 0 2))
     (record {
       src = record { 0 = 0 };
       number = record { 0 = 99 };

@@ -1,6 +1,6 @@
 -- The whole history of the confirmed send is lawful, in all that a right report says of it.
 use Rattle.std.proofs.Common.{◌≡◌, ℕ, [], ◌∷◌, refl, inl, inr, arith, subst}
-use Rattle.std.specs.Prelude.{Some, None, replicate, true, false, ◌⊎◌}
+use Rattle.std.specs.Prelude.{Some, None, replicate, true, ◌⊎◌}
 use Rattle.rdm_num.specs.declared.numbers.Life.{Life}
 use Rattle.rdm_num.specs.Pieces.{Piece}
 use Rattle.rdm_wire.specs.declared.NoteBody.TheVariants as NoteBody
@@ -25,6 +25,7 @@ use Rattle.rdm_law.proofs.Central.TheLaw.{the_headline}
 use Rattle.rdm_rows.proofs.Greeted.{nothing, nothing_either, IsOpened, opened, port_apart, number_apart}
 use Rattle.rdm_rows.proofs.Confirming.{job, history, before_hello, before_receipt, log_0, log_1}
 use Rattle.rdm_rows.specs.Jobs.{zero_five, one_seven, send_with, recv, send}
+use Rattle.rdm_rows.specs.Shown.{finished, told}
 use Rattle.rdm_rows.specs.Words.{every_word}
 
 -- the send of `hello`, as it was accepted
@@ -88,15 +89,7 @@ history_is_lawful =
 
 -- the report of this history
 abbrev pub report : Report
-report =
-    record {
-      stuck = false;
-      history = history;
-      ends =
-          record { done = 5; all = 5; left = None; to_other = 0; from_other = 0; waiting = 0 }
-          ∷ record { done = 4; all = 4; left = None; to_other = 0; from_other = 0; waiting = 0 }
-          ∷ [];
-    }
+report = told history (finished 5 ∷ finished 4 ∷ [])
 
 pub report_is_right : RightReport job report
 unfolding every_word

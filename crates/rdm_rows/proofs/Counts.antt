@@ -18,10 +18,10 @@ use Rattle.rdm_law.specs.Matched.{merge_in, arrivals_from, arrivals_in, sent_mes
 use Rattle.rdm_law.specs.Headline.{SaysRight}
 use Rattle.rdm_rows.proofs.Greeting as Greeting
 use Rattle.rdm_rows.proofs.Greeting.{before_hello, before_poll, datagram_0_1}
-use Rattle.rdm_rows.proofs.Says.{told}
 use Rattle.rdm_rows.specs.Jobs.{one_seven, two_ranks, zero_five}
 use Rattle.rdm_rows.specs.Limits.{default_limits}
 use Rattle.rdm_rows.specs.Met.{met}
+use Rattle.rdm_rows.specs.Shown.{left_at, told}
 use Rattle.rdm_rows.specs.Words.{every_word}
 
 abbrev closing_ops : List Instr
@@ -76,10 +76,10 @@ open_drop_is_refused ends s =
 
 -- an instruction that is to be tried again, where no place of its pool is taken
 again_is_refused : (rest : List End)
-    → SaysRight Greeting.job (told Greeting.history (record { done = 4; all = 5; left = Some (Next.Again Tx); to_other = 0; from_other = 0; waiting = 0 } ∷ rest)) → ⊥
+    → SaysRight Greeting.job (told Greeting.history (left_at 4 5 (Next.Again Tx) ∷ rest)) → ⊥
 unfolding every_word
 again_is_refused rest s =
-    (let full : 64 ≤ 0 = s.again.left 0 (record { done = 4; all = 5; left = Some (Next.Again Tx); to_other = 0; from_other = 0; waiting = 0 }) Tx refl refl in omega arith)
+    (let full : 64 ≤ 0 = s.again.left 0 (left_at 4 5 (Next.Again Tx)) Tx refl refl in omega arith)
 
 -- the message comes, and nobody sent it
 abbrev unsent : List Entry

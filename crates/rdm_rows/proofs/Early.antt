@@ -1,6 +1,6 @@
 -- Receipts that no port of the job pushed come to a live send: which of them it takes.
 use Rattle.std.proofs.Common.{◌≡◌, ℕ, List, [], ◌∷◌, refl}
-use Rattle.std.specs.Prelude.{Bool, true, false, ◌==◌, Option, None, replicate}
+use Rattle.std.specs.Prelude.{Bool, true, false, Option, None, replicate}
 use Rattle.rdm_num.specs.declared.limits.EpLimits.{EpLimits}
 use Rattle.rdm_wire.specs.declared.Datagram.{Datagram}
 use Rattle.rdm_wire.specs.declared.Body.TheVariants as Body
@@ -12,15 +12,12 @@ use Rattle.rdm_model.specs.declared.entry.Act.{Act}
 use Rattle.rdm_model.specs.declared.answer.Class.{Class}
 use Rattle.rdm_model.specs.declared.answer.Entered.{Entered}
 use Rattle.rdm_model.specs.declared.answer.Handled.{Handled}
-use Rattle.rdm_model.specs.Played.{played_world}
-use Rattle.rdm_model.specs.Scenes.{Scene, deeds_at}
-use Rattle.rdm_model.specs.Local.{own_scene}
 use Rattle.rdm_model.specs.Targets.{live_message}
 use Rattle.rdm_model.specs.ClassFacts.{is_early_receipt}
 use Rattle.rdm_model.specs.Classes.{class_of}
 use Rattle.rdm_model.specs.Takes.{handled_answer}
 use Rattle.rdm_model.specs.Steps.{Does}
-use Rattle.rdm_rows.specs.Shown.{log_at, is_push_of, is_handle_of}
+use Rattle.rdm_rows.specs.Shown.{is_push_of, is_handle_of, is_next_of, scene_then}
 use Rattle.rdm_rows.specs.Jobs.{one_seven, recv, send_with, two_ranks_with}
 use Rattle.rdm_rows.specs.Limits.{default_limits}
 use Rattle.rdm_rows.specs.Words.{every_word}
@@ -63,10 +60,6 @@ granted = job_of (record default_limits { mtu = 256; medium = 0 }) true 240
 abbrev pub read : Job
 read = job_of (record default_limits { mtu = 256; read_limit = 240 }) true 240
 
--- the scene of rank 0 when its newest entry was one that passes
-abbrev scene_then : Job → (Act → Bool) → Scene
-scene_then job test = own_scene job 0 (deeds_at job 0 (log_at test ((played_world job).logs 0)))
-
 -- a receipt of the message with that number, from life 1.7
 abbrev receipt : ℕ → Datagram
 receipt number =
@@ -79,18 +72,13 @@ receipt number =
     }
 
 abbrev answer : Job → (Act → Bool) → (number : ℕ) → Handled
-answer job test number = handled_answer class_of (scene_then job test) (receipt number)
-
--- the instruction of that index
-is_next_of : ℕ → Act → Bool
-is_next_of n (Act.Next index op answer) = index == n
-is_next_of n _ = false
+answer job test number = handled_answer class_of (scene_then job 0 test) (receipt number)
 
 -- Rank 0, whose message goes in one packet:
 
 -- the send is accepted, and nothing of it was pushed
 before_packet : answer (eager true) (is_next_of 3) 0 ≡ Handled.Dropped Class.Mismatch
-unfolding every_word is_next_of
+unfolding every_word
 before_packet = refl
 
 -- the packet was pushed
@@ -105,7 +93,7 @@ of_other_message = refl
 
 -- the send asks for no receipt
 not_asked_for : answer (eager false) (is_next_of 3) 0 ≡ Handled.Dropped Class.NoOp
-unfolding every_word is_next_of
+unfolding every_word
 not_asked_for = refl
 
 -- Rank 0, whose message goes in two segments:
@@ -116,7 +104,7 @@ unfolding every_word
 after_first_segment = refl
 
 -- since the receipt is early
-is_early : is_early_receipt (scene_then segmented (is_push_of 2)) (live_message (scene_then segmented (is_push_of 2)) one_seven 0) ≡ true
+is_early : is_early_receipt (scene_then segmented 0 (is_push_of 2)) (live_message (scene_then segmented 0 (is_push_of 2)) one_seven 0) ≡ true
 unfolding every_word
 is_early = refl
 
@@ -125,7 +113,7 @@ dropped_is_not_taken class' entered e = absurd cc
 
 -- so a log that takes it is refused
 early_receipt_is_refused : (entered : Option Entered)
-    → Does segmented class_of (scene_then segmented (is_push_of 2)) []
+    → Does segmented class_of (scene_then segmented 0 (is_push_of 2)) []
     (record { stamp = record { 0 = 11 }; port = record { 0 = 0 }; act = Act.Handle (receipt 0) (Handled.Took entered) })
     (Act.Handle (receipt 0) (Handled.Took entered))
     → ⊥

@@ -22,7 +22,7 @@ use Rattle.rdm_model.specs.Local.{own_scene}
 use Rattle.rdm_model.specs.Takes.{handled_answer}
 use Rattle.rdm_model.specs.Classes.{class_of}
 use Rattle.rdm_model.specs.Played.{played_world}
-use Rattle.rdm_rows.specs.Shown.{pushed_items, polls, answers, ends}
+use Rattle.rdm_rows.specs.Shown.{pushed_items, polls, answers, ends, finished, left_at}
 use Rattle.rdm_rows.specs.Jobs.{zero_five, one_seven, send_with, recv, two_ranks_with}
 use Rattle.rdm_rows.specs.Limits.{default_limits}
 use Rattle.rdm_rows.specs.Words.{every_word}
@@ -79,10 +79,7 @@ unfolding every_word
 cancelled_pushes = refl
 
 -- so the send never completes
-cancelled_ends : ends cancelled (played_world cancelled) ≡
-    record { done = 4; all = 5; left = Some (Next.NotYet (Yet.Wait 0 1)); to_other = 0; from_other = 0; waiting = 0 }
-    ∷ record { done = 5; all = 5; left = None; to_other = 0; from_other = 0; waiting = 0 }
-    ∷ []
+cancelled_ends : ends cancelled (played_world cancelled) ≡ left_at 4 5 (Next.NotYet (Yet.Wait 0 1)) ∷ finished 5 ∷ []
 unfolding every_word
 cancelled_ends = refl
 

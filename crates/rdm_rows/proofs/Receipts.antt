@@ -26,11 +26,10 @@ use Rattle.rdm_model.specs.Steps.{Does}
 use Rattle.rdm_model.specs.Played.{played_world}
 use Rattle.rdm_model.specs.Lawful.{Lawful, Confirms, sent_scene}
 use Rattle.rdm_law.specs.Headline.{SaysRight}
-use Rattle.rdm_rows.proofs.Says.{told}
 use Rattle.rdm_rows.proofs.Confirming.{job, before_hello, before_push, before_receipt, after_receipt, own_after_receipt, datagram_1_2}
 use Rattle.rdm_rows.proofs.Confirmed.{hello}
 use Rattle.rdm_rows.proofs.Early.{read}
-use Rattle.rdm_rows.specs.Shown.{log_at, is_push_of}
+use Rattle.rdm_rows.specs.Shown.{log_at, is_push_of, told}
 use Rattle.rdm_rows.specs.Jobs.{zero_five, one_seven}
 use Rattle.rdm_rows.specs.Words.{every_word}
 

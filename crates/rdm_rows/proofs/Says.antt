@@ -19,7 +19,6 @@ use Rattle.rdm_model.specs.declared.answer.Next.TheVariants as Next
 use Rattle.rdm_model.specs.declared.answer.DidWhat.TheVariants as Did
 use Rattle.rdm_model.specs.declared.answer.Handled.TheVariants as Handled
 use Rattle.rdm_model.specs.declared.report.End.{End}
-use Rattle.rdm_model.specs.declared.report.Report.{Report}
 use Rattle.rdm_model.specs.Deeds.{open_life}
 use Rattle.rdm_model.specs.Currents.{is_forgotten}
 use Rattle.rdm_model.specs.Matches.{Receive, receives}
@@ -36,11 +35,8 @@ use Rattle.rdm_rows.proofs.Fairness.{greeting_is_fair}
 use Rattle.rdm_rows.specs.Jobs.{zero_five, recv, two_ranks}
 use Rattle.rdm_rows.specs.Limits.{default_limits}
 use Rattle.rdm_rows.specs.Met.{met}
+use Rattle.rdm_rows.specs.Shown.{told}
 use Rattle.rdm_rows.specs.Words.{every_word}
-
--- a report of a history with these ends
-abbrev pub told : List Entry → List End → Report
-told history ends = record { stuck = false; history = history; ends = ends }
 
 -- rank 1 polls its receive of that number
 abbrev polls : ℕ → ℕ → Outcome → Entry

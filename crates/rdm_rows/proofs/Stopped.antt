@@ -1,6 +1,6 @@
 -- Rank 0 says two words to rank 1, near the end of the clock: a history that was not played, of ports that stopped by themselves.
 use Rattle.std.proofs.Common.{◌≡◌, ℕ, zero, suc, ◌<◌, List, [], ◌∷◌, refl, arith, ◌⊎◌, inl, inr, sym, ap, subst, slice_get}
-use Rattle.std.specs.Prelude.{Some, None, false, true, ◌==◌, if◌then◌else◌}
+use Rattle.std.specs.Prelude.{Some, None, true, ◌==◌, if◌then◌else◌}
 use Rattle.std.proofs.lemmas.Bool.{ne_eqb}
 use Rattle.rdm_num.specs.declared.numbers.DatagramNo.{DatagramNo}
 use Rattle.rdm_wire.specs.declared.Datagram.{Datagram}
@@ -30,6 +30,7 @@ use Rattle.rdm_law.specs.Worlds.{IsWaiting, HasWaiting, is_quiet_alone}
 use Rattle.rdm_law.proofs.Played.Stopped.{stopped_is_right}
 use Rattle.rdm_rows.specs.Jobs.{two_ranks}
 use Rattle.rdm_rows.specs.Limits.{default_limits}
+use Rattle.rdm_rows.specs.Shown.{finished, told}
 use Rattle.rdm_rows.specs.Words.{every_word}
 
 -- four stamps are left
@@ -61,15 +62,7 @@ abbrev world : World
 world = record { logs = λ port. log_of port history; queues = λ port. []; stashes = stash; changes = 0 }
 
 abbrev report : Report
-report =
-    record {
-      stuck = false;
-      history = history;
-      ends =
-          record { done = 2; all = 2; left = None; to_other = 0; from_other = 0; waiting = 0 }
-          ∷ record { done = 0; all = 0; left = None; to_other = 0; from_other = 0; waiting = 1 }
-          ∷ [];
-    }
+report = told history (finished 2 ∷ record (finished 0) { waiting = 1 } ∷ [])
 
 fair : is_fair law_ops job ≡ true
 unfolding every_word

@@ -1,6 +1,6 @@
 -- Which confirmed sends are refused, and which wait until it is known whether their receiver can confirm.
 use Rattle.std.proofs.Common.{◌≡◌, ℕ, List, [], ◌∷◌, refl}
-use Rattle.std.specs.Prelude.{Bool, true, false, ◌==◌, Some, replicate}
+use Rattle.std.specs.Prelude.{Bool, true, false, replicate}
 use Rattle.rdm_num.specs.declared.limits.EpLimits.{EpLimits}
 use Rattle.rdm_model.specs.declared.job.Job.{Job}
 use Rattle.rdm_model.specs.declared.job.Instr.{Instr}
@@ -13,11 +13,9 @@ use Rattle.rdm_model.specs.declared.answer.Why.TheVariants as Why
 use Rattle.rdm_model.specs.declared.answer.Yet.TheVariants as Yet
 use Rattle.rdm_model.specs.Played.{played_world}
 use Rattle.rdm_model.specs.Worlds.{after_choices, new_world}
-use Rattle.rdm_model.specs.Scenes.{deeds_at}
-use Rattle.rdm_model.specs.Local.{own_scene}
 use Rattle.rdm_model.specs.Answers.{answer_of}
 use Rattle.rdm_model.specs.declared.answer.Next.{Next as Answer}
-use Rattle.rdm_rows.specs.Shown.{answers, ends, log_at, is_handle_of}
+use Rattle.rdm_rows.specs.Shown.{answers, ends, is_handle_of, left_at, is_next_of, scene_then}
 use Rattle.rdm_rows.specs.Jobs.{one_seven, recv, send_with, two_ranks_with}
 use Rattle.rdm_rows.specs.Limits.{default_limits}
 use Rattle.rdm_rows.specs.Words.{every_word}
@@ -46,41 +44,36 @@ job own peer = job_of own peer default_limits (hello true ∷ Wait 1 ∷ []) []
 -- what rank 0 would answer to a send when its newest entry was one that passes
 abbrev answer : (own peer : ℕ) → (Act → Bool) → (confirm : Bool) → Answer
 answer own peer test confirm =
-    answer_of (own_scene (job own peer) 0 (deeds_at (job own peer) 0 (log_at test ((played_world (job own peer)).logs 0)))) (hello confirm)
-
--- the instruction of that index
-is_next_of : ℕ → Act → Bool
-is_next_of n (Act.Next index op answer) = index == n
-is_next_of n _ = false
+    answer_of (scene_then (job own peer) 0 test) (hello confirm)
 
 -- Rank 1 was inserted, and no handshake of it has come:
 
 -- both could confirm, but only the own features are known
 nothing_is_known : answer 27 27 (is_next_of 2) true ≡ Next.NotYet Yet.Handshake
-unfolding every_word is_next_of
+unfolding every_word
 nothing_is_known = refl
 
 -- nor is it known that the other one cannot
 nothing_is_known_of_other : answer 27 25 (is_next_of 2) true ≡ Next.NotYet Yet.Handshake
-unfolding every_word is_next_of
+unfolding every_word
 nothing_is_known_of_other = refl
 
 -- the own life cannot, whatever the other one can
 own_cannot : answer 25 27 (is_next_of 2) true ≡ Next.Refused Why.NoConfirm
-unfolding every_word is_next_of
+unfolding every_word
 own_cannot = refl
 
 neither_can : answer 25 25 (is_next_of 2) true ≡ Next.Refused Why.NoConfirm
-unfolding every_word is_next_of
+unfolding every_word
 neither_can = refl
 
 -- a send without a receipt asks for nothing of this
 without_receipt : answer 25 27 (is_next_of 2) false ≡ Next.Did (Did.Sent (record { 0 = 0 }) (record { 0 = 0 }))
-unfolding every_word is_next_of
+unfolding every_word
 without_receipt = refl
 
 without_receipt_at_once : answer 27 27 (is_next_of 2) false ≡ Next.Did (Did.Sent (record { 0 = 0 }) (record { 0 = 0 }))
-unfolding every_word is_next_of
+unfolding every_word
 without_receipt_at_once = refl
 
 -- The handshake of rank 1 has come:
@@ -109,10 +102,7 @@ other_cannot_answers : answers ((played_world (job 27 25)).logs 0) ≡
 unfolding every_word
 other_cannot_answers = refl
 
-other_cannot_ends : ends (job 27 25) (played_world (job 27 25)) ≡
-    record { done = 4; all = 5; left = Some (Next.NotYet (Yet.Wait 0 1)); to_other = 0; from_other = 0; waiting = 0 }
-    ∷ record { done = 3; all = 4; left = Some (Next.NotYet (Yet.Wait 0 1)); to_other = 0; from_other = 0; waiting = 0 }
-    ∷ []
+other_cannot_ends : ends (job 27 25) (played_world (job 27 25)) ≡ left_at 4 5 (Next.NotYet (Yet.Wait 0 1)) ∷ left_at 3 4 (Next.NotYet (Yet.Wait 0 1)) ∷ []
 unfolding every_word
 other_cannot_ends = refl
 
@@ -135,8 +125,8 @@ abbrev one_place : Job
 one_place = job_of 27 27 (record default_limits { tx = 1 }) (hello false ∷ hello true ∷ []) up_to_sends
 
 one_place_ends : ends one_place (after_choices one_place new_world one_place.choices) ≡
-    record { done = 4; all = 5; left = Some (Next.NotYet Yet.Handshake); to_other = 0; from_other = 0; waiting = 0 }
-    ∷ record { done = 1; all = 4; left = Some (Next.Did (Did.Region (record { 0 = 0 }))); to_other = 0; from_other = 0; waiting = 0 }
+    left_at 4 5 (Next.NotYet Yet.Handshake)
+    ∷ left_at 1 4 (Next.Did (Did.Region (record { 0 = 0 })))
     ∷ []
 unfolding every_word
 one_place_ends = refl

@@ -1,6 +1,6 @@
 -- Steps that a wrong endpoint would make, each refused.
 use Rattle.std.proofs.Common.{◌≡◌, ℕ, List, [], ◌∷◌, ap, arith}
-use Rattle.std.specs.Prelude.{Option, Some, None, Bool, false, ◌==◌, get_or, replicate}
+use Rattle.std.specs.Prelude.{Option, Some, None, get_or, replicate}
 use Rattle.rdm_num.specs.declared.completion.Completion.{Completion}
 use Rattle.rdm_num.specs.declared.completion.Outcome.TheVariants.{Took}
 use Rattle.rdm_wire.specs.declared.Datagram.{Datagram}
@@ -14,10 +14,9 @@ use Rattle.rdm_model.specs.declared.answer.Handled.{Handled}
 use Rattle.rdm_model.specs.Classes.{class_of}
 use Rattle.rdm_model.specs.Going.{Going}
 use Rattle.rdm_model.specs.Local.{own_scene}
-use Rattle.rdm_model.specs.Played.{played_world}
 use Rattle.rdm_model.specs.Scenes.{Scene, deeds_at}
 use Rattle.rdm_model.specs.Steps.{Does}
-use Rattle.rdm_rows.specs.Shown.{log_at, is_push_of, is_handle_of}
+use Rattle.rdm_rows.specs.Shown.{is_push_of, is_handle_of, is_next_of, scene_then}
 use Rattle.rdm_rows.specs.Jobs.{zero_five, one_seven, send, recv, two_ranks}
 use Rattle.rdm_rows.specs.Limits.{default_limits}
 use Rattle.rdm_rows.specs.Words.{every_word}
@@ -46,10 +45,6 @@ receiver_ops =
 abbrev job : Job
 job = two_ranks default_limits sender_ops receiver_ops
 
--- the scene of a port of a job after the entry that passes
-abbrev scene_after : Job → ℕ → (Act → Bool) → Scene
-scene_after job port test = own_scene job port (deeds_at job port (log_at test ((played_world job).logs port)))
-
 -- the port does that in the scene
 abbrev DoesIn : Job → ℕ → Scene → Act → Type 0
 DoesIn job port s act = Does job class_of s [] (record { stamp = record { 0 = 0 }; port = record { 0 = port }; act = act }) act
@@ -67,12 +62,12 @@ unfolding recv_of
 first_takes n e = ap recv_of e
 
 -- where masked bits are compared, the receive of the very tag takes the message
-masked_bits_are_refused : DoesIn job 1 (scene_after job 1 (is_handle_of 0 1)) (Act.Poll (taken_by 1)) → ⊥
+masked_bits_are_refused : DoesIn job 1 (scene_then job 1 (is_handle_of 0 1)) (Act.Poll (taken_by 1)) → ⊥
 unfolding every_word
 masked_bits_are_refused e = omega (arith, first_takes 1 e)
 
 -- the newest receive takes the message
-newest_is_refused : DoesIn job 1 (scene_after job 1 (is_handle_of 0 1)) (Act.Poll (taken_by 2)) → ⊥
+newest_is_refused : DoesIn job 1 (scene_then job 1 (is_handle_of 0 1)) (Act.Poll (taken_by 2)) → ⊥
 unfolding every_word
 newest_is_refused e = omega (arith, first_takes 2 e)
 
@@ -83,19 +78,14 @@ nothing_goes : (g : Going) → None ≡ Some g → ⊥
 nothing_goes g e = absurd cc
 
 -- a send that is read completes when the last of its bytes was pushed, before its end came
-read_ends_early_is_refused : (c : Completion) → DoesIn Read.job 0 (scene_after Read.job 0 (is_push_of 5)) (Act.Poll c) → ⊥
+read_ends_early_is_refused : (c : Completion) → DoesIn Read.job 0 (scene_then Read.job 0 (is_push_of 5)) (Act.Poll c) → ⊥
 unfolding every_word
 read_ends_early_is_refused c e = nothing_is_polled c e
 
 -- bytes that were asked for are asked for once more
-second_reading_is_refused : (d : Datagram) → DoesIn Read.job 1 (scene_after Read.job 1 (is_push_of 3)) (Act.Push d) → ⊥
+second_reading_is_refused : (d : Datagram) → DoesIn Read.job 1 (scene_then Read.job 1 (is_push_of 3)) (Act.Push d) → ⊥
 unfolding every_word
 second_reading_is_refused d e = nothing_goes e.3.0 e.3.1
-
--- the instruction of that index
-is_next_of : ℕ → Act → Bool
-is_next_of n (Act.Next index op answer) = index == n
-is_next_of n _ = false
 
 first_byte : Option Completion → ℕ
 first_byte (Some (Completion.Recv recv (Took from tag cq_data bytes excess))) = get_or bytes 0 0
@@ -110,8 +100,8 @@ unfolding first_byte
 begins_otherwise bytes rest e = omega (arith, ap first_byte e)
 
 -- segments are placed as they come, so that the third one, which begins with 105, stands first
-placed_as_they_come_is_refused : (rest : List ℕ) → DoesIn Segments.job 1 (scene_after Segments.job 1 (is_next_of 2)) (Act.Poll (segmented (105 ∷ rest))) → ⊥
-unfolding every_word is_next_of
+placed_as_they_come_is_refused : (rest : List ℕ) → DoesIn Segments.job 1 (scene_then Segments.job 1 (is_next_of 2)) (Act.Poll (segmented (105 ∷ rest))) → ⊥
+unfolding every_word
 placed_as_they_come_is_refused rest e = begins_otherwise _ rest e
 
 took_is_no_drop : (class' : Class) (entered : Option Entered) → Handled.Took entered ≡ Handled.Dropped class' → ⊥
