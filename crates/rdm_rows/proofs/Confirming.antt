@@ -110,17 +110,10 @@ history =
 abbrev pub own_after_receipt : List Entry
 own_after_receipt = log_of 0 after_receipt
 
--- the logs of both ports
-abbrev pub log_0 : List Entry
-log_0 = log_of 0 history
-
-abbrev pub log_1 : List Entry
-log_1 = log_of 1 history
-
-played_0 : (played_world job).logs 0 ≡ log_0
+played_0 : (played_world job).logs 0 ≡ log_of 0 history
 unfolding every_word
 played_0 = refl
 
-played_1 : (played_world job).logs 1 ≡ log_1
+played_1 : (played_world job).logs 1 ≡ log_of 1 history
 unfolding every_word
 played_1 = refl

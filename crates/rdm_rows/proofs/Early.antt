@@ -17,6 +17,7 @@ use Rattle.rdm_model.specs.ClassFacts.{is_early_receipt}
 use Rattle.rdm_model.specs.Classes.{class_of}
 use Rattle.rdm_model.specs.Takes.{handled_answer}
 use Rattle.rdm_model.specs.Steps.{Does}
+use Rattle.rdm_rows.proofs.Apart.{took_is_no_drop}
 use Rattle.rdm_rows.specs.Shown.{is_push_of, is_handle_of, is_next_of, scene_then}
 use Rattle.rdm_rows.specs.Jobs.{one_seven, recv, send_with, two_ranks_with}
 use Rattle.rdm_rows.specs.Limits.{default_limits}
@@ -108,9 +109,6 @@ is_early : is_early_receipt (scene_then segmented 0 (is_push_of 2)) (live_messag
 unfolding every_word
 is_early = refl
 
-dropped_is_not_taken : (class' : Class) (entered : Option Entered) → Handled.Took entered ≡ Handled.Dropped class' → ⊥
-dropped_is_not_taken class' entered e = absurd cc
-
 -- so a log that takes it is refused
 early_receipt_is_refused : (entered : Option Entered)
     → Does segmented class_of (scene_then segmented 0 (is_push_of 2)) []
@@ -118,7 +116,7 @@ early_receipt_is_refused : (entered : Option Entered)
     (Act.Handle (receipt 0) (Handled.Took entered))
     → ⊥
 unfolding every_word
-early_receipt_is_refused entered e = dropped_is_not_taken _ entered e.0
+early_receipt_is_refused entered e = took_is_no_drop _ entered e.0
 
 -- both were pushed
 after_both_segments : answer segmented (is_push_of 3) 0 ≡ Handled.Took None

@@ -1,7 +1,6 @@
 -- Rank 0 sends two ranges of a region to rank 1 as one message: the whole history, which is lawful.
-use Rattle.std.proofs.Common.{◌≡◌, ℕ, List, [], ◌∷◌, refl, inl, inr, arith, subst, map}
+use Rattle.std.proofs.Common.{◌≡◌, ℕ, List, [], ◌∷◌, refl, inl, inr, arith, map}
 use Rattle.std.specs.Prelude.{Some, None, replicate, false}
-use Rattle.rdm_num.specs.declared.numbers.Life.{Life}
 use Rattle.rdm_num.specs.declared.completion.Completion.{Completion}
 use Rattle.rdm_num.specs.declared.completion.Outcome.TheVariants.{Took}
 use Rattle.rdm_num.specs.Pieces.{Piece}
@@ -23,12 +22,12 @@ use Rattle.rdm_model.specs.declared.answer.Handled.TheVariants as Handled
 use Rattle.rdm_model.specs.Deeds.{Spelled, log_of}
 use Rattle.rdm_model.specs.Scenes.{Scene}
 use Rattle.rdm_model.specs.Going.{GoesNote, Goes}
-use Rattle.rdm_model.specs.Parts.{carried_pieces}
 use Rattle.rdm_model.specs.Played.{played_world}
 use Rattle.rdm_model.specs.Sends.{Sent, sends}
 use Rattle.rdm_model.specs.Completions.{completions}
-use Rattle.rdm_model.specs.Lawful.{Lawful, IsPartOf, IsApart, sent_scene}
-use Rattle.rdm_rows.proofs.Greeted.{nothing, nothing_either, plain_ends, IsOpened, opened, port_apart, number_apart}
+use Rattle.rdm_model.specs.Lawful.{Lawful, sent_scene}
+use Rattle.rdm_rows.proofs.Apart.{nothing, nothing_either, port_apart, number_apart}
+use Rattle.rdm_rows.proofs.Greeted.{plain_ends, opened, IsSent, carries}
 use Rattle.rdm_rows.specs.Jobs.{zero_five, one_seven, recv, two_ranks}
 use Rattle.rdm_rows.specs.Limits.{default_limits}
 use Rattle.rdm_rows.specs.Met.{met}
@@ -129,19 +128,11 @@ words_piece = record { offset = 0; bytes = words }
 abbrev words_scene : Scene
 words_scene = sent_scene job 1 before_handling
 
-abbrev IsSent : Life → ℕ → Piece → Type 0
-IsSent source n p = IsPartOf p (words_scene.ms.bytes source n) × IsApart p (carried_pieces 0 words_scene.ms.head words_scene.log source n)
-
-all_is_sent : IsSent zero_five 0 words_piece
+all_is_sent : IsSent words_scene zero_five 0 words_piece
 unfolding every_word
 all_is_sent = (refl, λ q m. elim m [ ])
-
-carries_words : (source : Life) (n : ℕ) (p : Piece) → IsOpened source n words_piece p → IsSent source n p
-carries_words source n p o =
-    subst (λ (l : Life). IsSent l n p) o.0 (subst (λ (k : ℕ). IsSent zero_five k p) o.1
-    (subst (λ (r : Piece). IsSent zero_five 0 r) o.2 all_is_sent))
 
 history_is_lawful : Lawful job history
 unfolding every_word
 history_is_lawful =
-    (((((((((((((((((((((tt, tt, tt, (refl, omega arith, (refl, (OpenLife (record { 0 = 5 }), refl, refl, refl), refl)), λ source n p e. nothing p e, λ t m c f. elim m [ ]), inr (refl, omega arith), tt, (refl, omega arith, (refl, (OpenLife (record { 0 = 7 }), refl, refl, refl), refl)), λ source n p e. nothing p e, λ t m c f. elim m [ ]), inl (omega arith), tt, (refl, omega arith, (refl, refl, refl, (GoesNote (record { to = record { 0 = 1 }; body = NoteBody.Opened (record { 0 = 5 }) }), refl, (refl, refl)))), λ source n p e. nothing p e, λ t m c f. elim m [ ]), inr (refl, omega arith), tt, (refl, omega arith, (refl, refl, refl, (GoesNote (record { to = record { 0 = 0 }; body = NoteBody.Opened (record { 0 = 7 }) }), refl, (refl, refl)))), λ source n p e. nothing p e, λ t m c f. elim m [ ]), inl (omega arith), (refl, inl refl, ((((tt, tt), tt), tt), tt)), (refl, omega arith, (refl, refl)), λ source n p e. nothing p e, λ t m c f. elim m [ ]), inr (refl, omega arith), (refl, inr (inl refl), (((((tt, tt), tt), tt), tt), λ s n. omega (arith, port_apart _ _ s))), (refl, omega arith, (refl, refl)), λ source n p e. nothing p e, λ t m c f. elim m [ ]), inl (omega arith), tt, (refl, omega arith, (refl, (Insert one_seven, refl, refl, refl), refl)), λ source n p e. nothing p e, λ t m c f. elim m [ ]), inr (refl, omega arith), tt, (refl, omega arith, (refl, (Reg (replicate 10 0), refl, refl, refl), refl)), λ source n p e. nothing p e, λ t m c f. elim m [ ]), inl (omega arith), tt, (refl, omega arith, (refl, (Reg (104 ∷ 101 ∷ 108 ∷ 108 ∷ 111 ∷ 32 ∷ 119 ∷ 111 ∷ 114 ∷ 108 ∷ 100 ∷ []), refl, refl, refl), refl)), λ source n p e. nothing p e, λ t m c f. elim m [ ]), inr (refl, omega arith), tt, (refl, omega arith, (refl, (recv 0 10 7, refl, refl, refl), refl)), λ source n p e. nothing p e, λ t m c f. elim m [ ]), inl (omega arith), tt, (refl, omega arith, (refl, (Send (record { to = record { 0 = 1 }; parts = record { region = record { 0 = 0 }; at = 0; len = 5 } ∷ record { region = record { 0 = 0 }; at = 6; len = 5 } ∷ []; tag = (Some 7); cq_data = None; confirm = false }), refl, refl, refl), refl)), λ source n p e. nothing p e, λ t m c f. elim m [ ]), inl (omega arith), tt, (refl, omega arith, (refl, refl, refl, (Goes one_seven (Spelled (Rtm (record { 0 = 0 }) (Some 7) false (record { raw = Some (0, 5); cq_data = None; connid = None }) (Form.Eager (104 ∷ 101 ∷ 108 ∷ 108 ∷ 111 ∷ 119 ∷ 111 ∷ 114 ∷ 108 ∷ 100 ∷ [])))), refl, (refl, (Load.Packet (65 ∷ 4 ∷ 9 ∷ 0 ∷ 0 ∷ 0 ∷ 0 ∷ 0 ∷ 7 ∷ 0 ∷ 0 ∷ 0 ∷ 0 ∷ 0 ∷ 0 ∷ 0 ∷ 32 ∷ 0 ∷ 0 ∷ 0 ∷ 0 ∷ 0 ∷ 0 ∷ 0 ∷ 0 ∷ 0 ∷ 0 ∷ 0 ∷ 0 ∷ 0 ∷ 0 ∷ 0 ∷ 0 ∷ 0 ∷ 0 ∷ 0 ∷ 1 ∷ 0 ∷ 0 ∷ 0 ∷ 5 ∷ 0 ∷ 0 ∷ 0 ∷ 0 ∷ 0 ∷ 0 ∷ 0 ∷ 0 ∷ 0 ∷ 0 ∷ 0 ∷ 104 ∷ 101 ∷ 108 ∷ 108 ∷ 111 ∷ 119 ∷ 111 ∷ 114 ∷ 108 ∷ 100 ∷ []), refl, (refl, refl)))))), λ source n p e. nothing p e, λ t m c f. plain_ends _ t m refl c), inl (omega arith), tt, (refl, omega arith, refl), λ source n p e. nothing p e, λ t m c f. elim m [ ]), inr (refl, omega arith), (refl, inr (inl refl), (((((((((((((tt, tt), tt), tt), tt), λ s n. omega (arith, port_apart _ _ s)), λ s n. omega (arith, number_apart _ _ n)), tt), tt), tt), tt), tt), tt), tt)), (refl, omega arith, (refl, refl)), λ source n p e. carries_words source n p (opened source n _ p e), λ t m c f. elim m [ ]), inl (omega arith), tt, (refl, omega arith, (refl, (Wait 1, refl, refl, refl), refl)), λ source n p e. nothing p e, λ t m c f. elim m [ ]), inr (refl, omega arith), tt, (refl, omega arith, refl), λ source n p e. nothing p e, λ t m c f. elim m [ ]), inl (omega arith), tt, (refl, omega arith, (refl, (Wait 1, refl, refl, refl), refl)), λ source n p e. nothing p e, λ t m c f. elim m [ ]), inl (omega arith), tt, (refl, omega arith, (refl, refl, refl, (Goes zero_five (Spelled (Handshake (25 ∷ []) (record { 0 = 7 }) None)), refl, (refl, (Load.Packet (9 ∷ 4 ∷ 0 ∷ 128 ∷ 4 ∷ 0 ∷ 0 ∷ 0 ∷ 25 ∷ 0 ∷ 0 ∷ 0 ∷ 0 ∷ 0 ∷ 0 ∷ 0 ∷ 7 ∷ 0 ∷ 0 ∷ 0 ∷ []), refl, (refl, refl)))))), λ source n p e. nothing p e, λ t m c f. elim m [ ]), inl (omega arith), (refl, inl refl, ((((((((((((((((((tt, tt), tt), tt), tt), λ s n. omega (arith, number_apart _ _ n)), λ s n. omega (arith, port_apart _ _ s)), tt), tt), tt), tt), tt), tt), tt), λ s n. omega (arith, port_apart _ _ s)), tt), tt), tt), tt)), (refl, omega arith, (refl, refl)), λ source n p e. nothing_either _ p e, λ t m c f. elim m [ ]), inl (omega arith), tt, (refl, omega arith, (refl, refl, refl, (Goes one_seven (Spelled (Handshake (25 ∷ []) (record { 0 = 5 }) None)), refl, (refl, (Load.Packet (9 ∷ 4 ∷ 0 ∷ 128 ∷ 4 ∷ 0 ∷ 0 ∷ 0 ∷ 25 ∷ 0 ∷ 0 ∷ 0 ∷ 0 ∷ 0 ∷ 0 ∷ 0 ∷ 5 ∷ 0 ∷ 0 ∷ 0 ∷ []), refl, (refl, refl)))))), λ source n p e. nothing p e, λ t m c f. elim m [ ]), inl (omega arith), (refl, inl refl, ((((((((((((((((((((tt, tt), tt), tt), tt), λ s n. omega (arith, port_apart _ _ s)), λ s n. omega (arith, number_apart _ _ n)), tt), tt), tt), tt), tt), tt), tt), λ s n. omega (arith, number_apart _ _ n)), tt), tt), tt), tt), λ s n. omega (arith, port_apart _ _ s)), tt)), (refl, omega arith, (refl, refl)), λ source n p e. nothing_either _ p e, λ t m c f. elim m [ ])
+    (((((((((((((((((((((tt, tt, tt, (refl, omega arith, (refl, (OpenLife (record { 0 = 5 }), refl, refl, refl), refl)), λ source n p e. nothing p e, λ t m c f. elim m [ ]), inr (refl, omega arith), tt, (refl, omega arith, (refl, (OpenLife (record { 0 = 7 }), refl, refl, refl), refl)), λ source n p e. nothing p e, λ t m c f. elim m [ ]), inl (omega arith), tt, (refl, omega arith, (refl, refl, refl, (GoesNote (record { to = record { 0 = 1 }; body = NoteBody.Opened (record { 0 = 5 }) }), refl, (refl, refl)))), λ source n p e. nothing p e, λ t m c f. elim m [ ]), inr (refl, omega arith), tt, (refl, omega arith, (refl, refl, refl, (GoesNote (record { to = record { 0 = 0 }; body = NoteBody.Opened (record { 0 = 7 }) }), refl, (refl, refl)))), λ source n p e. nothing p e, λ t m c f. elim m [ ]), inl (omega arith), (refl, inl refl, ((((tt, tt), tt), tt), tt)), (refl, omega arith, (refl, refl)), λ source n p e. nothing p e, λ t m c f. elim m [ ]), inr (refl, omega arith), (refl, inr (inl refl), (((((tt, tt), tt), tt), tt), λ s n. omega (arith, port_apart _ _ s))), (refl, omega arith, (refl, refl)), λ source n p e. nothing p e, λ t m c f. elim m [ ]), inl (omega arith), tt, (refl, omega arith, (refl, (Insert one_seven, refl, refl, refl), refl)), λ source n p e. nothing p e, λ t m c f. elim m [ ]), inr (refl, omega arith), tt, (refl, omega arith, (refl, (Reg (replicate 10 0), refl, refl, refl), refl)), λ source n p e. nothing p e, λ t m c f. elim m [ ]), inl (omega arith), tt, (refl, omega arith, (refl, (Reg (104 ∷ 101 ∷ 108 ∷ 108 ∷ 111 ∷ 32 ∷ 119 ∷ 111 ∷ 114 ∷ 108 ∷ 100 ∷ []), refl, refl, refl), refl)), λ source n p e. nothing p e, λ t m c f. elim m [ ]), inr (refl, omega arith), tt, (refl, omega arith, (refl, (recv 0 10 7, refl, refl, refl), refl)), λ source n p e. nothing p e, λ t m c f. elim m [ ]), inl (omega arith), tt, (refl, omega arith, (refl, (Send (record { to = record { 0 = 1 }; parts = record { region = record { 0 = 0 }; at = 0; len = 5 } ∷ record { region = record { 0 = 0 }; at = 6; len = 5 } ∷ []; tag = (Some 7); cq_data = None; confirm = false }), refl, refl, refl), refl)), λ source n p e. nothing p e, λ t m c f. elim m [ ]), inl (omega arith), tt, (refl, omega arith, (refl, refl, refl, (Goes one_seven (Spelled (Rtm (record { 0 = 0 }) (Some 7) false (record { raw = Some (0, 5); cq_data = None; connid = None }) (Form.Eager (104 ∷ 101 ∷ 108 ∷ 108 ∷ 111 ∷ 119 ∷ 111 ∷ 114 ∷ 108 ∷ 100 ∷ [])))), refl, (refl, (Load.Packet (65 ∷ 4 ∷ 9 ∷ 0 ∷ 0 ∷ 0 ∷ 0 ∷ 0 ∷ 7 ∷ 0 ∷ 0 ∷ 0 ∷ 0 ∷ 0 ∷ 0 ∷ 0 ∷ 32 ∷ 0 ∷ 0 ∷ 0 ∷ 0 ∷ 0 ∷ 0 ∷ 0 ∷ 0 ∷ 0 ∷ 0 ∷ 0 ∷ 0 ∷ 0 ∷ 0 ∷ 0 ∷ 0 ∷ 0 ∷ 0 ∷ 0 ∷ 1 ∷ 0 ∷ 0 ∷ 0 ∷ 5 ∷ 0 ∷ 0 ∷ 0 ∷ 0 ∷ 0 ∷ 0 ∷ 0 ∷ 0 ∷ 0 ∷ 0 ∷ 0 ∷ 104 ∷ 101 ∷ 108 ∷ 108 ∷ 111 ∷ 119 ∷ 111 ∷ 114 ∷ 108 ∷ 100 ∷ []), refl, (refl, refl)))))), λ source n p e. nothing p e, λ t m c f. plain_ends _ t m refl c), inl (omega arith), tt, (refl, omega arith, refl), λ source n p e. nothing p e, λ t m c f. elim m [ ]), inr (refl, omega arith), (refl, inr (inl refl), (((((((((((((tt, tt), tt), tt), tt), λ s n. omega (arith, port_apart _ _ s)), λ s n. omega (arith, number_apart _ _ n)), tt), tt), tt), tt), tt), tt), tt)), (refl, omega arith, (refl, refl)), λ source n p e. carries words_scene words_piece all_is_sent source n p (opened source n _ p e), λ t m c f. elim m [ ]), inl (omega arith), tt, (refl, omega arith, (refl, (Wait 1, refl, refl, refl), refl)), λ source n p e. nothing p e, λ t m c f. elim m [ ]), inr (refl, omega arith), tt, (refl, omega arith, refl), λ source n p e. nothing p e, λ t m c f. elim m [ ]), inl (omega arith), tt, (refl, omega arith, (refl, (Wait 1, refl, refl, refl), refl)), λ source n p e. nothing p e, λ t m c f. elim m [ ]), inl (omega arith), tt, (refl, omega arith, (refl, refl, refl, (Goes zero_five (Spelled (Handshake (25 ∷ []) (record { 0 = 7 }) None)), refl, (refl, (Load.Packet (9 ∷ 4 ∷ 0 ∷ 128 ∷ 4 ∷ 0 ∷ 0 ∷ 0 ∷ 25 ∷ 0 ∷ 0 ∷ 0 ∷ 0 ∷ 0 ∷ 0 ∷ 0 ∷ 7 ∷ 0 ∷ 0 ∷ 0 ∷ []), refl, (refl, refl)))))), λ source n p e. nothing p e, λ t m c f. elim m [ ]), inl (omega arith), (refl, inl refl, ((((((((((((((((((tt, tt), tt), tt), tt), λ s n. omega (arith, number_apart _ _ n)), λ s n. omega (arith, port_apart _ _ s)), tt), tt), tt), tt), tt), tt), tt), λ s n. omega (arith, port_apart _ _ s)), tt), tt), tt), tt)), (refl, omega arith, (refl, refl)), λ source n p e. nothing_either _ p e, λ t m c f. elim m [ ]), inl (omega arith), tt, (refl, omega arith, (refl, refl, refl, (Goes one_seven (Spelled (Handshake (25 ∷ []) (record { 0 = 5 }) None)), refl, (refl, (Load.Packet (9 ∷ 4 ∷ 0 ∷ 128 ∷ 4 ∷ 0 ∷ 0 ∷ 0 ∷ 25 ∷ 0 ∷ 0 ∷ 0 ∷ 0 ∷ 0 ∷ 0 ∷ 0 ∷ 5 ∷ 0 ∷ 0 ∷ 0 ∷ []), refl, (refl, refl)))))), λ source n p e. nothing p e, λ t m c f. elim m [ ]), inl (omega arith), (refl, inl refl, ((((((((((((((((((((tt, tt), tt), tt), tt), λ s n. omega (arith, port_apart _ _ s)), λ s n. omega (arith, number_apart _ _ n)), tt), tt), tt), tt), tt), tt), tt), λ s n. omega (arith, number_apart _ _ n)), tt), tt), tt), tt), λ s n. omega (arith, port_apart _ _ s)), tt)), (refl, omega arith, (refl, refl)), λ source n p e. nothing_either _ p e, λ t m c f. elim m [ ])

@@ -5,7 +5,7 @@ use Rattle.rdm_num.specs.declared.completion.Completion.{Completion}
 use Rattle.rdm_num.specs.declared.completion.Completion.TheVariants as Completions
 use Rattle.rdm_wire.specs.declared.Datagram.{Datagram}
 use Rattle.rdm_pkt.specs.declared.Packet.{Packet}
-use Rattle.rdm_pkt.specs.declared.Kind.TheVariants as Kind
+use Rattle.rdm_pkt.specs.declared.Kind.{Kind}
 use Rattle.rdm_pkt.specs.declared.Packet.TheVariants.{Receipt, Eor}
 use Rattle.rdm_model.specs.declared.entry.Entry.{Entry}
 use Rattle.rdm_model.specs.declared.report.End.{End}
@@ -19,7 +19,7 @@ use Rattle.rdm_model.specs.Local.{own_scene}
 use Rattle.rdm_model.specs.Sends.{Sent}
 use Rattle.rdm_model.specs.Dues.{is_pushed, is_complete, is_over, live_sends, progress}
 use Rattle.rdm_model.specs.Completions.{completions}
-use Rattle.rdm_model.specs.Going.{Going, going, Goes}
+use Rattle.rdm_model.specs.Going.{going, Goes}
 use Rattle.rdm_model.specs.Targets.{live_message, is_confirmed_send}
 use Rattle.rdm_model.specs.Classes.{class_of}
 use Rattle.rdm_model.specs.Steps.{Does}
@@ -27,20 +27,12 @@ use Rattle.rdm_model.specs.Played.{played_world}
 use Rattle.rdm_model.specs.Lawful.{Lawful, Confirms, sent_scene}
 use Rattle.rdm_law.specs.Headline.{SaysRight}
 use Rattle.rdm_rows.proofs.Confirming.{job, before_hello, before_push, before_receipt, after_receipt, own_after_receipt, datagram_1_2}
-use Rattle.rdm_rows.proofs.Confirmed.{hello}
+use Rattle.rdm_rows.proofs.Confirmed.{confirmed_send, hello}
 use Rattle.rdm_rows.proofs.Early.{read}
+use Rattle.rdm_rows.proofs.Apart.{nothing, took_is_no_drop}
 use Rattle.rdm_rows.specs.Shown.{log_at, is_push_of, told}
 use Rattle.rdm_rows.specs.Jobs.{zero_five, one_seven}
 use Rattle.rdm_rows.specs.Words.{every_word}
-
-nothing_is_polled : (c : Completion) → None ≡ Some c → ⊥
-nothing_is_polled c e = absurd cc
-
-nothing_goes : (g : Going) → None ≡ Some g → ⊥
-nothing_goes g e = absurd cc
-
-dropped_is_not_taken : (class' : Class) (entered : Option Entered) → Handled.Took entered ≡ Handled.Dropped class' → ⊥
-dropped_is_not_taken class' entered e = absurd cc
 
 -- Rank 0 has pushed `hello`, and no receipt has come:
 
@@ -76,7 +68,7 @@ nothing_completes = refl
 -- a confirmed send that completes at its push
 completion_at_push_is_refused : (c : Completion) → Lawful job (record { stamp = record { 0 = 11 }; port = record { 0 = 0 }; act = Act.Poll c } ∷ before_hello) → ⊥
 unfolding every_word
-completion_at_push_is_refused c h = nothing_is_polled c h.3.2
+completion_at_push_is_refused c h = nothing c h.3.2
 
 -- a receipt that is taken before the message was received, however it came to be there
 receipt_before_receive_is_refused : Confirms job before_hello pushed_scene (Took one_seven (Spelled (Receipt (record { 0 = 0 }) (record { 0 = 7 })))) → ⊥
@@ -109,22 +101,7 @@ read_scene = sent_scene read 0 read_log
 
 -- the send of the message that is read, as it was accepted
 abbrev read_send : Sent
-read_send =
-    record {
-      number = 0;
-      to = one_seven;
-      req = record { to = record { 0 = 1 }; parts = record { region = record { 0 = 0 }; at = 0; len = 240 } ∷ []; tag = Some 1; cq_data = None; confirm = true };
-      kind = Kind.LongRead;
-      message = record {
-        no = record { 0 = 0 };
-        tag = Some 1;
-        confirm = true;
-        opt = record { raw = None; cq_data = None; connid = Some 5 };
-        send = record { 0 = 0 };
-        iov = record { offset = 0; length = 240; key = 0 } ∷ [];
-        bytes = replicate 240 0;
-      };
-    }
+read_send = confirmed_send Kind.LongRead 1 240 (replicate 240 0)
 
 end_before_receive_is_refused : Confirms read read_log read_scene (Took one_seven (Spelled (Eor (record { 0 = 0 }) (record { 0 = 0 }) (record { 0 = 7 })))) → ⊥
 unfolding every_word
@@ -139,7 +116,7 @@ receipt_goes = refl
 -- a receipt that is pushed twice, as anything else
 second_push_is_refused : (d : Datagram) → Lawful job (record { stamp = record { 0 = 15 }; port = record { 0 = 1 }; act = Act.Push d } ∷ before_receipt) → ⊥
 unfolding every_word
-second_push_is_refused d h = nothing_goes h.3.2.3.0 h.3.2.3.1
+second_push_is_refused d h = nothing h.3.2.3.0 h.3.2.3.1
 
 -- Rank 0 has taken the receipt:
 
@@ -181,4 +158,4 @@ second_receipt_is_refused : (entered : Option Entered)
     → Does job class_of own_receipt_scene [] (record { stamp = record { 0 = 16 }; port = record { 0 = 0 }; act = Act.Handle receipt_again (Handled.Took entered) }) (Act.Handle receipt_again (Handled.Took entered))
     → ⊥
 unfolding every_word
-second_receipt_is_refused entered e = dropped_is_not_taken _ entered e.0
+second_receipt_is_refused entered e = took_is_no_drop _ entered e.0

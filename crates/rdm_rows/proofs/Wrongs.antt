@@ -8,14 +8,13 @@ use Rattle.rdm_model.specs.declared.job.Job.{Job}
 use Rattle.rdm_model.specs.declared.job.Instr.{Instr}
 use Rattle.rdm_model.specs.declared.job.Instr.TheVariants.{OpenLife, Insert, Reg, Recv}
 use Rattle.rdm_model.specs.declared.entry.Act.{Act}
-use Rattle.rdm_model.specs.declared.answer.Class.{Class}
 use Rattle.rdm_model.specs.declared.answer.Entered.{Entered}
 use Rattle.rdm_model.specs.declared.answer.Handled.{Handled}
 use Rattle.rdm_model.specs.Classes.{class_of}
-use Rattle.rdm_model.specs.Going.{Going}
 use Rattle.rdm_model.specs.Local.{own_scene}
 use Rattle.rdm_model.specs.Scenes.{Scene, deeds_at}
 use Rattle.rdm_model.specs.Steps.{Does}
+use Rattle.rdm_rows.proofs.Apart.{nothing, took_is_no_drop}
 use Rattle.rdm_rows.specs.Shown.{is_push_of, is_handle_of, is_next_of, scene_then}
 use Rattle.rdm_rows.specs.Jobs.{zero_five, one_seven, send, recv, two_ranks}
 use Rattle.rdm_rows.specs.Limits.{default_limits}
@@ -71,21 +70,15 @@ newest_is_refused : DoesIn job 1 (scene_then job 1 (is_handle_of 0 1)) (Act.Poll
 unfolding every_word
 newest_is_refused e = omega (arith, first_takes 2 e)
 
-nothing_is_polled : (c : Completion) → None ≡ Some c → ⊥
-nothing_is_polled c e = absurd cc
-
-nothing_goes : (g : Going) → None ≡ Some g → ⊥
-nothing_goes g e = absurd cc
-
 -- a send that is read completes when the last of its bytes was pushed, before its end came
 read_ends_early_is_refused : (c : Completion) → DoesIn Read.job 0 (scene_then Read.job 0 (is_push_of 5)) (Act.Poll c) → ⊥
 unfolding every_word
-read_ends_early_is_refused c e = nothing_is_polled c e
+read_ends_early_is_refused c e = nothing c e
 
 -- bytes that were asked for are asked for once more
 second_reading_is_refused : (d : Datagram) → DoesIn Read.job 1 (scene_then Read.job 1 (is_push_of 3)) (Act.Push d) → ⊥
 unfolding every_word
-second_reading_is_refused d e = nothing_goes e.3.0 e.3.1
+second_reading_is_refused d e = nothing e.3.0 e.3.1
 
 first_byte : Option Completion → ℕ
 first_byte (Some (Completion.Recv recv (Took from tag cq_data bytes excess))) = get_or bytes 0 0
@@ -103,9 +96,6 @@ begins_otherwise bytes rest e = omega (arith, ap first_byte e)
 placed_as_they_come_is_refused : (rest : List ℕ) → DoesIn Segments.job 1 (scene_then Segments.job 1 (is_next_of 2)) (Act.Poll (segmented (105 ∷ rest))) → ⊥
 unfolding every_word
 placed_as_they_come_is_refused rest e = begins_otherwise _ rest e
-
-took_is_no_drop : (class' : Class) (entered : Option Entered) → Handled.Took entered ≡ Handled.Dropped class' → ⊥
-took_is_no_drop class' entered e = absurd cc
 
 -- the identifier of the source is ignored, and a message of another life of its port is taken
 other_identifier_is_refused : (entered : Option Entered)
