@@ -43,7 +43,7 @@ job_ops_1 =
 abbrev pub job : Job
 job = two_ranks_with 27 27 default_limits job_ops_0 job_ops_1
 
--- The datagrams: what each port tells of its life, the handshakes, the message, and its receipt.
+-- The datagrams after those that tell of the lives: the handshakes, the message, and its receipt.
 
 abbrev pub datagram_0_1 : Datagram
 datagram_0_1 = record { src = record { 0 = 0 }; number = record { 0 = 1 }; stamp = record { 0 = 5 }; dst = record { 0 = 1 }; body = Body.Between (record { 0 = 5 }) (record { 0 = 7 }) (Load.Packet (9 ∷ 4 ∷ 1 ∷ 0 ∷ 4 ∷ 0 ∷ 0 ∷ 0 ∷ 27 ∷ 0 ∷ 0 ∷ 0 ∷ 0 ∷ 0 ∷ 0 ∷ 0 ∷ 32 ∷ 0 ∷ 0 ∷ 0 ∷ 0 ∷ 0 ∷ 0 ∷ 0 ∷ 0 ∷ 0 ∷ 0 ∷ 0 ∷ 0 ∷ 0 ∷ 0 ∷ 0 ∷ 0 ∷ 0 ∷ 0 ∷ 0 ∷ 1 ∷ 0 ∷ 0 ∷ 0 ∷ 5 ∷ 0 ∷ 0 ∷ 0 ∷ 0 ∷ 0 ∷ 0 ∷ 0 ∷ 0 ∷ 0 ∷ 0 ∷ 0 ∷ [])) }

@@ -92,13 +92,12 @@ without_receipt_to_other = refl
 
 -- Whole jobs:
 
+-- all that rank 0 does before its send, which is refused
+abbrev send_refused : List Answer
+send_refused = Next.Did Did.Plain ∷ Next.Did Did.Plain ∷ Next.Did (Did.Region (record { 0 = 0 })) ∷ Next.Refused Why.NoConfirm ∷ []
+
 -- the send is refused once the handshake has told, and both ranks wait in vain
-other_cannot_answers : answers ((played_world (job 27 25)).logs 0) ≡
-    Next.Did Did.Plain
-    ∷ Next.Did Did.Plain
-    ∷ Next.Did (Did.Region (record { 0 = 0 }))
-    ∷ Next.Refused Why.NoConfirm
-    ∷ []
+other_cannot_answers : answers ((played_world (job 27 25)).logs 0) ≡ send_refused
 unfolding every_word
 other_cannot_answers = refl
 
@@ -106,12 +105,7 @@ other_cannot_ends : ends (job 27 25) (played_world (job 27 25)) ≡ left_at 4 5 
 unfolding every_word
 other_cannot_ends = refl
 
-own_cannot_answers : answers ((played_world (job 25 27)).logs 0) ≡
-    Next.Did Did.Plain
-    ∷ Next.Did Did.Plain
-    ∷ Next.Did (Did.Region (record { 0 = 0 }))
-    ∷ Next.Refused Why.NoConfirm
-    ∷ []
+own_cannot_answers : answers ((played_world (job 25 27)).logs 0) ≡ send_refused
 unfolding every_word
 own_cannot_answers = refl
 
