@@ -1,10 +1,11 @@
 //! What a receive asks for of a message that it reads.
-ghost use Rattle.std.specs.Prelude.{◌≡◌, ◌<◌, ◌≤◌, ◌^◌, ◌==◌, IsTrue, length, slice_get, drop};
+ghost use Rattle.std.specs.Prelude.{◌≡◌, ◌<◌, ◌≤◌, ◌^◌, ◌==◌, [], IsTrue, IfNone, IfSome, length, slice_get, drop};
 ghost use Rattle.std.specs.List.{list_all};
 ghost use Rattle.rdm_model.specs.Reads.{asks_from};
-ghost use Rattle.rdm_rx.specs.Asking.{IsReadList, read_length, has_end, padded_list};
+ghost use Rattle.rdm_model.specs.Replies.{asks_for};
+ghost use Rattle.rdm_rx.specs.Asking.{IsReadList, HeadFits, read_length, has_end, padded_list};
 
-use rdm_num::{ASK_MAX, Iov, IovEntry, OpId};
+use rdm_num::{ASK_MAX, Head, Iov, IovEntry, OpId, Shape};
 use rdm_wire::ReadAsk;
 
 /// The most ranges of a read list.
@@ -46,6 +47,26 @@ impl Asks {
             ranges: padded(iov.as_slice()),
             at: from,
         }
+    }
+
+    /// The asks that a message of that head makes owed when its receive is matched, if there are any:
+    /// all of a message that is read, and of a runt what its segments do not bring.
+    #[tactic(auto, unfolding(crate::specs::Asking::read_list_in, rdm_model::specs::Replies::asks_for))]
+    pub fn of(head: &Head, recv: OpId) -> Option<Asks>
+        requires { HeadFits head.now }
+        ensures none { IfNone result (asks_for head.now.shape recv ≡ []) }
+        ensures some { IfSome result (λ asks. (left asks ≡ asks_for head.now.shape recv) × (0 < length (left asks))) }
+    {
+        let asks = match &head.shape {
+            Shape::LongRead { send_id, iov } => Asks::new(*send_id, recv, iov, 0),
+            Shape::Runt {
+                send_id,
+                iov,
+                runt_length,
+            } => Asks::new(*send_id, recv, iov, *runt_length),
+            Shape::Eager | Shape::Medium | Shape::LongCts { .. } => return None,
+        };
+        if asks.is_done() { None } else { Some(asks) }
     }
 
     /// The ask that goes out next, if one is left.
