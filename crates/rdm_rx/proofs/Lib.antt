@@ -2,3 +2,4 @@
 pub mod Steps
 pub mod Padding
 pub mod ReadLists
+pub mod Windows

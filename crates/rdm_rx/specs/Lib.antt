@@ -2,3 +2,4 @@
 pub mod Asking
 pub mod Left
 pub mod Owing
+pub mod Receiving

@@ -4,9 +4,11 @@
 mod asks;
 mod ends;
 mod grants;
+mod receiving;
 #[cfg(test)]
 mod tests;
 
 pub use asks::Asks;
 pub use ends::end;
 pub use grants::{grant, next_window};
+pub use receiving::Receiving;
