@@ -3,3 +3,4 @@ pub mod Steps
 pub mod Padding
 pub mod ReadLists
 pub mod Windows
+pub mod Runs

@@ -4,6 +4,7 @@
 mod asks;
 mod ends;
 mod grants;
+mod laws;
 mod receiving;
 #[cfg(test)]
 mod tests;
@@ -11,4 +12,5 @@ mod tests;
 pub use asks::Asks;
 pub use ends::end;
 pub use grants::{grant, next_window};
+pub use laws::receiving_law;
 pub use receiving::Receiving;
