@@ -1,6 +1,6 @@
 -- Read lists and first parts that packets carry.
 use Rattle.std.proofs.Common.{◌≡◌, ℕ, ◌<◌, ◌≤◌, ◌^◌, true, List, length, arith}
-use Rattle.std.specs.Prelude.{IfSome, nat_lt, unwrap_or}
+use Rattle.std.specs.Prelude.{IfSome, nat_le, nat_lt, ◌&&◌, unwrap_or}
 use Rattle.std.proofs.lemmas.Bool.{and_parts, eqb-true}
 use Rattle.std.proofs.lemmas.Bool.Decides.{nat_tests}
 use Rattle.rdm_num.specs.declared.lists.IovEntry.{IovEntry}
@@ -49,7 +49,8 @@ unfolding form_fits size_of first_part_in
 first_part (Eager bytes) h = omega arith
 first_part (Medium size offset bytes) h = omega arith
 first_part (LongCts size send credits bytes) h =
-    let q : nat_lt (length bytes) size ≡ true = (and_parts _ _ (and_parts _ _ h).0).1 in
+    let some : (nat_le 1 (length bytes) && nat_lt (length bytes) size) ≡ true = (and_parts _ (nat_le 1 credits) h).0 in
+    let q : nat_lt (length bytes) size ≡ true = (and_parts (nat_le 1 (length bytes)) (nat_lt (length bytes) size) some).1 in
     grind (arith, nat_tests, q)
 first_part (LongRead size send iov) h = omega arith
 first_part (Runt size send iov runt offset bytes) h = omega arith

@@ -1,10 +1,11 @@
-ghost use Rattle.std.specs.Prelude.{IsTrue};
+ghost use Rattle.std.specs.Prelude.{◌≡◌, IsTrue};
 ghost use Rattle.rdm_pkt.specs.Grammar.{form_fits};
+ghost use Rattle.rdm_rx.specs.Asking.{HeadFits};
 
-use crate::{Asks, end, grant, next_window};
+use crate::{Asks, Receiving, end, grant, next_window};
 use arrayvec::ArrayVec;
 use rdm_hdr::Opt;
-use rdm_num::{Connid, EpLimits, Head, Iov, IovEntry, MsgNo, OpId, Shape};
+use rdm_num::{Connid, EpLimits, Head, Iov, IovEntry, Life, MsgNo, OpId, PortNo, Shape};
 use rdm_pkt::{Form, Packet};
 use rdm_wire::ReadAsk;
 use std::process::Abort;
@@ -155,7 +156,9 @@ const WINDOWS: [(u64, u64); 4] = [
 ];
 
 /// What is known of a message of that shape.
-fn head(confirm: bool, length: u64, shape: Shape) -> Head {
+fn head(confirm: bool, length: u64, shape: Shape) -> Head
+    ensures { result.shape ≡ shape }
+{
     Head {
         tag: None,
         confirm,
@@ -166,7 +169,10 @@ fn head(confirm: bool, length: u64, shape: Shape) -> Head {
 }
 
 /// A message whose sender asks for 16 packets at once.
-fn granted(confirm: bool) -> Head {
+#[tactic(auto, unfolding(crate::specs::Asking::read_list_in))]
+fn granted(confirm: bool) -> Head
+    ensures { HeadFits result }
+{
     let shape = Shape::LongCts {
         send_id: OpId(2),
         credits: 16,
@@ -206,6 +212,40 @@ fn a_whole_message_waits_for_no_grant(rt: HostRuntime) {
     let head = head(false, 5, Shape::Eager);
     assert!(rt; next_window(&LIMITS, &head, 0) == 0);
     assert!(rt; grant(Connid(6), &head, OpId(3), 5).is_none());
+}
+
+/// A life of port 1.
+fn life(connid: u32) -> Life {
+    Life {
+        port: PortNo(1),
+        connid: Connid(connid),
+    }
+}
+
+/// How many bytes are granted before a call, whether all of them landed, and how many it grants.
+const GRANTS: [(u64, bool, u64); 5] = [
+    (8_000, false, 0),
+    (8_000, true, 130_624),
+    (138_624, false, 0),
+    (138_624, true, 61_376),
+    (200_000, true, 0),
+];
+
+#[test]
+fn a_receive_grants_its_message_in_a_row(rt: HostRuntime) {
+    let mut receiving = Receiving::new(life(5), MsgNo(4), OpId(3), granted(true), 8_000);
+    assert!(rt; receiving.source() == life(5) && receiving.number() == MsgNo(4));
+    assert!(rt; receiving.is_of(life(5), MsgNo(4)) && !receiving.is_of(life(6), MsgNo(4)));
+    assert!(rt; !receiving.is_of(life(5), MsgNo(5)) && receiving.asks().is_none());
+    for (before, landed, wanted) in GRANTS {
+        assert!(rt; !receiving.passes_grants(before), "at {before}");
+        assert!(rt; receiving.passes_grants(before.saturating_add(1)));
+        assert!(rt; receiving.next_window(&LIMITS, landed) == wanted);
+        let packet = receiving.grant_next(Connid(6), &LIMITS, landed);
+        assert!(rt; size_granted(&packet) == wanted, "at {before}");
+    }
+    assert!(rt; receiving.head().length == 200_000);
+    assert!(rt; is_receipt(&receiving.end(Connid(6))));
 }
 
 /// The packet ends the read of send 2 by receive 3 of the life 6.
