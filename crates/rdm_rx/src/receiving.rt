@@ -1,5 +1,5 @@
 //! A receive that was matched to a message.
-ghost use Rattle.std.specs.Prelude.{◌≡◌, ◌≤◌, ◌<◌, ◌&&◌, ◌==◌, [], IfNone, IfSome, length, nat_lt};
+ghost use Rattle.std.specs.Prelude.{◌≡◌, ◌<◌, ◌&&◌, ◌==◌, [], IfNone, IfSome, length, nat_lt};
 ghost use Rattle.rdm_num.specs.Lives.{same_life};
 ghost use Rattle.rdm_model.specs.Replies.{asks_for, grant_for, end_for};
 ghost use Rattle.rdm_rx.specs.Asking.{HeadFits};
