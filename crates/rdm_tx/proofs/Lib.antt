@@ -1,3 +1,4 @@
 pub mod Nth
 pub mod Numbered
 pub mod Laws
+pub mod Granting

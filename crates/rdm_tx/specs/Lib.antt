@@ -1,3 +1,4 @@
--- A send's message, how far its packets were given, and where their bytes stand.
+-- A send's message, how far its packets were given, where their bytes stand, and what is granted of it.
 pub mod Sends
 pub mod Laws
+pub mod Granting

@@ -1,13 +1,15 @@
-//! The packets that a send owes from the start, one by one: each is made when it is asked for.
+//! The packets that a send owes, one by one, from the start and by grants: each is made when it is asked for.
 #![tactic(auto)]
 
 ghost use Rattle.std.specs.Prelude.{◌≡◌, ◌≤◌, ◌<◌, ◌+◌, ◌==◌, ℕ, List, length, nat_le, IfOk, IfSome, OnErr};
 ghost use Rattle.rdm_tx.specs.Sends.{packet_after, given_after, packet_count, IsSpanAfter, IsPacketWith};
 ghost use Rattle.rdm_tx.specs.Laws.{StepsGiveOpenings, SpansFollow, PacketsCarryParts};
 
+mod granted;
 mod message;
 mod spans;
 
+pub use granted::Granted;
 pub use message::Message;
 use rdm_num::{EpLimits, NoMemory};
 use rdm_pkt::Packet;
