@@ -1,5 +1,5 @@
 -- The granted bytes of a long send: how far they were pushed, which come next, and what grants change.
-use Rattle.std.specs.Prelude.{ℕ, ◌+◌, ◌-◌, min, Bool, false, not, ◌||◌, ◌==◌, nat_lt, if◌then◌else◌, List, take, drop, Option, Some, None, option_map}
+use Rattle.std.specs.Prelude.{ℕ, ◌+◌, ◌-◌, min, Bool, false, not, ◌||◌, ◌==◌, nat_lt, List, Option, Some, None, option_map}
 use Rattle.std.specs.Bool.{then_some}
 use Rattle.rdm_lists.specs.Lists.{or_else}
 use Rattle.rdm_num.specs.Lives.{op_id}
@@ -46,10 +46,6 @@ span_next limits g = then_some (nat_lt g.done g.allowed) (record { offset = g.do
 -- the packet of those bytes, from the first one on that was not pushed, to the receive that grants name
 abbrev pub packet_with : Connid → Granting → (piece : List ℕ) → Option Packet
 packet_with own g piece = option_map (λ recv. CtsData (op_id recv) g.done own piece) g.granted_by
-
--- the next packet of a message, if any of its granted bytes are left to push
-unfoldable pub data_next : EpLimits → Connid → Granting → (bytes : List ℕ) → Option Packet
-data_next limits own g bytes = if nat_lt g.done g.allowed then packet_with own g (take (next_length limits g) (drop g.done bytes)) else None
 
 -- the next packet was pushed
 abbrev pub pushed : EpLimits → Granting → Granting

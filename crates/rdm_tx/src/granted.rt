@@ -1,5 +1,6 @@
 //! The granted bytes of a long send.
 ghost use Rattle.std.specs.Prelude.{◌≡◌, ◌≤◌, ◌<◌, ◌+◌, ◌==◌, IsTrue, Some, not, length, option_map, IfOk, IfSome};
+ghost use Rattle.rdm_tx.specs.GrantLaws.{GrantedFollow, GrantedIsCounted, GrantedAreDue};
 ghost use Rattle.rdm_tx.specs.Granting.{ungranted, is_other_number, is_wrong_for, with_grant, next_length, span_next, packet_with, pushed};
 
 use crate::spans::Span;
@@ -70,7 +71,8 @@ impl Granted {
     /// They are none where the mtu has no room beside the headers.
     pub fn span(&self, limits: &EpLimits) -> Option<Span>
         ensures span { result ≡ span_next limits.now self.now }
-        ensures granted { IfSome result (λ span. span.offset + span.length ≤ self.now.allowed) }
+        ensures left { IfSome result (λ _. self.now.done < self.now.allowed) }
+        ensures granted { IfSome result (λ span. self.now.done + span.length ≤ self.now.allowed) }
         ensures within { IfSome result (λ span. span.offset + span.length ≤ self.now.total) }
     {
         (self.done < self.allowed).then_some(Span {
@@ -130,3 +132,13 @@ fn is_other(recv: OpId, named: Option<OpId>) -> bool
         Some(named) => named != recv,
     }
 }
+
+/// Grants that are taken and packets that are pushed, in any order: the packets follow each other
+/// from the first part on without a gap, to the receive that the first grant named, and have no more
+/// bytes than the grants have, and these no more than the message. Each is the packet that a life
+/// owes of a send that was granted so.
+pub fn granted_law()
+    ensures follow { GrantedFollow }
+    ensures counted { GrantedIsCounted }
+    ensures due { GrantedAreDue }
+{}

@@ -9,7 +9,7 @@ mod granted;
 mod message;
 mod spans;
 
-pub use granted::Granted;
+pub use granted::{Granted, granted_law};
 pub use message::Message;
 use rdm_num::{EpLimits, NoMemory};
 use rdm_pkt::Packet;
