@@ -3,3 +3,6 @@ pub mod Sends
 pub mod Laws
 pub mod Granting
 pub mod GrantLaws
+-- What was asked for of a send that is read.
+pub mod Asks
+pub mod Inside

@@ -1,14 +1,17 @@
-//! The packets that a send owes, one by one, from the start and by grants: each is made when it is asked for.
+//! The packets that a send owes, one by one, from the start and by grants: each is made when it is asked
+//! for. And what is asked of a send that its receiver reads.
 #![tactic(auto)]
 
 ghost use Rattle.std.specs.Prelude.{◌≡◌, ◌≤◌, ◌<◌, ◌+◌, ◌==◌, ℕ, List, length, nat_le, IfOk, IfSome, OnErr};
 ghost use Rattle.rdm_tx.specs.Sends.{packet_after, given_after, packet_count, IsSpanAfter, IsPacketWith};
 ghost use Rattle.rdm_tx.specs.Laws.{StepsGiveOpenings, SpansFollow, PacketsCarryParts};
 
+mod asked;
 mod granted;
 mod message;
 mod spans;
 
+pub use asked::Asked;
 pub use granted::{Granted, granted_law};
 pub use message::Message;
 use rdm_num::{EpLimits, NoMemory};
