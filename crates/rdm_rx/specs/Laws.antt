@@ -47,8 +47,7 @@ AreGrants own limits r (c ∷ cs) last =
     IsOnlyPacket own c.packet (λ life. grant_for life r.head.shape r.recv (window_if c.landed limits r))
     × AreGrants own limits (granted_if c.landed limits r) cs last
 
--- the windows stand in a row: what the packets of any calls grant begins where the bytes end that were granted before, and
--- nothing else changes
+-- windows stand in a row: what the packets of any calls grant begins where the granted bytes end, and nothing else changes
 abbrev pub WindowsFollow : Type 0
 WindowsFollow =
     (own : Connid) (limits : EpLimits) (r : ReceivingView) (calls : List GrantCall) (last : ReceivingView)

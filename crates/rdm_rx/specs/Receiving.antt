@@ -7,8 +7,7 @@ use Rattle.rdm_num.specs.declared.limits.EpLimits.{EpLimits}
 use Rattle.rdm_num.specs.declared.head.Head.{Head}
 use Rattle.rdm_model.specs.Grants.{window_of}
 
--- the life and number of the message, the number of the receive as packets carry it, the message's head, and how many of its
--- bytes are granted
+-- the message that a receive was matched to and its head, the receive's number in packets, and how many bytes are granted
 pub record ReceivingView : Type 0 where
   pub source : Life
   pub number : MsgNo
