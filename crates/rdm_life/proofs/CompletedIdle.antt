@@ -104,10 +104,10 @@ done_item own log v from Garbled i local k = done_still own (Took from Garbled) 
 -- of receives that are numbered in a row one at most has a number
 one_in_row : (n base : ℕ) (xs : List Receive) → ((k : ℕ) (r : Receive) → slice_get xs k ≡ Some r → r.number ≡ base + k)
     → filter (λ (r : Receive). r.number == n) xs ≡ option_to_list (find (λ (r : Receive). r.number == n) xs)
-one_in_row n base [] row = refl
-one_in_row n base (x ∷ xs) row =
-    let mine : x.number ≡ base + 0 = row 0 x refl in
-    let later : (k : ℕ) (r : Receive) → slice_get xs k ≡ Some r → r.number ≡ base + suc k = λ k r e. row (suc k) r e in
+one_in_row n base [] numbered = refl
+one_in_row n base (x ∷ xs) numbered =
+    let mine : x.number ≡ base + 0 = numbered 0 x refl in
+    let later : (k : ℕ) (r : Receive) → slice_get xs k ≡ Some r → r.number ≡ base + suc k = λ k r e. numbered (suc k) r e in
     let t : Receive → Bool = λ r. r.number == n in
     (elim (x.number == n) as (λ b. (x.number == n) ≡ b → cond b (x ∷ filter t xs) (filter t xs) ≡ option_to_list (cond b (Some x) (find t xs))) [
       | true ↦ λ e. (
