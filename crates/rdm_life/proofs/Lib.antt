@@ -159,3 +159,5 @@ pub mod LoansStay
 pub mod LoansTaken
 -- so it is in a log
 pub mod LoansLaw
+-- and what is out stands
+pub mod LoansStand

@@ -48,7 +48,7 @@ lent_still own d log from to load l local fit lent spares =
     record { taken = still.0; brings = still.1; missing = (lasts own d log (kept own log) l local fit k lent.missing spares).still }
 
 -- the deeds of an open life, with one more
-local_more : (job : Job) (port : ℕ) (connid : Connid) (e : Entry) (log : List Entry) → Local job port (e ∷ log) → open_life (deeds_at job port log) ≡ Some connid
+pub local_more : (job : Job) (port : ℕ) (connid : Connid) (e : Entry) (log : List Entry) → Local job port (e ∷ log) → open_life (deeds_at job port log) ≡ Some connid
     → LifeLocal (own_of job (life_of port connid)) (deed_of (rank_of job port).ops e.act ∷ of_life connid (deeds_at job port log))
 local_more job port connid e log local is =
     subst (LifeLocal (own_of job (life_of port connid))) (of_life_newest job port connid e log is) (life_local job port connid (e ∷ log) local)

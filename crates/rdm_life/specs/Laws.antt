@@ -1,5 +1,6 @@
 -- What holds of an endpoint's record, for each life of a port whose log is right by itself.
-use Rattle.std.specs.Prelude.{◌≡◌, ◌<◌, ℕ, List, ◌∷◌, Some, None, slice_get}
+use Rattle.std.specs.Prelude.{◌≡◌, ◌<◌, ℕ, true, false, List, ◌∷◌, Some, None, slice_get}
+use Rattle.rdm_lists.specs.Lists.{Member}
 use Rattle.rdm_num.specs.declared.numbers.Life.{Life}
 use Rattle.rdm_num.specs.declared.numbers.Connid.{Connid}
 use Rattle.rdm_wire.specs.declared.Load.{Load}
@@ -9,7 +10,7 @@ use Rattle.rdm_model.specs.declared.entry.Entry.{Entry}
 use Rattle.rdm_model.specs.Answers.{answer_of, answer_by}
 use Rattle.rdm_model.specs.Beginnings.{own_of, life_at, rank_of}
 use Rattle.rdm_model.specs.Classes.{item_class_by, item_class}
-use Rattle.rdm_model.specs.Deeds.{Took, item_of, deed_of, of_life, open_life}
+use Rattle.rdm_model.specs.Deeds.{Item, Took, item_of, deed_of, of_life, open_life}
 use Rattle.rdm_model.specs.Dues.{due}
 use Rattle.rdm_model.specs.Facts.{port_facts}
 use Rattle.rdm_model.specs.Going.{due_going}
@@ -22,7 +23,7 @@ use Rattle.rdm_life.specs.Kept.{Kept}
 use Rattle.rdm_life.specs.Keeps.{Keeps}
 use Rattle.rdm_life.specs.Facts.{facts_in, class_facts_in, place_facts_in, entered_in}
 use Rattle.rdm_life.specs.Handling.{kept, after}
-use Rattle.rdm_life.specs.Lending.{Loan, brought, IsMissing, Spares}
+use Rattle.rdm_life.specs.Lending.{Loan, Lending, brought, share, is_free, lend, same_loan, unlend, land_lent, IsMissing, Spares}
 use Rattle.rdm_life.specs.Sending.{goes_out, going_to}
 
 -- Each field that is kept of the deeds of a life is what the definitions say.
@@ -91,3 +92,28 @@ LoansLast =
     → IsLent (kept_of job port log) from to load l
     → Spares (kept_of job port log) (deed_of (rank_of job port).ops e.act) l
     → IsLent (after (deed_of (rank_of job port).ops e.act) (kept_of job port log)) from to load l
+
+-- each range that is out is missing, and no two of them share a place
+pub record LoansStand (w : Lending) : Type 0 where
+  pub missing : (l : Loan) → Member l w.out → IsMissing w.kept l
+  pub apart : (k l : Loan) → Member k w.out → Member l w.out → same_loan k l ≡ false → share k l ≡ false
+
+-- They stand as one more is lent that is missing and shares no place with them.
+abbrev pub LendingStands : Type 0
+LendingStands = (w : Lending) (l : Loan) → LoansStand w → IsMissing w.kept l → is_free w.out l ≡ true → LoansStand (lend l w)
+
+-- They stand as one is given back.
+abbrev pub UnlendingStands : Type 0
+UnlendingStands = (w : Lending) (l : Loan) → LoansStand w → LoansStand (unlend l w)
+
+-- The others stand as the datagram of one lands.
+abbrev pub LandingStands : Type 0
+LandingStands =
+    (job : Job) (port : ℕ) (connid : Connid) (e : Entry) (log : List Entry) (from : Life) (item : Item) (l : Loan) (out : List Loan)
+    → Local job port (e ∷ log)
+    → open_life (deeds_at job port log) ≡ Some connid
+    → deed_of (rank_of job port).ops e.act ≡ Took from item
+    → Member l out
+    → brought (kept_of job port log) from item ≡ Some l
+    → LoansStand (record { kept = kept_of job port log; out = out })
+    → LoansStand (land_lent l from item (record { kept = kept_of job port log; out = out }))

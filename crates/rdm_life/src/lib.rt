@@ -1,7 +1,15 @@
 //! What an endpoint keeps, and that it is what the definitions make of the deeds of its life.
 #![tactic(auto)]
 
-ghost use Rattle.rdm_life.specs.Laws.{FactsAreKept, LoansBegin, LoansLast, RecordIsKept};
+ghost use Rattle.rdm_life.specs.Laws.{
+  FactsAreKept,
+  LandingStands,
+  LendingStands,
+  LoansBegin,
+  LoansLast,
+  RecordIsKept,
+  UnlendingStands,
+};
 
 /// After every log that is right by itself, each field of an endpoint's record is what the definitions say of the deeds of
 /// its life.
@@ -20,4 +28,12 @@ pub fn facts_are_kept()
 pub fn loans_last()
     ensures begins { LoansBegin }
     ensures lasts { LoansLast }
+{}
+
+/// Ranges that are out are missing, and no two of them share a place: so it stays as one more is lent, as one is given back,
+/// and as the datagram of one lands.
+pub fn loans_stand()
+    ensures lends { LendingStands }
+    ensures unlends { UnlendingStands }
+    ensures lands { LandingStands }
 {}
