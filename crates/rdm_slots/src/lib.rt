@@ -38,7 +38,8 @@ impl<T> Slots<T> {
 
     /// Takes the memory for so many places, which are all empty. No later call takes any.
     pub fn new(alloc: Global, size: usize) -> Result<Slots<T>, AllocError>
-        ensures { IfOk result (λ s. s ≡ nothing_put size) }
+        ensures places { IfOk result (λ s. s ≡ nothing_put size) }
+        ensures empty { IfOk result (λ s. Places.is_empty s ≡ true) }
     {
         let mut empty = Vec::with_capacity(alloc, size)?;
         let mut places = Vec::with_capacity(alloc, size)?;

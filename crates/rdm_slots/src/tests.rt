@@ -41,17 +41,16 @@ fn values_come_and_go(rt: HostRuntime) -> Result<(), Fail> {
     let mut slots = Slots::new(rt.alloc(), 4)?;
     // The place of each value whose number is this one or one of the three before it.
     let mut places = [0; 4];
-    for number in 0..100 {
+    for number in 0..100_u32 {
         let turn = number as usize % 4;
         if slots.is_full() {
-            assert!(rt; spend(slots.take(places[turn])) == Some(number - 4));
+            assert!(rt; spend(slots.take(places[turn])) == number.checked_sub(4));
         }
         assert!(rt; !slots.is_full());
         places[turn] = slots.put(Token { number });
         assert!(rt; spend(slots.take(4)).is_none());
         for back in 0..4 {
-            if back <= number {
-                let other = number - back;
+            if let Some(other) = number.checked_sub(back) {
                 let place = places[other as usize % 4];
                 assert!(rt; slots.get(place).map(|token| token.number) == Some(other));
             }

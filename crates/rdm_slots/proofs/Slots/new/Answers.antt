@@ -1,4 +1,4 @@
-use Rattle.std.proofs.Common.{◌≡◌, ◌++◌, [], ◌∷◌, length, None, ap, ◌∙◌, arith}
+use Rattle.std.proofs.Common.{◌≡◌, length, None, ◌∙◌, arith}
 use Rattle.std.proofs.lemmas.List.{length_push, length-replicate, replicate_more}
 use Rattle.rdm_slots.proofs.Empty.{empty-more}
 use Rattle.rdm_slots.proofs.Slots.new.Goals as goal
@@ -11,7 +11,7 @@ loop-place-preserved g c =
     let size : length c.loop-place.places.items ≡ c.loop-place.place = rw before.places (length-replicate c.loop-place.place None) in
     let more = empty-more c.loop-place.places.items c.loop-place.empty.items before.empty in
     record {
-      places = places ∙ ap (λ l. l ++ None ∷ []) before.places ∙ replicate_more c.loop-place.place None;
+      places = rw (places, before.places) (replicate_more c.loop-place.place None);
       empty = rw (places, empty, ← size) more;
       all = rw (empty, length_push) (omega (arith, before.all));
       room = (c.push_reserved.ensures.capacity ∙ before.room.0, c.push_reserved-in-loop-place.ensures.capacity ∙ before.room.1);
