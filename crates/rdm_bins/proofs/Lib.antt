@@ -12,3 +12,5 @@ mod Dropped
 mod Below
 mod Taken
 mod Candidates
+mod Calls
+mod Free

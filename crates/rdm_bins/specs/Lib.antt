@@ -2,3 +2,5 @@
 pub mod Shelf
 pub mod Chains
 pub mod Binning
+-- what calls come to, in the plain matcher's lists
+pub mod Calls

@@ -7,6 +7,7 @@ ghost use Rattle.rdm_match.specs.Matcher as Plain;
 ghost use Rattle.rdm_match.specs.Kept.{nothing_kept};
 ghost use Rattle.rdm_bins.specs.Shelf.{entries_on, values_on, first_passing};
 ghost use Rattle.rdm_bins.specs.Shelf as Shelves;
+ghost use Rattle.rdm_bins.specs.Calls.{EventsTell, RunsTell, RunsGoOn, CancelsTakeOut, ForgetsLeave, NumbersStayFree};
 
 use rdm_match::{Arrived, ArrivedList, PostedList, PostedRecv, TagMatcher};
 use rdm_num::{Life, NoMemory, RecvNo};
@@ -240,3 +241,13 @@ fn take_number(posted: &mut Shelf<PostedRecv>, id: RecvNo) -> Option<PostedRecv>
     let found = first_numbered(posted, id);
     posted.take(found)
 }
+
+/// What the calls say of what waits and of their answers is what the plain matcher makes of its
+/// lists.
+pub fn calls_law()
+    ensures tell { EventsTell × RunsTell }
+    ensures go_on { RunsGoOn }
+    ensures cancels { CancelsTakeOut }
+    ensures forgets { ForgetsLeave }
+    ensures free { NumbersStayFree }
+{}
