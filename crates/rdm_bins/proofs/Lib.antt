@@ -12,5 +12,5 @@ mod Dropped
 mod Below
 mod Taken
 mod Candidates
-mod Calls
-mod Free
+pub mod Calls
+pub mod Free
