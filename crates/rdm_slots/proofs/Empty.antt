@@ -1,8 +1,8 @@
 -- How each change of the places keeps the list of the empty ones.
-use Rattle.std.proofs.Common.{◌≡◌, ◌≢◌, ℕ, zero, suc, ◌+◌, ◌≤◌, List, [], ◌∷◌, ◌++◌, length, get_or, set, count_by, slice_get, Option, Some, None, is_some, cond, refl, sym, ap, subst, ◌∙◌, arith, length-set}
+use Rattle.std.proofs.Common.{◌≡◌, ◌≢◌, ℕ, zero, suc, ◌≤◌, List, [], ◌∷◌, ◌++◌, length, get_or, set, slice_get, Option, Some, None, refl, sym, ap, subst, ◌∙◌, arith, length-set}
 use Rattle.std.proofs.lemmas.List.{length_push, set-get_or, get_or-set_other, get_or-set_same}
-use Rattle.std.proofs.lemmas.List.Sums.{sum_by-set}
 use Rattle.std.proofs.lemmas.Option.{slice_get_within, slice_get-get_or, get_or_from_slice_get}
+use Rattle.rdm_slots.proofs.Counts.{count-set, value_read}
 use Rattle.rdm_slots.specs.Kept.{IsNoneOf, AreEmptyPlaces, AreListed}
 
 -- a number that is put last is none of those before
@@ -18,13 +18,6 @@ last_is_other (first ∷ rest) last number none =
     (later.0, (none.0, later.1))
 
 module _ {T : Type 0} where
-  -- the count of values after a change of one place
-  pub count-set : (places : List (Option T)) (place : ℕ) (old new : Option T) → slice_get places place ≡ Some old → count_by is_some (set places place new) + cond (is_some old) 1 0 ≡ count_by is_some places + cond (is_some new) 1 0
-  count-set places place old new is =
-      let within = slice_get_within places place old is in
-      let counted = sum_by-set (λ o. cond (is_some o) 1 0) places place new old within in
-      rw (get_or_from_slice_get places place old old is) at counted
-
   -- a change of one place leaves what each other one has
   slot_stays : (places : List (Option T)) (place other : ℕ) (new : Option T) → place ≢ other → slice_get places other ≡ Some None → slice_get (set places place new) other ≡ Some None
   slot_stays places place other new apart is =
@@ -81,12 +74,6 @@ module _ {T : Type 0} where
       at_end : (places : List (Option T)) → slice_get (places ++ None ∷ []) (length places) ≡ Some None
       at_end [] = refl
       at_end (first ∷ rest) = at_end rest
-
-  -- what is read where there is a value
-  pub value_read : (places : List (Option T)) (place : ℕ) (value : T) → get_or places place None ≡ Some value → slice_get places place ≡ Some (Some value)
-  value_read [] place value is = absurd (cc)
-  value_read (first ∷ rest) zero value is = ap Some is
-  value_read (first ∷ rest) (suc place) value is = value_read rest place value is
 
   -- the last of the numbers is that of an empty place
   pub listed-last : (places : List (Option T)) (numbers front : List ℕ) (last room : ℕ) → numbers ≡ front ++ last ∷ [] → AreListed places numbers room → slice_get places last ≡ Some None

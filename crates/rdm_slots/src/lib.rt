@@ -6,6 +6,7 @@ ghost use Rattle.std.specs.Option.{option_copied_mut};
 ghost use Rattle.std.specs.Borrow.{sem};
 ghost use Rattle.rdm_slots.specs.Places.{nothing_put, held, IsEmptyPlace, value_at, with_value, without};
 ghost use Rattle.rdm_slots.specs.Places as Places;
+ghost use Rattle.rdm_slots.specs.Counts.{CountsMove, EmptyHasNone};
 
 use std::alloc::{AllocError, Global};
 use std::marker::Model;
@@ -125,3 +126,9 @@ impl<T> Slots<T> {
         places.destroy_empty();
     }
 }
+
+/// What the count of values says of the places.
+pub fn counts_law<T>()
+    ensures move_so { CountsMove T }
+    ensures empty { EmptyHasNone T }
+{}

@@ -1,6 +1,7 @@
 use Rattle.std.proofs.Common.{Some, None, arith}
 use Rattle.std.proofs.lemmas.Option.{slice_get_within, get_or_from_slice_get}
-use Rattle.rdm_slots.proofs.Empty.{count-set, listed-last, listed-put}
+use Rattle.rdm_slots.proofs.Counts.{count-set}
+use Rattle.rdm_slots.proofs.Empty.{listed-last, listed-put}
 use Rattle.rdm_slots.proofs.Slots.put.Goals as goal
 
 pub index_mut-requires : goal.index_mut-requires
