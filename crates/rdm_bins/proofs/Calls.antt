@@ -1,13 +1,14 @@
 -- What calls of a matcher come to, in the plain matcher's lists.
 use Rattle.std.proofs.Common.{◌≡◌, refl, sym, ap, ◌∙◌, Bool, true, false, not, cond, ◌||◌, ◌&&◌, List, [], ◌∷◌, ◌++◌, Option, Some, None}
-use Rattle.std.specs.Prelude.{find, filter}
+use Rattle.std.specs.Prelude.{find, filter, is_some, option_map}
+use Rattle.std.specs.List.{list_any}
 use Rattle.std.proofs.lemmas.List.{append-nil, append_assoc}
 use Rattle.rdm_num.specs.Lives.{same_life, is_life}
 use Rattle.rdm_match.specs.declared.PostedRecv.{PostedRecv}
 use Rattle.rdm_match.specs.declared.Arrived.{Arrived}
 use Rattle.rdm_match.specs.Matcher.{accepts, Pair, Matching, Event, Post, Arrive, Cancel, Forget, after, after_post, after_arrive, run}
 use Rattle.rdm_match.specs.Waiting.{Waiting, with_pairs, waiting_in, waiting_after, waiting_after_all, taken_by, taker_of, pair_of_post, pair_of_arrival, pair_told, pairs_told}
-use Rattle.rdm_bins.specs.Calls.{with_told, EventsTell, RunsTell, RunsGoOn, CancelsTakeOut, names_any, is_of_any, ForgetsLeave}
+use Rattle.rdm_bins.specs.Calls.{with_told, EventsTell, RunsTell, RunsGoOn, CancelsTakeOut, TakenWhereAny, names_any, is_of_any, ForgetsLeave}
 
 -- a post adds its pair to those that were made
 post_adds : (w : Waiting) (pairs : List Pair) (r : PostedRecv) (taken : Option Arrived) → after_post (with_told w pairs) r taken ≡ with_told (waiting_in (after_post (with_told w []) r taken)) (pairs ++ pair_of_post r taken)
@@ -54,6 +55,19 @@ runs_go_on w (first ∷ es) e =
 pub cancels_take_out : CancelsTakeOut
 unfolding with_pairs waiting_in waiting_after after
 cancels_take_out w n = refl
+
+-- a search finds one exactly where one passes
+found_where_any : {A B : Type 0} (f : A → B) (p : A → Bool) (xs : List A) → is_some (option_map f (find p xs)) ≡ list_any p xs
+found_where_any f p [] = refl
+found_where_any f p (x ∷ xs) =
+    elim (p x) as (λ (b : Bool). is_some (option_map f (cond b (Some x) (find p xs))) ≡ (b || list_any p xs)) [
+      | true ↦ refl
+      | false ↦ found_where_any f p xs
+    ]
+
+pub taken_where_any : TakenWhereAny
+unfolding taker_of
+taken_where_any w a = found_where_any (λ (r : PostedRecv). r.id) (λ (r : PostedRecv). accepts r a) w.posted
 
 -- what passes two tests in turn passes both
 filter_twice : {A : Type 0} (p q both : A → Bool) → ((x : A) → both x ≡ (p x && q x)) → (xs : List A) → filter q (filter p xs) ≡ filter both xs

@@ -1,13 +1,13 @@
 -- What calls of a matcher come to, in the plain matcher's lists.
-use Rattle.std.specs.Prelude.{◌≡◌, ℕ, ◌≤◌, ◌<◌, Bool, false, not, List, [], ◌∷◌, ◌++◌, map, filter}
+use Rattle.std.specs.Prelude.{◌≡◌, ℕ, ◌≤◌, ◌<◌, Bool, false, not, List, [], ◌∷◌, ◌++◌, map, filter, is_some, option_map}
 use Rattle.std.specs.List.{list_any}
 use Rattle.rdm_lists.specs.Lists.{without_first}
 use Rattle.rdm_num.specs.Lives.{same_life, is_life}
 use Rattle.rdm_num.specs.declared.numbers.Life.{Life}
 use Rattle.rdm_match.specs.declared.PostedRecv.{PostedRecv}
 use Rattle.rdm_match.specs.declared.Arrived.{Arrived}
-use Rattle.rdm_match.specs.Matcher.{Pair, Matching, Event, Post, Arrive, Cancel, Forget, after, run, is_recv}
-use Rattle.rdm_match.specs.Waiting.{Waiting, waiting_after, waiting_after_all, pair_told, pairs_told, is_posted}
+use Rattle.rdm_match.specs.Matcher.{accepts, Pair, Matching, Event, Post, Arrive, Cancel, Forget, after, run, is_recv}
+use Rattle.rdm_match.specs.Waiting.{Waiting, waiting_after, waiting_after_all, pair_told, pairs_told, taker_of, is_posted}
 
 -- the plain matcher in which these wait, with these pairs
 abbrev pub with_told : Waiting → List Pair → Matching
@@ -31,6 +31,10 @@ RunsGoOn =
 -- a cancel takes out the first receive of that number
 abbrev pub CancelsTakeOut : Type 0
 CancelsTakeOut = (w : Waiting) (n : ℕ) → waiting_after w (Cancel n) ≡ record w { posted = without_first (is_recv n) w.posted }
+
+-- it is told that a message would be taken exactly where a receive that waits accepts it
+abbrev pub TakenWhereAny : Type 0
+TakenWhereAny = (w : Waiting) (a : Arrived) → is_some (option_map (λ (r : PostedRecv). r.id) (taker_of w a)) ≡ list_any (λ (r : PostedRecv). accepts r a) w.posted
 
 -- the receive names one of these lives
 abbrev pub names_any : List Life → PostedRecv → Bool

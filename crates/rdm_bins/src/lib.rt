@@ -7,7 +7,7 @@ ghost use Rattle.rdm_match.specs.Matcher as Plain;
 ghost use Rattle.rdm_match.specs.Kept.{nothing_kept};
 ghost use Rattle.rdm_bins.specs.Shelf.{entries_on, values_on, first_passing};
 ghost use Rattle.rdm_bins.specs.Shelf as Shelves;
-ghost use Rattle.rdm_bins.specs.Calls.{EventsTell, RunsTell, RunsGoOn, CancelsTakeOut, ForgetsLeave, NumbersStayFree};
+ghost use Rattle.rdm_bins.specs.Calls.{EventsTell, RunsTell, RunsGoOn, CancelsTakeOut, ForgetsLeave, TakenWhereAny, NumbersStayFree};
 
 use rdm_match::{Arrived, ArrivedList, PostedList, PostedRecv, TagMatcher};
 use rdm_num::{Life, NoMemory, RecvNo};
@@ -249,5 +249,6 @@ pub fn calls_law()
     ensures go_on { RunsGoOn }
     ensures cancels { CancelsTakeOut }
     ensures forgets { ForgetsLeave }
+    ensures taken { TakenWhereAny }
     ensures free { NumbersStayFree }
 {}

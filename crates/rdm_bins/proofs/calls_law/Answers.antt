@@ -1,4 +1,4 @@
-use Rattle.rdm_bins.proofs.Calls.{events_tell, runs_tell, runs_go_on, cancels_take_out, forgets_leave}
+use Rattle.rdm_bins.proofs.Calls.{events_tell, runs_tell, runs_go_on, cancels_take_out, forgets_leave, taken_where_any}
 use Rattle.rdm_bins.proofs.Free.{numbers_stay_free}
 use Rattle.rdm_bins.proofs.calls_law.Goals as goal
 
@@ -8,5 +8,6 @@ returns c = record {
   go_on = runs_go_on;
   cancels = cancels_take_out;
   forgets = forgets_leave;
+  taken = taken_where_any;
   free = numbers_stay_free;
 }
