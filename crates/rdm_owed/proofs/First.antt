@@ -1,6 +1,5 @@
 -- The first answer of a queue.
-use Rattle.std.proofs.Common.{◌≡◌, ◌+◌, List, [], ◌∷◌, length, drop, refl, arith, ap, ◌∙◌}
-use Rattle.rdm_num.specs.declared.numbers.Life.{Life}
+use Rattle.std.proofs.Common.{◌≡◌, List, [], ◌∷◌, length, drop, refl, arith, ap, ◌∙◌}
 use Rattle.rdm_owed.specs.declared.Owed.{Owed}
 use Rattle.rdm_owed.specs.Owing.{first_left}
 

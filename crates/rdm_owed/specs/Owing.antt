@@ -18,9 +18,17 @@ module _ {T : Type 0} where
   abbrev pub with_room : Owing T → Owing T
   with_room o = record o { room = o.room + 1 }
 
+  -- with room for so many answers more
+  abbrev pub with_rooms : Owing T → (more : ℕ) → Owing T
+  with_rooms o more = record o { room = o.room + more }
+
   -- with room for one answer less
   abbrev pub without_room : Owing T → Owing T
   without_room o = record o { room = o.room - 1 }
+
+  -- with room for so many answers less
+  abbrev pub without_rooms : Owing T → (count : ℕ) → Owing T
+  without_rooms o count = record o { room = o.room - count }
 
   -- one answer more is owed, after the others, in room that there was
   abbrev pub with_answer : Owing T → Life → T → Owing T

@@ -5,7 +5,7 @@ ghost use Rattle.std.specs.Prelude.{◌≡◌, ◌<◌, ◌≤◌, not, filter, 
 ghost use Rattle.std.specs.Option.{option_copied};
 ghost use Rattle.std.specs.VecDeque.{deque_len, deque_capacity};
 ghost use Rattle.rdm_num.specs.Lives.{same_life};
-ghost use Rattle.rdm_owed.specs.Owing.{nothing_owed, with_room, without_room, with_answer, first_left, with_first, without_first, without_life};
+ghost use Rattle.rdm_owed.specs.Owing.{nothing_owed, with_room, with_rooms, without_room, without_rooms, with_answer, first_left, with_first, without_first, without_life};
 
 use rdm_num::{Life, NoMemory, is_same_life};
 use std::alloc::{AllocError, Global};
@@ -57,7 +57,15 @@ impl<T: Copy> Answers<T> {
         ensures ok { OnOk result (self.new ≡ with_room self.old) }
         ensures err { OnErr result (self.new ≡ self.old) }
     {
-        let room = self.room.checked_add(1).ok_or(AllocError)?;
+        self.reserve_many(1)
+    }
+
+    /// Makes room for so many answers more, or for none.
+    pub fn reserve_many(&mut self, more: usize) -> Result<(), NoMemory>
+        ensures ok { OnOk result (self.new ≡ with_rooms self.old more) }
+        ensures err { OnErr result (self.new ≡ self.old) }
+    {
+        let room = self.room.checked_add(more).ok_or(AllocError)?;
         self.queue.reserve(room)?;
         self.room = room;
         Ok(())
@@ -69,6 +77,14 @@ impl<T: Copy> Answers<T> {
         ensures { self.new ≡ without_room self.old }
     {
         self.room -= 1;
+    }
+
+    /// Gives the room for so many answers back.
+    pub fn give_back_many(&mut self, count: usize)
+        requires { count ≤ self.old.room }
+        ensures { self.new ≡ without_rooms self.old count }
+    {
+        self.room -= count;
     }
 
     /// Owes an answer, after the others, in room that was made.

@@ -58,7 +58,9 @@ fn calls(rt: &impl Abort, answers: &mut Answers<u32>, call: Call) -> Result<(), 
         Call::Forget(port) => answers.forget(life(port)),
         Call::GiveBack => {
             answers.reserve()?;
+            answers.reserve_many(3)?;
             answers.give_back();
+            answers.give_back_many(3);
         }
     }
     Ok(())

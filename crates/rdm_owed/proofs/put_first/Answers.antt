@@ -1,4 +1,4 @@
-use Rattle.std.proofs.Common.{rules, ◌∙◌, ◌++◌, ap}
+use Rattle.std.proofs.Common.{◌∙◌, ◌++◌, ap}
 use Rattle.std.specs.Option.{option_to_list}
 use Rattle.rdm_owed.proofs.First.{left_first, none_left}
 use Rattle.rdm_owed.proofs.put_first.Goals as goal
