@@ -1,0 +1,5 @@
+pub mod Firsts
+pub mod Given
+pub mod Queues
+pub mod Received
+pub mod Singles

@@ -1,0 +1,10 @@
+//! What an endpoint owes to other lives, in order. It all goes out ahead of the sends.
+#![tactic(auto)]
+
+mod answer;
+mod laws;
+mod replies;
+
+pub use answer::{Answer, First, Outgoing};
+pub use laws::answers_law;
+pub use replies::Replies;
