@@ -1,5 +1,5 @@
 -- What a receive makes owed, and what else the record of an endpoint owes.
-use Rattle.std.proofs.Common.{◌≡◌, ℕ, Bool, true, false, List, [], ◌∷◌, ◌++◌, map, Option, Some, None, option_map, slice_get, refl, ap, ap₂, sym, ◌∙◌, cond, IfNone, IfSome, nat_lt}
+use Rattle.std.proofs.Common.{◌≡◌, ℕ, Bool, true, false, List, [], ◌∷◌, ◌++◌, map, Option, Some, None, option_map, slice_get, refl, ap, ap₂, sym, ◌∙◌, cond, IfNone, IfSome, nat_lt, append_assoc}
 use Rattle.std.proofs.lemmas.List.{map-append}
 use Rattle.rdm_num.specs.declared.numbers.Life.{Life}
 use Rattle.rdm_num.specs.declared.numbers.OpId.{OpId}
@@ -11,14 +11,16 @@ use Rattle.rdm_pkt.specs.declared.Packet.TheVariants.{Cts, Eor, Receipt}
 use Rattle.rdm_wire.specs.declared.ReadAsk.{ReadAsk}
 use Rattle.rdm_model.specs.Beginnings.{Own}
 use Rattle.rdm_model.specs.Deeds.{Item, Spelled, Asks}
-use Rattle.rdm_model.specs.Replies.{reply, asks_for, grant_for, end_for, receipt_for, given_of}
+use Rattle.rdm_model.specs.Replies.{Reply, reply, asks_for, grant_for, end_for, receipt_for, given_of}
 use Rattle.rdm_rx.specs.declared.asks.Asks.{Asks as Left}
 use Rattle.rdm_rx.specs.Left.{left}
 use Rattle.rdm_rx.specs.Receiving.{window_if}
 use Rattle.rdm_life.specs.Landing.{has_all, next_window, items_of, replies_of}
+use Rattle.rdm_answers.specs.declared.answer.Answer.{Answer}
 use Rattle.rdm_answers.specs.declared.answer.Answer.TheVariants as A
-use Rattle.rdm_answers.specs.Answers.{BytesOf, replies_for, replies_by, answer_of}
-use Rattle.rdm_answers.specs.Laws.{ReceivesOwe, WindowsAgree, GreetingsGreet, GivensGive}
+use Rattle.rdm_answers.specs.declared.answer.Dues.{Dues}
+use Rattle.rdm_answers.specs.Answers.{BytesOf, replies_for, replies_by, replies_of_dues, answer_of}
+use Rattle.rdm_answers.specs.Laws.{DuesAreOwed, WindowsAgree, GreetingsGreet, GivensGive}
 
 -- ---- packets
 
@@ -117,17 +119,32 @@ three : (to : Life) (a b c : List Item) → (map (reply to) a ++ map (reply to) 
 three to a b c = sym (map-append (reply to) (a ++ b) c ∙ ap (λ xs. xs ++ map (reply to) c) (map-append (reply to) a b))
 
 -- what a receive asks for, grants and ends with goes out as what its message makes owed
-pub receives_owe : ReceivesOwe
-unfolding replies_of items_of
-receives_owe own bytes_of is_new recv m asks grant end' a g e =
+pub dues_are_owed : DuesAreOwed
+unfolding replies_of_dues replies_of items_of
+dues_are_owed own bytes_of is_new recv m dues d =
     let to : Life = m.source in
     let a_items : List Item = cond is_new (map Asks (asks_for m.head.shape recv)) [] in
     let g_items : List Item = grant_for own m.head.shape recv (next_window own m) in
     let e_items : List Item = cond (has_all m) (end_for own m.head.shape m.head.confirm (record { 0 = m.number }) recv) [] in
-    let x = asks_go own bytes_of to asks _ a.0 a.1 ∙ ap (map (reply to)) (asks_if is_new (asks_for m.head.shape recv)) in
-    let y = grant_goes own bytes_of to grant m.head.shape recv (next_window own m) (g own refl).0 in
-    let z = end_if_goes own bytes_of to end' (has_all m) m.head.shape m.head.confirm (record { 0 = m.number }) recv (e own refl).0 in
+    let x = asks_go own bytes_of to dues.asks _ d.no_asks d.asks ∙ ap (map (reply to)) (asks_if is_new (asks_for m.head.shape recv)) in
+    let y = grant_goes own bytes_of to dues.grant m.head.shape recv (next_window own m) (d.grant own refl).0 in
+    let z = end_if_goes own bytes_of to dues.end (has_all m) m.head.shape m.head.confirm (record { 0 = m.number }) recv (d.end own refl).0 in
     ap₂ (λ xs ys. xs ++ ys) (ap₂ (λ xs ys. xs ++ ys) x y) z ∙ three to a_items g_items e_items
+
+-- three answers after others are what a receive makes owed after them
+pub three_more : (own : Own) (bytes_of : BytesOf) (to : Life) (dues : Dues) (before one two all : List Reply) (asks grant end' : Option Answer)
+    → one ≡ before ++ replies_by own bytes_of to asks
+    → two ≡ one ++ replies_by own bytes_of to grant
+    → all ≡ two ++ replies_by own bytes_of to end'
+    → asks ≡ option_map A.Asks dues.asks
+    → grant ≡ answer_of dues.grant
+    → end' ≡ answer_of dues.end
+    → all ≡ before ++ replies_of_dues own bytes_of to dues
+unfolding replies_of_dues
+three_more own bytes_of to dues before one two all asks grant end' x y z a g e =
+    let by : Option Answer → List Reply = replies_by own bytes_of to in
+    let b = z ∙ ap (λ rs. rs ++ by end') (y ∙ ap (λ rs. rs ++ by grant) x) in
+    b ∙ simp append_assoc (rw (a, g, e) refl)
 
 -- ---- the others
 

@@ -58,6 +58,10 @@ answer_goes own bytes_of to life answer h =
 more_than_0 : (n : ℕ) → (n == 0) ≡ false → nat_lt 0 n ≡ true
 more_than_0 n h = grind arith
 
+-- so is one that is more
+more_from : (n : ℕ) → 0 < n → nat_lt 0 n ≡ true
+more_from n h = grind arith
+
 -- more than 0
 pub less_from : (n : ℕ) → nat_lt 0 n ≡ true → 0 < n
 less_from n h = grind arith
@@ -99,3 +103,8 @@ all_at_once (A.Grant send recv size) h own bytes_of to = refl
 all_at_once (A.End send recv) h own bytes_of to = refl
 all_at_once (A.Receipt no') h own bytes_of to = refl
 all_at_once (A.Given ask) h own bytes_of to = refl
+
+-- asks have an item where one is left
+pub some_left : (asks : Left) → 0 < length (left asks) → IsTrue (has_item (A.Asks asks))
+unfolding has_item
+some_left asks h = more_from _ h

@@ -1,5 +1,5 @@
 -- What one answer goes out as.
-use Rattle.std.specs.Prelude.{◌≡◌, ℕ, Bool, true, nat_lt, List, [], ◌∷◌, length, map, take, drop, Option, Some, None, option_map, slice_get}
+use Rattle.std.specs.Prelude.{◌≡◌, ℕ, Bool, true, nat_lt, List, [], ◌∷◌, ◌++◌, length, map, take, drop, Option, Some, None, option_map, slice_get}
 use Rattle.rdm_num.specs.declared.numbers.Connid.{Connid}
 use Rattle.rdm_num.specs.declared.numbers.Life.{Life}
 use Rattle.rdm_pkt.specs.declared.Packet.{Packet}
@@ -12,6 +12,7 @@ use Rattle.rdm_owed.specs.declared.Owed.{Owed}
 use Rattle.rdm_rx.specs.Left.{left}
 use Rattle.rdm_answers.specs.declared.answer.Answer.{Answer}
 use Rattle.rdm_answers.specs.declared.answer.Answer.TheVariants as A
+use Rattle.rdm_answers.specs.declared.answer.Dues.{Dues}
 use Rattle.rdm_answers.specs.declared.answer.First.{First}
 use Rattle.rdm_answers.specs.declared.answer.Outgoing.{Outgoing}
 use Rattle.rdm_answers.specs.declared.answer.Outgoing.TheVariants as Goes
@@ -54,6 +55,11 @@ answer_of (Some (Cts send recv size connid)) = Some (A.Grant send recv size)
 answer_of (Some (Eor send recv connid)) = Some (A.End send recv)
 answer_of (Some (Receipt number connid)) = Some (A.Receipt number)
 answer_of _ = None
+
+-- what a receive makes owed: asks, then a grant, then an end
+unfoldable pub replies_of_dues : Own → BytesOf → Life → Dues → List Reply
+replies_of_dues own bytes_of to dues =
+    replies_by own bytes_of to (option_map A.Asks dues.asks) ++ replies_by own bytes_of to (answer_of dues.grant) ++ replies_by own bytes_of to (answer_of dues.end)
 
 -- what goes out to a life
 unfoldable pub goes_as : BytesOf → Life → Outgoing → Reply

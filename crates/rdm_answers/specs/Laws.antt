@@ -19,23 +19,24 @@ use Rattle.rdm_life.specs.Kept.{Matched}
 use Rattle.rdm_life.specs.Landing.{has_all, next_window, replies_of}
 use Rattle.rdm_answers.specs.declared.answer.Answer.{Answer}
 use Rattle.rdm_answers.specs.declared.answer.Answer.TheVariants as A
-use Rattle.rdm_answers.specs.Answers.{BytesOf, replies_for, replies_by, answer_of}
+use Rattle.rdm_answers.specs.declared.answer.Dues.{Dues}
+use Rattle.rdm_answers.specs.Answers.{BytesOf, replies_for, replies_of_dues}
 use Rattle.rdm_answers.specs.Owing.{owed_in}
 
--- the asks of a message, where its receive was just matched and has any
-abbrev pub AreAsks : (is_new : Bool) → Shape → OpId → Option Asks → Type 0
-AreAsks is_new shape recv asks =
-    IfNone asks ((if is_new then asks_for shape recv else []) ≡ []) × IfSome asks (λ a. left a ≡ (if is_new then asks_for shape recv else []))
+-- what `rdm_rx::Receiving` gives of a receive of a message: its asks, where it was just matched and has any; the packet of its
+-- next grant; and the packet that ends the message, where all of it came
+pub record AreDues (own : Own) (is_new : Bool) (recv : OpId) (m : Matched) (dues : Dues) : Type 0 where
+  pub no_asks : IfNone dues.asks ((if is_new then asks_for m.head.shape recv else []) ≡ [])
+  pub asks : IfSome dues.asks (λ a. left a ≡ (if is_new then asks_for m.head.shape recv else []))
+  pub grant : IsOnlyPacket own.life.connid dues.grant (λ life. grant_for life m.head.shape recv (next_window own m))
+  pub end : IsOnlyPacket own.life.connid dues.end (λ life. if has_all m then end_for life m.head.shape m.head.confirm (record { 0 = m.number }) recv else [])
 
--- what a receive makes owed of its message: its asks, its grant and its end, in this order
-abbrev pub ReceivesOwe : Type 0
-ReceivesOwe =
-    (own : Own) (bytes_of : BytesOf) (is_new : Bool) (recv : OpId) (m : Matched) (asks : Option Asks) (grant end' : Option Packet)
-    → AreAsks is_new m.head.shape recv asks
-    → IsOnlyPacket own.life.connid grant (λ life. grant_for life m.head.shape recv (next_window own m))
-    → IsOnlyPacket own.life.connid end' (λ life. if has_all m then end_for life m.head.shape m.head.confirm (record { 0 = m.number }) recv else [])
-    → replies_by own bytes_of m.source (option_map A.Asks asks) ++ replies_by own bytes_of m.source (answer_of grant) ++ replies_by own bytes_of m.source (answer_of end')
-    ≡ replies_of own is_new recv (Some m)
+-- they go out as what the message makes owed
+abbrev pub DuesAreOwed : Type 0
+DuesAreOwed =
+    (own : Own) (bytes_of : BytesOf) (is_new : Bool) (recv : OpId) (m : Matched) (dues : Dues)
+    → AreDues own is_new recv m dues
+    → replies_of_dues own bytes_of m.source dues ≡ replies_of own is_new recv (Some m)
 
 -- the window that a receive grants is the one that the record grants
 abbrev pub WindowsAgree : Type 0
@@ -45,7 +46,7 @@ WindowsAgree =
     → r.granted ≡ m.granted
     → window_if (each_below m.came m.granted) own.limits r ≡ next_window own m
 
--- a greeting is one, and the answer to an ask gives the bytes of its send
+-- a greeting is that of the record
 abbrev pub GreetingsGreet : Type 0
 GreetingsGreet = (own : Own) (bytes_of : BytesOf) (to : Life) (raw : Option PortNo) → replies_for own bytes_of to (A.Greeting raw) ≡ reply to (greeting own raw) ∷ []
 

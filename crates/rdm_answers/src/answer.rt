@@ -1,5 +1,6 @@
 //! What is owed to one life.
-ghost use Rattle.std.specs.Prelude.{◌≡◌, IfSome, IsTrue, IfOk};
+ghost use Rattle.std.specs.Prelude.{◌≡◌, ◌<◌, IfSome, IsTrue, IfOk, length, option_map};
+ghost use Rattle.rdm_rx.specs.Left.{left};
 ghost use Rattle.rdm_answers.specs.Answers.{IsFirstOf, IsLeftOf, answer_of, has_item};
 ghost use Rattle.rdm_answers.specs.declared.answer.Answer.TheVariants as A;
 
@@ -55,11 +56,33 @@ pub struct First {
     pub item: Outgoing,
 }
 
+/// What a matched receive makes owed to the sender of its message, as `rdm_rx::Receiving` gives it:
+/// at the match its asks, then the next grant, and an end once all bytes landed.
+#[derive(Debug, Drop)]
+pub struct Dues {
+    pub asks: Option<Asks>,
+    pub grant: Option<Packet>,
+    pub end: Option<Packet>,
+}
+
 impl Answer {
+    /// The asks of a read, if there are any.
+    pub fn of_asks(asks: Option<Asks>) -> Option<Answer>
+        requires { IfSome asks (λ a. 0 < length (left a)) }
+        ensures answer { result ≡ option_map A.Asks asks }
+        ensures item { IfSome result (λ a. IsTrue (has_item a)) }
+    {
+        match asks {
+            Some(asks) => Some(Answer::Asks(asks)),
+            None => None,
+        }
+    }
+
     /// The answer that goes out as a packet that a receive makes owed.
-    #[tactic(auto, unfolding(crate::specs::Answers::answer_of))]
+    #[tactic(auto, unfolding(crate::specs::Answers::answer_of, crate::specs::Answers::has_item))]
     pub fn of_packet(packet: Option<Packet>) -> Option<Answer>
-        ensures { result ≡ answer_of packet }
+        ensures answer { result ≡ answer_of packet }
+        ensures item { IfSome result (λ a. IsTrue (has_item a)) }
     {
         match packet {
             Some(

@@ -5,6 +5,6 @@ mod answer;
 mod laws;
 mod replies;
 
-pub use answer::{Answer, First, Outgoing};
+pub use answer::{Answer, Dues, First, Outgoing};
 pub use laws::answers_law;
 pub use replies::Replies;

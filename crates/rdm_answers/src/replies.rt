@@ -1,11 +1,12 @@
 //! The answers that an endpoint owes.
-ghost use Rattle.std.specs.Prelude.{◌≡◌, ◌<◌, ◌≤◌, ◌-◌, ◌++◌, ◌∷◌, [], IfSome, IsTrue, IfOk, OnOk, OnErr, drop};
+ghost use Rattle.std.specs.Prelude.{◌≡◌, ◌<◌, ◌≤◌, ◌-◌, ◌++◌, ◌∷◌, [], IfSome, IsTrue, IfOk, OnOk, OnErr, drop, length};
 ghost use Rattle.rdm_model.specs.Replies.{without_lives};
+ghost use Rattle.rdm_rx.specs.Left.{left};
 ghost use Rattle.rdm_owed.specs.Owing.{nothing_owed, with_rooms, without_rooms, with_answer};
-ghost use Rattle.rdm_answers.specs.Answers.{IsFirst, has_item, replies_by, replies_for};
+ghost use Rattle.rdm_answers.specs.Answers.{IsFirst, has_item, replies_by, replies_for, replies_of_dues};
 ghost use Rattle.rdm_answers.specs.Owing.{Becomes, have_items, owed_in};
 
-use crate::answer::{Answer, First, first_of};
+use crate::answer::{Answer, Dues, First, first_of};
 use rdm_num::{Connid, Life, NoMemory};
 use rdm_owed::Answers;
 use std::alloc::Global;
@@ -76,6 +77,19 @@ impl Replies {
             Some(answer) => self.push(to, answer),
             None => self.give_back(1),
         }
+    }
+
+    /// Owes what a receive makes owed, and gives the room back that it doesn't want.
+    pub fn push_dues(&mut self, to: Life, dues: Dues)
+        requires room { 3 ≤ self.old.room }
+        requires asks { IfSome dues.asks (λ asks. 0 < length (left asks)) }
+        ensures room { self.new.room ≡ self.old.room - 3 }
+        ensures owed { Becomes self.old.owed self.new.owed (λ own bytes_of before. before ++ replies_of_dues own bytes_of to dues) }
+    {
+        let Dues { asks, grant, end } = dues;
+        self.push_or_give_back(to, Answer::of_asks(asks));
+        self.push_or_give_back(to, Answer::of_packet(grant));
+        self.push_or_give_back(to, Answer::of_packet(end));
     }
 
     /// What goes out first, if something is owed, from the life with that identifier and those

@@ -1,9 +1,9 @@
-use Rattle.rdm_answers.proofs.Received.{receives_owe, windows_agree, greetings_greet, givens_give}
+use Rattle.rdm_answers.proofs.Received.{dues_are_owed, windows_agree, greetings_greet, givens_give}
 use Rattle.rdm_answers.proofs.Given.{only_given_bytes_count}
 use Rattle.rdm_answers.proofs.laws.answers_law.Goals as goal
 
-pub returns-clause-receives : goal.returns-clause-receives
-returns-clause-receives c = receives_owe
+pub returns-clause-dues : goal.returns-clause-dues
+returns-clause-dues c = dues_are_owed
 
 pub returns-clause-windows : goal.returns-clause-windows
 returns-clause-windows c = windows_agree
