@@ -4,6 +4,8 @@
 mod answer;
 mod laws;
 mod replies;
+#[cfg(test)]
+mod tests;
 
 pub use answer::{Answer, Dues, First, Outgoing};
 pub use laws::answers_law;
