@@ -1,10 +1,22 @@
 -- Whether a message awaits a range, by how many places are missing from its first one on.
-use Rattle.std.proofs.Common.{◌≡◌, sym, ap, ℕ, ◌+◌, ◌≤◌, Bool, false, true≢false, List, Option, Some, None, length, drop}
+use Rattle.std.proofs.Common.{◌≡◌, sym, ap, ◌∙◌, ℕ, ◌+◌, ◌-◌, ◌≤◌, arith, Bool, true, false, true≢false, List, Option, Some, None, length, drop, take, replicate}
 use Rattle.std.specs.Prelude.{nat_le, is_some, IsTrue, ◌↔◌}
 use Rattle.std.specs.Option.{IsSomeAnd}
 use Rattle.std.proofs.lemmas.Bool.{leb-true, le-leb}
 use Rattle.rdm_gaps.specs.Places.{AreMissing, run}
+use Rattle.std.proofs.lemmas.List.{length-replicate, take-replicate, drop-replicate}
 use Rattle.rdm_gaps.proofs.Runs.{missing_by_run, run_by_missing}
+use Rattle.rdm_window.specs.Message.{Awaits, opened}
+use Rattle.rdm_window.specs.declared.message.Opening.{Opening}
+
+-- each range inside is missing where all is
+inside_missing : (at len n : ℕ) → at + len ≤ n → AreMissing at len (replicate n true)
+inside_missing at len n inside =
+    (rw (length-replicate n true) inside, ap (take len) (drop-replicate at n true) ∙ take-replicate len (n - at) true (omega arith))
+
+-- a message of which no byte came awaits each range inside
+pub opened_awaits : (at len : ℕ) (o : Opening) → at + len ≤ o.len → Awaits at len (opened o)
+opened_awaits at len o inside = inside_missing at len o.len inside
 
 -- the range lies in the message, and so many places are missing
 pub awaits_by_run : (at len count : ℕ) (places : List Bool) → at + len ≤ length places → count ≡ run (drop at places) → IsTrue (nat_le len count) ↔ AreMissing at len places

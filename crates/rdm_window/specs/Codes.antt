@@ -75,14 +75,14 @@ head_code =
     (λ p. record { tag = p.0; confirm = p.1.0; cq_data = p.1.1.0; length = p.1.1.1.0; shape = p.1.1.1.1 })
     (λ _. refl)
 
--- a message as its head, its bytes and its gaps
+-- a message as the tuple of its fields
 abbrev pub message_code : Coded Message
 message_code =
     code_by
-    (Head × (List ℕ × Missing))
-    (coded× head_code (coded× (coded_list coded_ℕ) missing_code))
-    (λ m. (m.head, (m.bytes, m.gaps)))
-    (λ p. record { head = p.0; bytes = p.1.0; gaps = p.1.1 })
+    (Head × (ℕ × (List ℕ × Missing)))
+    (coded× head_code (coded× coded_ℕ (coded× (coded_list coded_ℕ) missing_code)))
+    (λ m. (m.head, (m.first_part, (m.bytes, m.gaps))))
+    (λ p. record { head = p.0; first_part = p.1.0; bytes = p.1.1.0; gaps = p.1.1.1 })
     (λ _. refl)
 
 -- what is held as the pair of its fields

@@ -3,12 +3,10 @@ use Rattle.std.specs.Prelude.{◌≡◌, ℕ, Bool, not, ◌&&◌, ◌==◌, if�
 use Rattle.std.specs.Ordering.{nat_cmp, ordering_then}
 use Rattle.std.specs.declared.cmp.Ordering.{Ordering}
 use Rattle.std.specs.FinMap as map
-use Rattle.rdm_num.specs.declared.head.Head.{Head}
 use Rattle.rdm_num.specs.declared.numbers.Life.{Life}
 use Rattle.rdm_num.specs.declared.numbers.MsgNo.{MsgNo}
-use Rattle.rdm_window.specs.Message.{Message, opened}
+use Rattle.rdm_window.specs.Message.{Message}
 use Rattle.rdm_window.specs.declared.early.EarlyRefused.{EarlyRefused}
-use Rattle.rdm_window.specs.declared.early.EarlyRefused.TheVariants.{Full}
 
 -- a life's port and identifier, and a message number
 abbrev pub Key : Type 0
@@ -43,14 +41,10 @@ is_full held = map.len held.messages == held.size
 abbrev pub with_message : Held → Life → MsgNo → Message → Held
 with_message held life number message = record held { messages = map.insert held.messages (key_of life number) message }
 
--- a message is refused exactly where all places are taken
-abbrev pub hold_answer : Held → Result (Unit {0}) EarlyRefused
-hold_answer held = if is_full held then Err Full else Ok tt
-
 -- the message is held where it was not refused
-abbrev pub after_hold : Held → Life → MsgNo → Head → ℕ → Result (Unit {0}) EarlyRefused → Held
-after_hold held life number head len (Ok done) = with_message held life number (opened head len)
-after_hold held life number head len (Err why) = held
+abbrev pub after_hold : Held → Life → MsgNo → Message → Result (Unit {0}) EarlyRefused → Held
+after_hold held life number message (Ok done) = with_message held life number message
+after_hold held life number message (Err why) = held
 
 -- the message is held in the place of the one that was held, where there was one
 unfoldable pub put_back : Held → Life → MsgNo → Option Message → Held

@@ -1,17 +1,20 @@
 -- A message that was heard and is not matched yet, as its bytes come.
 use Rattle.std.specs.Prelude.{ℕ, ◌+◌, ◌-◌, ◌++◌, List, length, take, drop, replicate}
 use Rattle.rdm_num.specs.declared.head.Head.{Head}
+use Rattle.rdm_window.specs.declared.message.Opening.{Opening}
 use Rattle.rdm_gaps.specs.Places.{Missing, all_missing, with_taken, AreMissing}
 
--- what the packets say of a message, its bytes with 0 for each that did not come, and which of them did not come
+-- what the packets say of a message, how many bytes the packet brought that opened a message to be granted, its bytes with 0
+-- for each that did not come, and which of them did not come
 pub record Message : Type 0 where
   pub head : Head
+  pub first_part : ℕ
   pub bytes : List ℕ
   pub gaps : Missing
 
--- a message of so many bytes, of which none came
-abbrev pub opened : Head → ℕ → Message
-opened head len = record { head = head; bytes = replicate len 0; gaps = all_missing len }
+-- a message of which no byte came
+abbrev pub opened : Opening → Message
+opened o = record { head = o.head; first_part = o.first_part; bytes = replicate o.len 0; gaps = all_missing o.len }
 
 -- the range lies in the message, and no byte of it came
 abbrev pub Awaits : ℕ → ℕ → Message → Type 0

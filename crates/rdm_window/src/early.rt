@@ -1,16 +1,16 @@
 //! Messages that were heard and are not matched yet.
-ghost use Rattle.std.specs.Prelude.{◌≡◌, ◌⊎◌, ◌↔◌, ◌<◌, ◌≤◌, length, Ok, Err, None, Some, IfOk, IsTrue, OnOk, OnErr, IsSome};
+ghost use Rattle.std.specs.Prelude.{◌≡◌, ◌↔◌, ◌+◌, ◌<◌, ◌≤◌, length, Err, None, Some, IfOk, IsTrue, OnOk, OnErr, IsSome};
 ghost use Rattle.std.specs.Option.{option_copied, IsSomeAnd};
 ghost use Rattle.std.specs.Borrow.{sem, Lends};
 ghost use Rattle.std.specs.FinMap as map;
 ghost use Rattle.rdm_window.specs.Message.{opened, Awaits, filled, room, with_room, with_spent};
-ghost use Rattle.rdm_window.specs.Early.{none_held, message_at, with_message, hold_answer, after_hold, changed, without_message, without_life, IsHeldOf};
+ghost use Rattle.rdm_window.specs.Early.{none_held, message_at, with_message, after_hold, changed, without_message, without_life, IsHeldOf};
 ghost use Rattle.rdm_window.specs.Early as held;
 ghost use Rattle.rdm_window.specs.contracts.early.Early.{the_row};
 ghost use Rattle.rdm_window.specs.contracts.message.EarlyMessage.{the_row as message_row};
 
-use crate::message::EarlyMessage;
-use rdm_num::{Head, Life, MsgNo, NoMemory};
+use crate::message::{EarlyMessage, Opening};
+use rdm_num::{Life, MsgNo, NoMemory};
 use std::alloc::Global;
 use std::collections::BTreeMap;
 use std::marker::Model;
@@ -67,16 +67,44 @@ impl Early {
         self.messages.len() == self.size
     }
 
-    /// Holds a message of `len` bytes, of which none came yet.
-    pub fn hold(&mut self, life: Life, no: MsgNo, head: Head, len: u64) -> Result<(), EarlyRefused>
+    /// How many messages are held.
+    pub fn len(&self) -> usize
+        ensures { result ≡ map.len self.now.messages }
+    {
+        self.messages.len()
+    }
+
+    /// Holds a message of which no byte came yet.
+    pub fn hold(&mut self, life: Life, no: MsgNo, opening: Opening) -> Result<(), EarlyRefused>
         requires { message_at self.old life no ≡ None }
-        ensures answer { (result ≡ Err EarlyRefused.Memory) ⊎ (result ≡ hold_answer self.old) }
-        ensures after { self.new ≡ after_hold self.old life no head len result }
+        ensures full { (result ≡ Err EarlyRefused.Full) ↔ IsTrue (held.is_full self.old) }
+        ensures after { self.new ≡ after_hold self.old life no (opened opening) result }
     {
         if self.is_full() {
             return Err(EarlyRefused::Full);
         }
-        self.open(life, no, head, len)
+        self.open(life, no, opening)
+            .map_err(|_error| EarlyRefused::Memory)
+    }
+
+    /// Holds a message of which a piece came.
+    pub fn hold_with(
+        &mut self,
+        life: Life,
+        no: MsgNo,
+        opening: Opening,
+        at: u64,
+        bytes: &[u8],
+    ) -> Result<(), EarlyRefused>
+        requires new { message_at self.old life no ≡ None }
+        requires fits { at + length bytes.now ≤ opening.len }
+        ensures full { (result ≡ Err EarlyRefused.Full) ↔ IsTrue (held.is_full self.old) }
+        ensures after { self.new ≡ after_hold self.old life no (filled (opened opening) at bytes.now) result }
+    {
+        if self.is_full() {
+            return Err(EarlyRefused::Full);
+        }
+        self.open_with(life, no, opening, at, bytes)
             .map_err(|_error| EarlyRefused::Memory)
     }
 
@@ -169,13 +197,40 @@ impl Early {
         }
     }
 
-    /// Gives a message of `len` bytes a place.
-    fn open(&mut self, life: Life, no: MsgNo, head: Head, len: u64) -> Result<(), NoMemory>
+    /// Gives a message of which no byte came a place.
+    fn open(&mut self, life: Life, no: MsgNo, opening: Opening) -> Result<(), NoMemory>
         requires { map.len self.old.messages < self.old.size }
-        ensures ok { OnOk result (self.new ≡ with_message self.old life no (opened head len)) }
+        ensures ok { OnOk result (self.new ≡ with_message self.old life no (opened opening)) }
         ensures err { OnErr result (self.new ≡ self.old) }
     {
-        let message = EarlyMessage::open(self.alloc, head, len)?;
+        let message = EarlyMessage::open(self.alloc, opening)?;
+        self.place(life, no, message)
+    }
+
+    /// Gives a message of which a piece came a place.
+    fn open_with(
+        &mut self,
+        life: Life,
+        no: MsgNo,
+        opening: Opening,
+        at: u64,
+        bytes: &[u8],
+    ) -> Result<(), NoMemory>
+        requires place { map.len self.old.messages < self.old.size }
+        requires fits { at + length bytes.now ≤ opening.len }
+        ensures ok { OnOk result (self.new ≡ with_message self.old life no (filled (opened opening) at bytes.now)) }
+        ensures err { OnErr result (self.new ≡ self.old) }
+    {
+        let message = EarlyMessage::open_with(self.alloc, opening, at, bytes)?;
+        self.place(life, no, message)
+    }
+
+    /// Gives a message a place.
+    fn place(&mut self, life: Life, no: MsgNo, message: EarlyMessage) -> Result<(), NoMemory>
+        requires { map.len self.old.messages < self.old.size }
+        ensures ok { OnOk result (self.new ≡ with_message self.old life no message) }
+        ensures err { OnErr result (self.new ≡ self.old) }
+    {
         self.messages.insert(key(life, no), message)?;
         Ok(())
     }

@@ -9,5 +9,5 @@ mod tests;
 mod window;
 
 pub use early::{Early, EarlyRefused};
-pub use message::EarlyMessage;
+pub use message::{EarlyMessage, Opening};
 pub use window::{Heard, Window, next_is_told};

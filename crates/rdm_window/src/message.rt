@@ -7,12 +7,25 @@ use rdm_num::{Bytes, Head, NoMemory};
 use std::alloc::{AllocError, Global};
 use std::marker::Model;
 
+/// What is known of a message when it is held.
+#[derive(Debug, Drop)]
+pub struct Opening {
+    pub head: Head,
+    /// How many bytes the message's own packets bring.
+    pub len: u64,
+    /// How many bytes the packet brought that opened a message to be granted.
+    pub first_part: u64,
+}
+
 /// A message that is held: what its packets say of it, its bytes with 0 for each that did not come,
-/// and which of them did not come.
+/// and which of them did not come. The memory of a copy of its bytes is taken with it, so that who
+/// takes a message that came whole can keep its bytes twice without memory.
 #[derive(Debug, Drop)]
 pub struct EarlyMessage {
     head: Head,
+    first_part: u64,
     buffer: Vec<u8>,
+    copy: Vec<u8>,
     gaps: Gaps,
 }
 
@@ -25,19 +38,46 @@ impl Model for EarlyMessage {
 
     ghost coded = { message_code };
 
-    ghost view = { λ m. record { head = m.head; bytes = m.buffer.items; gaps = m.gaps } };
+    ghost view = { λ m. record { head = m.head; first_part = m.first_part; bytes = m.buffer.items; gaps = m.gaps } };
 
-    ghost invariant = { λ m. length m.buffer.items ≡ length m.gaps.places };
+    ghost invariant = { λ m. (length m.buffer.items ≡ length m.gaps.places) × (length m.copy.items ≡ length m.gaps.places) };
 }
 
 impl EarlyMessage {
-    /// Of `len` bytes none came yet.
-    pub(crate) fn open(alloc: Global, head: Head, len: u64) -> Result<EarlyMessage, NoMemory>
-        ensures { IfOk result (λ m. m ≡ opened head len) }
+    /// No byte came yet.
+    pub(crate) fn open(alloc: Global, opening: Opening) -> Result<EarlyMessage, NoMemory>
+        ensures { IfOk result (λ m. m ≡ opened opening) }
     {
+        let Opening {
+            head,
+            len,
+            first_part,
+        } = opening;
         let buffer = vec![in alloc; 0; len as usize]?;
+        let copy = vec![in alloc; 0; len as usize]?;
         let gaps = Gaps::whole(alloc, len)?;
-        Ok(EarlyMessage { head, buffer, gaps })
+        Ok(EarlyMessage {
+            head,
+            first_part,
+            buffer,
+            copy,
+            gaps,
+        })
+    }
+
+    /// One piece came.
+    pub(crate) fn open_with(
+        alloc: Global,
+        opening: Opening,
+        at: u64,
+        bytes: &[u8],
+    ) -> Result<EarlyMessage, NoMemory>
+        requires { at + length bytes.now ≤ opening.len }
+        ensures { IfOk result (λ m. m ≡ filled (opened opening) at bytes.now) }
+    {
+        let mut message = EarlyMessage::open(alloc, opening)?;
+        message.add(at, bytes)?;
+        Ok(message)
     }
 
     /// What the packets say of the message.
@@ -47,6 +87,13 @@ impl EarlyMessage {
         &self.head
     }
 
+    /// How many bytes the packet brought that opened a message to be granted.
+    pub fn first_part(&self) -> u64
+        ensures { result ≡ self.now.first_part }
+    {
+        self.first_part
+    }
+
     /// The bytes of the message, with 0 for each that did not come.
     pub fn bytes(&self) -> &[u8]
         ensures { result.now ≡ self.now.bytes }
@@ -54,15 +101,23 @@ impl EarlyMessage {
         &self.buffer
     }
 
-    /// Gives what the packets say of the message, the bytes that did not come, and all bytes.
-    pub fn into_parts(self) -> (Head, Gaps, Bytes)
+    /// Gives what the packets say of the message, the bytes that did not come, all bytes, and a
+    /// buffer of as many to be overwritten by a copy of them.
+    pub fn into_parts(self) -> (Head, Gaps, Bytes, Vec<u8>)
         ensures head { result.0 ≡ self.head }
         ensures gaps { result.1 ≡ self.gaps }
         ensures bytes { result.2 ≡ self.bytes }
         ensures fits { length result.2 ≡ length result.1.places }
+        ensures room { length result.3.items ≡ length result.2 }
     {
-        let EarlyMessage { head, buffer, gaps } = self;
-        (head, gaps, Bytes::from_vec(buffer))
+        let EarlyMessage {
+            head,
+            first_part: _,
+            buffer,
+            copy,
+            gaps,
+        } = self;
+        (head, gaps, Bytes::from_vec(buffer), copy)
     }
 
     /// The range lies in the message, and no byte of it came.

@@ -1,4 +1,4 @@
-use crate::{Early, EarlyRefused, Heard, Window};
+use crate::{Early, EarlyRefused, Heard, Opening, Window};
 use rdm_num::{Connid, Head, Life, MsgNo, NoMemory, PortNo, Shape};
 use std::alloc::Global;
 use std::process::Abort;
@@ -125,6 +125,8 @@ fn falling_numbers_enter_at_once(rt: HostRuntime) -> Result<(), Fail> {
 enum EarlyCall<'a> {
     /// A message of so many bytes is held if it was not.
     Hold(Life, u32, u64, Option<Result<(), EarlyRefused>>),
+    /// The same, with bytes from a place on.
+    HoldWith(Life, u32, u64, u64, &'a [u8], Option<Result<(), EarlyRefused>>),
     /// Bytes from a place on come to a message, if it awaits them.
     Add(Life, u32, u64, &'a [u8], bool),
     /// So many bytes from a place on are missing, or not.
@@ -134,9 +136,11 @@ enum EarlyCall<'a> {
     Take(Life, u32, &'a [u8], u64),
     Forget(Life),
     IsFull(bool),
+    /// So many are held.
+    Len(usize),
 }
 
-use EarlyCall::{Add, Forget, Hold, IsFull, IsHeld, Missing, Take};
+use EarlyCall::{Add, Forget, Hold, HoldWith, IsFull, IsHeld, Len, Missing, Take};
 
 fn life(port: u32, connid: u32) -> Life {
     Life {
@@ -145,21 +149,45 @@ fn life(port: u32, connid: u32) -> Life {
     }
 }
 
-/// An eager message of six bytes.
-fn head() -> Head {
-    Head {
+/// A message of so many bytes, of which the first part was four.
+fn opening(len: u64) -> Opening {
+    let head = Head {
         tag: Some(7),
         confirm: false,
         cq_data: None,
         length: 6,
         shape: Shape::Eager,
+    };
+    Opening {
+        head,
+        len,
+        first_part: 4,
     }
 }
 
 /// Holds a message that is not held yet. None where it is.
 fn hold(early: &mut Early, life: Life, no: MsgNo, len: u64) -> Option<Result<(), EarlyRefused>> {
     match early.get(life, no) {
-        None => Some(early.hold(life, no, head(), len)),
+        None => Some(early.hold(life, no, opening(len))),
+        Some(_held) => None,
+    }
+}
+
+/// Holds a message that is not held yet, with bytes. None where it is, or where they do not fit.
+fn hold_with(
+    early: &mut Early,
+    (life, no): (Life, MsgNo),
+    len: u64,
+    at: u64,
+    bytes: &[u8],
+) -> Option<Result<(), EarlyRefused>> {
+    let opening = opening(len);
+    let end = at.checked_add(bytes.len() as u64)?;
+    if end > opening.len {
+        return None;
+    }
+    match early.get(life, no) {
+        None => Some(early.hold_with(life, no, opening, at, bytes)),
         Some(_held) => None,
     }
 }
@@ -192,8 +220,14 @@ fn add(
 fn take(early: &mut Early, life: Life, no: MsgNo, bytes: &[u8], missing: u64) -> bool {
     match early.take(life, no) {
         Some(message) => {
-            let (head, gaps, held) = message.into_parts();
-            head.tag == Some(7) && gaps.missing() == missing && held.as_slice() == bytes
+            let first_part = message.first_part();
+            let (head, gaps, held, mut copy) = message.into_parts();
+            copy.copy_from_slice(held.as_slice());
+            first_part == 4
+                && head.tag == Some(7)
+                && gaps.missing() == missing
+                && held.as_slice() == bytes
+                && copy.as_slice() == bytes
         }
         None => false,
     }
@@ -218,6 +252,14 @@ fn run_early(
                 }
                 assert!(rt; given == answer);
             }
+            HoldWith(life, no, len, at, bytes, answer) => {
+                let mut given = hold_with(&mut early, (life, MsgNo(no)), len, at, bytes);
+                if given == Some(Err(EarlyRefused::Memory)) {
+                    assert!(rt; early.get(life, MsgNo(no)).is_none());
+                    given = hold_with(&mut early, (life, MsgNo(no)), len, at, bytes);
+                }
+                assert!(rt; given == answer);
+            }
             Add(life, no, at, bytes, answer) => {
                 let mut given = add(&mut early, (life, MsgNo(no)), at, bytes, reserves);
                 if given.is_err() {
@@ -236,6 +278,7 @@ fn run_early(
             }
             Forget(life) => early.forget(life),
             IsFull(is_full) => assert!(rt; early.is_full() == is_full),
+            Len(len) => assert!(rt; early.len() == len),
         }
     }
     Ok(())
@@ -266,9 +309,22 @@ fn places_hold_messages(rt: HostRuntime) -> Result<(), Fail> {
         Add(one, 1, 0, b"abc", true),
         Take(one, 1, b"abcdef", 0),
         Hold(one, 2, 6, Some(Ok(()))),
+        Len(1),
         Forget(one),
         IsHeld(one, 2, false),
         IsFull(false),
+        Len(0),
+        HoldWith(one, 3, 1 << 62, 0, b"", Some(Err(EarlyRefused::Memory))),
+        IsHeld(one, 3, false),
+        HoldWith(one, 3, 6, 4, b"efg", None),
+        HoldWith(one, 3, 6, 4, b"ef", Some(Ok(()))),
+        HoldWith(one, 4, 6, 4, b"ef", Some(Err(EarlyRefused::Full))),
+        Missing(one, 3, 0, 4, true),
+        Missing(one, 3, 3, 2, false),
+        Add(one, 3, 0, b"abcd", true),
+        Take(one, 3, b"abcdef", 0),
+        HoldWith(one, 4, 0, 0, b"", Some(Ok(()))),
+        Take(one, 4, b"", 0),
     ];
     for reserves in [false, true] {
         run_early(&rt, rt.alloc(), 1, &one_place, reserves)?;
@@ -279,14 +335,16 @@ fn places_hold_messages(rt: HostRuntime) -> Result<(), Fail> {
         Hold(two, u32::MAX, 6, Some(Ok(()))),
         Hold(older, 9, 6, Some(Ok(()))),
         Hold(later, 0, 6, Some(Ok(()))),
-        Hold(other, 0, 6, Some(Ok(()))),
+        HoldWith(other, 0, 6, 0, b"a", Some(Ok(()))),
         IsFull(true),
+        Len(5),
         Forget(two),
         IsHeld(two, 0, false),
         IsHeld(two, u32::MAX, false),
         IsHeld(older, 9, true),
         IsHeld(later, 0, true),
         IsHeld(other, 0, true),
+        Len(3),
         IsFull(false),
         Forget(life(2, 0)),
         IsHeld(other, 0, true),
