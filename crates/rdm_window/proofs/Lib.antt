@@ -1,5 +1,5 @@
-mod Maps
-mod Messages
+pub mod Maps
+pub mod Messages
 mod Forgotten
 mod Sets
 mod Flags
