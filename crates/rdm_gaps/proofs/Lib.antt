@@ -6,6 +6,8 @@ pub mod Covered
 mod Order
 -- how many places from one on are missing
 pub mod Runs
+-- how many places from one on have come
+pub mod Lulls
 -- whether a range is missing, by the gap that has its first place
 mod Answered
 -- a range that is taken

@@ -26,7 +26,7 @@ run-front zero tests lt = absurd (omega arith)
 run-front (suc k) tests lt = refl
 
 -- some of the equal tests are dropped
-drop-equal : (b : Bool) (j k : ℕ) (tests : List Bool) → j ≤ k → drop j (replicate k b ++ tests) ≡ replicate (k - j) b ++ tests
+pub drop-equal : (b : Bool) (j k : ℕ) (tests : List Bool) → j ≤ k → drop j (replicate k b ++ tests) ≡ replicate (k - j) b ++ tests
 drop-equal b zero k tests le = let e : k ≡ k - 0 = omega arith in ap (λ m. replicate m b ++ tests) e
 drop-equal b (suc j) zero tests le = absurd (omega arith)
 drop-equal b (suc j) (suc k) tests le =

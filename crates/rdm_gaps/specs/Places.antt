@@ -68,3 +68,13 @@ run (false ∷ tests) = 0
 -- how many places from `at` on are missing, up to the first that isn't
 abbrev pub missing_from : Missing → ℕ → ℕ
 missing_from m at = run (drop at m.places)
+
+-- how many tests fail before the first that holds
+abbrev pub lull : List Bool → ℕ
+lull [] = 0
+lull (true ∷ tests) = 0
+lull (false ∷ tests) = suc (lull tests)
+
+-- how many places from `at` on have come, up to the first that is missing or the end
+abbrev pub came_from : Missing → ℕ → ℕ
+came_from m at = lull (drop at m.places)

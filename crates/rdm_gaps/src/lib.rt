@@ -105,6 +105,19 @@ impl Gaps {
         }
     }
 
+    /// How many places from `at` on have come, up to the first that is missing or the end.
+    pub fn came_from(&self, at: u64) -> u64
+        ensures { result ≡ Places.came_from self.now at }
+    {
+        let i = find(&self.gaps, at);
+        let next = if i < self.gaps.len() {
+            self.gaps[i].start
+        } else {
+            self.size
+        };
+        next.saturating_sub(at)
+    }
+
     /// Takes the range, if all of it is missing.
     pub fn take(&mut self, off: u64, len: u64) -> Result<bool, NoMemory>
         ensures answer { IfOk result (λ taken. IsTrue taken ↔ AreMissing off len self.old.places) }

@@ -15,6 +15,18 @@ const TAKES: [(u64, u64, bool, u64); 9] = [
     (7, 3, true, 0),
 ];
 
+/// Places of the same message, and how many have come from there on.
+const LULLS: [(u64, u64); 8] = [
+    (0, 0),
+    (1, 0),
+    (2, 3),
+    (4, 1),
+    (5, 0),
+    (9, 0),
+    (10, 0),
+    (11, 0),
+];
+
 /// Places of a message of ten of which those from 2 up to 5 were taken, and how many are missing from
 /// there on.
 const RUNS: [(u64, u64); 6] = [(0, 2), (1, 1), (2, 0), (4, 0), (5, 5), (10, 0)];
@@ -37,6 +49,9 @@ fn a_range_that_is_put_back_is_missing(rt: HostRuntime) -> Result<(), Fail> {
     if gaps.take_reserved(2, 3) {
         for (at, missing) in RUNS {
             assert_eq!(rt; gaps.missing_from(at), missing, "at {at}");
+        }
+        for (at, came) in LULLS {
+            assert_eq!(rt; gaps.came_from(at), came, "at {at}");
         }
         gaps.untake(2, 3);
     }
