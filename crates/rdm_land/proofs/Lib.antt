@@ -16,3 +16,9 @@ mod Waiting
 pub mod Laws
 -- a range that is lent stays lent over the calls for other ranges
 mod LoansStay
+-- the bytes of places that came before
+mod Came
+-- one turn over places that came and places that are missing
+mod Passes
+-- the first place that waits, and ranges that do
+mod Fronts

@@ -10,3 +10,5 @@ pub mod Inside
 pub mod Laws
 -- what becomes of a range that is lent
 pub mod Loans
+-- what came of a message before, and what waits
+pub mod Arrivals

@@ -76,7 +76,7 @@ fn waiting_until(gaps: &Gaps, lent: &[Span], at: u64) -> Option<u64>
 }
 
 /// Each place from `off` up to `end` is missing or lent.
-fn all_wait(gaps: &Gaps, lent: &[Span], off: u64, end: u64) -> bool
+pub(crate) fn all_wait(gaps: &Gaps, lent: &[Span], off: u64, end: u64) -> bool
     requires order { AreInOrder lent.now }
     requires fits { length gaps.now.places < 2 ^ 64 }
     ensures { IsTrue result ↔ ((k : ℕ) → off ≤ k → k < end → (have k lent.now || get_or gaps.now.places k false) ≡ true) }
