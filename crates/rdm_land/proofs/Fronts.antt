@@ -3,62 +3,59 @@ use Rattle.std.proofs.Common.{◌≡◌, ℕ, ◌+◌, ◌-◌, ◌<◌, ◌≤�
 use Rattle.std.proofs.lemmas.Bool.{true≢false, le-leb}
 use Rattle.std.proofs.lemmas.List.{get_or_default}
 use Rattle.std.specs.List.{AllWithin}
-use Rattle.rdm_gaps.specs.Places.{AreMissing, lull}
-use Rattle.rdm_gaps.proofs.Covered.{all_at}
-use Rattle.rdm_gaps.proofs.Lulls.{lull_le, came_each, came_end, lull_is}
+use Rattle.rdm_gaps.specs.Places.{lull}
+use Rattle.rdm_mr.specs.Tiles.{Tiles}
+use Rattle.rdm_land.specs.Landed.{Landed}
+use Rattle.rdm_land.specs.Arrivals.{IsFront}
+use Rattle.rdm_gaps.proofs.Lulls.{lull_le, came_each, came_end}
 use Rattle.rdm_mr.proofs.Overlays.{by_lt}
 use Rattle.rdm_land.specs.declared.spans.Span.{Span}
-use Rattle.rdm_land.specs.Spans.{has, have, with_spans, AreApart}
-use Rattle.rdm_land.proofs.SetRanges.{all_from_each}
+use Rattle.rdm_land.specs.Spans.{has, have, AreApart}
 use Rattle.rdm_land.proofs.Order.{none_before, has_yes, has_before, have_at, past_all, apart_from}
-use Rattle.rdm_land.proofs.Waiting.{waits, length-with_spans, waits_each, or_yes}
+use Rattle.rdm_land.proofs.Waiting.{or_yes}
 
 -- neither of two tests holds
 neither : (a b : Bool) → a ≡ false → b ≡ false → (a || b) ≡ false
 neither a b p q = ap (λ v. v || b) p ∙ q
 
-module _ (missing : List Bool) (c : ℕ) where
-  -- the first place that is missing, or the first that is lent
-  pub front_is : (s : Span) (spans : List Span) → AreApart 0 (length missing) c (s ∷ spans) → lull (with_spans (s ∷ spans) missing) ≡ min (lull missing) s.start
+module _ (tiles : Tiles) (missing : List Bool) (room c : ℕ) where
+  -- a landing that lends these ranges
+  abbrev pub landing : List Span → Landed
+  landing lent = record { tiles = tiles; missing = missing; lent = lent; room = room }
+
+  -- where nothing is lent, the first place that is missing
+  pub front_none : IsFront (landing []) (lull missing)
+  front_none =
+      record {
+        within = lull_le missing;
+        before = λ k lt. came_each 0 k missing (omega arith) (omega arith);
+        here = λ lt. subst (λ j. get_or missing j false ≡ true) (let e : 0 + lull missing ≡ lull missing = omega arith in e) (came_end 0 missing (omega arith));
+      }
+
+  -- else that, or the first that is lent
+  pub front_is : (s : Span) (spans : List Span) → AreApart 0 (length missing) c (s ∷ spans) → IsFront (landing (s ∷ spans)) (min (lull missing) s.start)
   front_is s spans a =
-      let W = with_spans (s ∷ spans) missing in
-      let size : length W ≡ length missing = length-with_spans 0 (length missing) c (s ∷ spans) missing a refl in
-      let le = lull_le missing in
-      let each : (k : ℕ) → get_or W k false ≡ waits missing (s ∷ spans) k = (λ k. waits_each 0 (length missing) c k (s ∷ spans) missing a refl) in
+      let none = front_none in
       let from : AreApart s.start (length missing) c (s ∷ spans) = (omega arith, a.1, a.2, a.3) in
-      lull_is (min (lull missing) s.start) W (omega (arith, size))
-      (λ k lt. each k ∙ neither (have k (s ∷ spans)) (get_or missing k false) (none_before s.start (length missing) c k (s ∷ spans) from (omega arith)) (came_each 0 k missing (omega arith) (omega arith)))
-      (λ lt. by_lt s.start (lull missing)
-      (λ p.
-        let e : min (lull missing) s.start ≡ s.start = omega arith in
-        ap (λ k. get_or W k false) e ∙ each s.start ∙ ap (λ b. (b || have s.start spans) || get_or missing s.start false) (has_yes s.start s (omega arith) a.1))
-      (λ p.
-        let e : min (lull missing) s.start ≡ lull missing = omega arith in
-        let begin : 0 + lull missing ≡ lull missing = omega arith in
-        let at = subst (λ j. get_or missing j false ≡ true) begin (came_end 0 missing (omega (arith, size))) in
-        ap (λ k. get_or W k false) e ∙ each (lull missing) ∙ ap (λ b. have (lull missing) (s ∷ spans) || b) at ∙ or_yes (have (lull missing) (s ∷ spans))))
+      record {
+        within = omega (arith, none.within);
+        before = λ k lt. neither (have k (s ∷ spans)) (get_or missing k false) (none_before s.start (length missing) c k (s ∷ spans) from (omega arith)) (none.before k (omega arith));
+        here = λ lt. by_lt s.start (lull missing)
+            (λ p.
+            let e : s.start ≡ min (lull missing) s.start = omega arith in
+            subst (λ k. (have k (s ∷ spans) || get_or missing k false) ≡ true) e (ap (λ b. (b || have s.start spans) || get_or missing s.start false) (has_yes s.start s (omega arith) a.1)))
+            (λ p.
+            let e : lull missing ≡ min (lull missing) s.start = omega arith in
+            subst (λ k. (have k (s ∷ spans) || get_or missing k false) ≡ true) e (ap (λ b. have (lull missing) (s ∷ spans) || b) (none.here (omega arith)) ∙ or_yes (have (lull missing) (s ∷ spans))));
+      }
 
-  module _ (lent : List Span) (a : AreApart 0 (length missing) c lent) (off len : ℕ) where
-    all_size : length (with_spans lent missing) ≡ length missing
-    all_size = length-with_spans 0 (length missing) c lent missing a refl
-
-    -- the range passes the end
-    pub beyond : length missing < off + len → AreMissing off len (with_spans lent missing) → ⊥
-    beyond lt m = let size = all_size in omega (arith, size, m.0)
-
-    -- each place of a range that lies inside waits
-    pub each_waits : off + len ≤ length missing → (r : Bool) → IsTrue r ↔ ((k : ℕ) → off ≤ k → k < off + len → waits missing lent k ≡ true) → IsTrue r ↔ AreMissing off len (with_spans lent missing)
-    each_waits fits r all =
-        let size = all_size in
-        (
-          λ t. all_from_each true off len (with_spans lent missing) (omega (arith, size)) (λ k p q. waits_each 0 (length missing) c k lent missing a refl ∙ all.0 t k p q),
-          λ m. all.1 (λ k p q. sym (waits_each 0 (length missing) c k lent missing a refl) ∙ all_at true false off len k (with_spans lent missing) m p q),
-        )
-
-  -- the same of a list that begins with a range
-  pub front_some : (lent : List Span) (s : Span) → slice_get lent 0 ≡ Some s → AreApart 0 (length missing) c lent → lull (with_spans lent missing) ≡ min (lull missing) s.start
+  pub front_some : (lent : List Span) (s : Span) → slice_get lent 0 ≡ Some s → AreApart 0 (length missing) c lent → IsFront (landing lent) (min (lull missing) s.start)
   front_some [] s e a = absurd (cc)
-  front_some (t ∷ spans) s e a = let same : t ≡ s = cc in front_is t spans a ∙ ap (λ (x : Span). min (lull missing) x.start) same
+  front_some (t ∷ spans) s e a = let same : t ≡ s = cc in subst (λ (x : Span). IsFront (landing (t ∷ spans)) (min (lull missing) x.start)) same (front_is t spans a)
+
+  pub front_empty : (lent : List Span) → slice_get lent 0 ≡ None → IsFront (landing lent) (lull missing)
+  front_empty [] e = front_none
+  front_empty (t ∷ spans) e = absurd (cc)
 
 -- no place of the range is lent
 abbrev Free : List Span → ℕ → ℕ → Type 0

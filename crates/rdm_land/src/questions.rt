@@ -1,9 +1,7 @@
 //! Which places of a message wait for their bytes.
-ghost use Rattle.std.specs.Prelude.{◌≡◌, ◌↔◌, IsTrue};
-ghost use Rattle.rdm_gaps.specs.Places.{AreMissing};
-ghost use Rattle.rdm_land.specs.Landed.{missing_or_lent};
-ghost use Rattle.rdm_land.specs.Arrivals.{IsFree};
-ghost use Rattle.rdm_land.specs.Arrivals as Arrivals;
+ghost use Rattle.std.specs.Prelude.{◌↔◌, IsTrue};
+ghost use Rattle.rdm_land.specs.Inside.{Agrees};
+ghost use Rattle.rdm_land.specs.Arrivals.{IsFront, AreWaiting, IsFree};
 
 use crate::landing::Landing;
 use crate::loans::all_wait;
@@ -12,7 +10,7 @@ use crate::spans::find;
 impl Landing {
     /// The first place that is missing or lent, or the length where there is none.
     pub fn front(&self) -> u64
-        ensures { result ≡ Arrivals.front self.now }
+        ensures { IsFront self.now result }
     {
         let missing = self.gaps.came_from(0);
         match self.lent.first() {
@@ -23,7 +21,7 @@ impl Landing {
 
     /// The range lies in the message, and each place of it is missing or lent.
     pub fn awaits(&self, off: u64, len: u64) -> bool
-        ensures { IsTrue result ↔ AreMissing off len (missing_or_lent self.now) }
+        ensures { IsTrue result ↔ AreWaiting self.now off len }
     {
         let length = self.length;
         let Some(end) = off.checked_add(len) else {
@@ -46,5 +44,12 @@ impl Landing {
         } else {
             true
         }
+    }
+
+    /// What is lent is not missing, and its places below the capacity are out, and no others.
+    pub fn agrees_law(&self)
+        ensures { Agrees self.now.missing self.now.tiles.cells self.now.lent }
+    {
+        let _room = self.room;
     }
 }
