@@ -1,0 +1,8 @@
+-- That the calls come to what the record says.
+
+-- bytes that are laid over cells, place by place
+mod Laying
+-- which places have come
+mod Coming
+-- a receive that is new, met or filled shows what the record makes of it
+mod Showing

@@ -1,0 +1,106 @@
+-- A receive that is new, met or filled shows what the record makes of it.
+use Rattle.std.proofs.Common.{◌≡◌, ℕ, ◌+◌, ◌-◌, ◌<◌, ◌≤◌, ◌⊎◌, inl, inr, Bool, true, false, List, [], length, get_or, map, Option, Some, None, refl, sym, ap, subst, ◌∙◌, arith}
+use Rattle.std.specs.Prelude.{slice_get, is_some}
+use Rattle.std.proofs.lemmas.List.{length-map, get_or-map, get_or_default}
+use Rattle.std.proofs.lemmas.Bool.{le-ltb}
+use Rattle.std.proofs.lemmas.Option.{slice_get-get_or}
+use Rattle.rdm_num.specs.Pieces.{Piece, byte_in}
+use Rattle.rdm_num.specs.declared.request.RecvReq.{RecvReq}
+use Rattle.rdm_model.proofs.Rows.{byte_in_before, byte_in_after}
+use Rattle.rdm_mr.proofs.Overlays.{by_range}
+use Rattle.rdm_land.proofs.Came.{came_in, came_out, length-came}
+use Rattle.rdm_land.specs.Arrivals.{came_over}
+use Rattle.rdm_life.specs.Kept.{LiveReceive, Matched}
+use Rattle.rdm_life.specs.Landing.{with_message, laid_over}
+use Rattle.rdm_receives.specs.View.{ReceiveView, with_room}
+use Rattle.rdm_receives.specs.Shows.{Shows, ShowMatch}
+use Rattle.rdm_receives.specs.Laws.{NewShows, MessageShows, RoomShows, FillShows}
+use Rattle.rdm_receives.proofs.Laying.{is_cell, over_some, over_none, filled_cells, length-filled, filled_in, filled_out}
+use Rattle.rdm_receives.proofs.Coming.{show_more, show_same, no_byte, a_byte, by_test, came_before, come_more}
+
+pub new_shows : NewShows
+new_shows number named req piece receive part n q f same =
+    record {
+      number = n;
+      req = q;
+      named = f;
+      cells = λ k byte e.
+          let size = length-map piece.bytes Some in
+          let lt = is_cell (map Some piece.bytes) k byte e in
+          let at = get_or-map Some piece.bytes k 0 None (omega (arith, size, lt)) in
+          let is : Some (get_or piece.bytes k 0) ≡ Some byte = sym at ∙ e in
+          let got : get_or piece.bytes k 0 ≡ byte = cc in
+          same k (omega (arith, size, lt)) ∙ got;
+      matched = tt;
+    }
+
+-- how long the range is
+range_is : (r : ReceiveView) (l : LiveReceive) → length r.landed.tiles.cells ≡ r.req.len → r.req ≡ l.receive.req → length r.landed.tiles.cells ≡ l.receive.req.len
+range_is r l e q = e ∙ ap (λ (x : RecvReq). x.len) q
+
+pub message_shows : MessageShows
+unfolding with_message
+message_shows r l p head gaps bytes first_part e is s long early =
+    record {
+      number = s.number;
+      req = s.req;
+      named = s.named;
+      cells = λ k byte at. (
+        let cells = r.landed.tiles.cells in
+        let size = range_is r l is.places s.req in
+        let same = length-came gaps.places bytes cells in
+        let lt = is_cell (came_over gaps.places bytes cells) k byte at in
+        by_test gaps.places k
+        (λ none. over_none l.receive.req.len e.came l.part k (early.came k ∙ no_byte gaps.places bytes k none) ∙ s.cells k byte (sym (came_out k gaps.places bytes cells none) ∙ at))
+        (λ some.
+        let b = a_byte gaps.places bytes k long some in
+        let has : get_or gaps.places k false ≡ false = get_or_default gaps.places k false true b.0 ∙ some in
+        let now = came_in k gaps.places bytes cells b.0 (omega (arith, long, b.0)) (omega (arith, lt, same)) has in
+        let is : Some (get_or bytes k 0) ≡ Some byte = sym now ∙ at in
+        over_some l.receive.req.len e.came l.part k byte (omega (arith, lt, same, size)) (early.came k ∙ b.1 ∙ is)));
+      matched = record {
+        source = refl;
+        number = refl;
+        head = early.head_is;
+        granted = early.first_is;
+        came = λ k. ap is_some (early.came k) ∙ came_before gaps.places bytes k long;
+      };
+    }
+
+pub room_shows : RoomShows
+room_shows r l s = record { number = s.number; req = s.req; named = s.named; cells = s.cells; matched = show_same r.landed ((with_room r).landed) (λ k. refl) r.message l.matched s.matched }
+
+-- the places that a piece has, and others
+byte_has : (at : ℕ) (bytes : List ℕ) (k : ℕ) → at ≤ k → k < at + length bytes → byte_in (record { offset = at; bytes = bytes }) k ≡ Some (get_or bytes (k - at) 0)
+unfolding byte_in
+byte_has at bytes k p q = rw (le-ltb k at p) (slice_get-get_or bytes (k - at) 0 (omega arith))
+
+byte_lacks : (at : ℕ) (bytes : List ℕ) (k : ℕ) → (k < at) ⊎ (at + length bytes ≤ k) → byte_in (record { offset = at; bytes = bytes }) k ≡ None
+byte_lacks at bytes k (inl p) = byte_in_before (record { offset = at; bytes = bytes }) k p
+byte_lacks at bytes k (inr p) = byte_in_after (record { offset = at; bytes = bytes }) k p
+
+pub fill_shows : FillShows
+fill_shows r l at bytes is s m =
+    record {
+      number = s.number;
+      req = s.req;
+      named = s.named;
+      cells = λ k byte e. (
+        let cells = r.landed.tiles.cells in
+        let size = range_is r l is.places s.req in
+        let same = length-filled at bytes cells in
+        let lt = is_cell (filled_cells at bytes cells) k byte e in
+        let piece : Piece = record { offset = at; bytes = bytes } in
+        by_range at (length bytes) k
+        (λ p q.
+        let now : Some (get_or bytes (k - at) 0) ≡ Some byte = sym (filled_in at bytes cells k p q (omega (arith, lt, same))) ∙ e in
+        over_some l.receive.req.len (byte_in piece) l.part k byte (omega (arith, lt, same, size)) (byte_has at bytes k p q ∙ now))
+        (λ o. over_none l.receive.req.len (byte_in piece) l.part k (byte_lacks at bytes k o) ∙ s.cells k byte (sym (filled_out at bytes cells k (omega (arith, lt, same)) o) ∙ e)));
+      matched = show_more r.landed _ _ r.message l.matched (λ v x t. record {
+        source = t.source;
+        number = t.number;
+        head = t.head;
+        granted = t.granted;
+        came = λ k. come_more r.landed.missing r.landed.lent is.agrees.taken at bytes m k (x.came k) (t.came k);
+      }) s.matched;
+    }
