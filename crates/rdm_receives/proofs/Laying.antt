@@ -1,16 +1,12 @@
 -- Bytes that are laid over cells, place by place.
 use Rattle.std.proofs.Common.{◌≡◌, ℕ, ◌+◌, ◌-◌, ◌<◌, ◌≤◌, ◌⊎◌, inl, inr, Bool, true, false, List, [], length, get_or, take, map, Option, Some, None, refl, sym, ap, subst, ◌∙◌, arith, min, unwrap_or, if◌then◌else◌}
 use Rattle.std.specs.Prelude.{nat_lt}
-use Rattle.std.proofs.lemmas.List.{length-map, length-take, get_or-take, get_or-map, get_or_past}
+use Rattle.std.proofs.lemmas.List.{length-map, length-take, get_or-take, get_or-map}
 use Rattle.std.proofs.lemmas.Bool.{lt-ltb}
 use Rattle.rdm_mr.specs.Tiles.{laid}
 use Rattle.rdm_mr.proofs.Overlays.{by_lt, length-new, new_in, new_out}
 use Rattle.rdm_mr.proofs.Undone.{laid_nothing}
 use Rattle.rdm_life.specs.Landing.{laid_over}
-
--- a cell with a byte is one of the cells
-pub is_cell : (cells : List (Option ℕ)) (k byte : ℕ) → get_or cells k None ≡ Some byte → k < length cells
-is_cell cells k byte e = by_lt k (length cells) (λ lt. lt) (λ le. absurd (let none = get_or_past cells k None le in cc))
 
 -- below the length the new byte stands, or the old one
 pub over_some : (len : ℕ) (came : ℕ → Option ℕ) (part : ℕ → ℕ) (k byte : ℕ) → k < len → came k ≡ Some byte → laid_over len came part k ≡ byte

@@ -1,5 +1,5 @@
 -- A receive that is new, met or filled shows what the record makes of it.
-use Rattle.std.proofs.Common.{◌≡◌, ℕ, ◌+◌, ◌-◌, ◌<◌, ◌≤◌, ◌⊎◌, inl, inr, Bool, true, false, List, [], length, get_or, map, Option, Some, None, refl, sym, ap, subst, ◌∙◌, arith}
+use Rattle.std.proofs.Common.{◌≡◌, ℕ, ◌+◌, ◌-◌, ◌<◌, ◌≤◌, ◌⊎◌, inl, inr, Bool, true, false, ◌||◌, List, [], length, get_or, map, Option, Some, None, refl, sym, ap, subst, ◌∙◌, arith}
 use Rattle.std.specs.Prelude.{slice_get, is_some}
 use Rattle.std.proofs.lemmas.List.{length-map, get_or-map, get_or_default}
 use Rattle.std.proofs.lemmas.Bool.{le-ltb}
@@ -8,29 +8,28 @@ use Rattle.rdm_num.specs.Pieces.{Piece, byte_in}
 use Rattle.rdm_num.specs.declared.request.RecvReq.{RecvReq}
 use Rattle.rdm_model.proofs.Rows.{byte_in_before, byte_in_after}
 use Rattle.rdm_mr.proofs.Overlays.{by_range}
-use Rattle.rdm_land.proofs.Came.{came_in, came_out, length-came}
-use Rattle.rdm_land.specs.Arrivals.{came_over}
+use Rattle.rdm_land.proofs.Came.{came_in, came_out}
+use Rattle.rdm_land.specs.Arrivals.{waits}
+use Rattle.rdm_land.specs.Landed.{Landed}
+use Rattle.rdm_land.specs.Spans.{have}
+use Rattle.rdm_land.proofs.SetRanges.{set_out}
+use Rattle.rdm_num.specs.declared.numbers.OpId.{OpId}
+use Rattle.rdm_rx.specs.Receiving.{ReceivingView}
 use Rattle.rdm_life.specs.Kept.{LiveReceive, Matched}
 use Rattle.rdm_life.specs.Landing.{with_message, laid_over}
-use Rattle.rdm_receives.specs.View.{ReceiveView, with_room}
+use Rattle.rdm_receives.specs.View.{ReceiveView, IsOfMessage, with_room}
 use Rattle.rdm_receives.specs.Shows.{Shows, ShowMatch}
 use Rattle.rdm_receives.specs.Laws.{NewShows, MessageShows, RoomShows, FillShows}
-use Rattle.rdm_receives.proofs.Laying.{is_cell, over_some, over_none, filled_cells, length-filled, filled_in, filled_out}
+use Rattle.rdm_receives.proofs.Laying.{over_some, over_none, filled_in, filled_out}
 use Rattle.rdm_receives.proofs.Coming.{show_more, show_same, no_byte, a_byte, by_test, came_before, come_more}
 
 pub new_shows : NewShows
-new_shows number named req piece receive part n q f same =
+new_shows number named req piece receive part n q f long same =
     record {
       number = n;
       req = q;
       named = f;
-      cells = λ k byte e.
-          let size = length-map piece.bytes Some in
-          let lt = is_cell (map Some piece.bytes) k byte e in
-          let at = get_or-map Some piece.bytes k 0 None (omega (arith, size, lt)) in
-          let is : Some (get_or piece.bytes k 0) ≡ Some byte = sym at ∙ e in
-          let got : get_or piece.bytes k 0 ≡ byte = cc in
-          same k (omega (arith, size, lt)) ∙ got;
+      cells = λ k lt free. get_or-map Some piece.bytes k 0 None (omega (arith, long)) ∙ ap Some (sym (same k lt));
       matched = tt;
     }
 
@@ -38,26 +37,30 @@ new_shows number named req piece receive part n q f same =
 range_is : (r : ReceiveView) (l : LiveReceive) → length r.landed.tiles.cells ≡ r.req.len → r.req ≡ l.receive.req → length r.landed.tiles.cells ≡ l.receive.req.len
 range_is r l e q = e ∙ ap (λ (x : RecvReq). x.len) q
 
+-- nothing waits where there is no message
+none_waits : (l : Landed) (number : OpId) (o : Option ReceivingView) → o ≡ None → IsOfMessage number l o → (k : ℕ) → waits l k ≡ false
+none_waits l number None e m k = ap (λ s. have k s || get_or l.missing k false) m.1 ∙ ap (λ s. get_or s k false) m.0
+none_waits l number (Some x) e m k = absurd (cc)
+
 pub message_shows : MessageShows
 unfolding with_message
-message_shows r l p head gaps bytes first_part e is s long early =
+message_shows r l p head gaps bytes first_part e is waiting s long early =
     record {
       number = s.number;
       req = s.req;
       named = s.named;
-      cells = λ k byte at. (
+      cells = λ k lt free. (
         let cells = r.landed.tiles.cells in
         let size = range_is r l is.places s.req in
-        let same = length-came gaps.places bytes cells in
-        let lt = is_cell (came_over gaps.places bytes cells) k byte at in
         by_test gaps.places k
-        (λ none. over_none l.receive.req.len e.came l.part k (early.came k ∙ no_byte gaps.places bytes k none) ∙ s.cells k byte (sym (came_out k gaps.places bytes cells none) ∙ at))
+        (λ none.
+        came_out k gaps.places bytes cells none ∙ s.cells k lt (none_waits r.landed r.number r.message waiting is.message k)
+        ∙ ap Some (sym (over_none l.receive.req.len e.came l.part k (early.came k ∙ no_byte gaps.places bytes k none))))
         (λ some.
         let b = a_byte gaps.places bytes k long some in
         let has : get_or gaps.places k false ≡ false = get_or_default gaps.places k false true b.0 ∙ some in
-        let now = came_in k gaps.places bytes cells b.0 (omega (arith, long, b.0)) (omega (arith, lt, same)) has in
-        let is : Some (get_or bytes k 0) ≡ Some byte = sym now ∙ at in
-        over_some l.receive.req.len e.came l.part k byte (omega (arith, lt, same, size)) (early.came k ∙ b.1 ∙ is)));
+        came_in k gaps.places bytes cells b.0 (omega (arith, long, b.0)) (omega (arith, lt, is.places)) has
+        ∙ ap Some (sym (over_some l.receive.req.len e.came l.part k (get_or bytes k 0) (omega (arith, lt, is.places, size)) (early.came k ∙ b.1)))));
       matched = record {
         source = refl;
         number = refl;
@@ -85,17 +88,18 @@ fill_shows r l at bytes is s m =
       number = s.number;
       req = s.req;
       named = s.named;
-      cells = λ k byte e. (
+      cells = λ k lt free. (
         let cells = r.landed.tiles.cells in
         let size = range_is r l is.places s.req in
-        let same = length-filled at bytes cells in
-        let lt = is_cell (filled_cells at bytes cells) k byte e in
         let piece : Piece = record { offset = at; bytes = bytes } in
         by_range at (length bytes) k
         (λ p q.
-        let now : Some (get_or bytes (k - at) 0) ≡ Some byte = sym (filled_in at bytes cells k p q (omega (arith, lt, same))) ∙ e in
-        over_some l.receive.req.len (byte_in piece) l.part k byte (omega (arith, lt, same, size)) (byte_has at bytes k p q ∙ now))
-        (λ o. over_none l.receive.req.len (byte_in piece) l.part k (byte_lacks at bytes k o) ∙ s.cells k byte (sym (filled_out at bytes cells k (omega (arith, lt, same)) o) ∙ e)));
+        filled_in at bytes cells k p q (omega (arith, lt, is.places))
+        ∙ ap Some (sym (over_some l.receive.req.len (byte_in piece) l.part k (get_or bytes (k - at) 0) (omega (arith, lt, is.places, size)) (byte_has at bytes k p q))))
+        (λ o.
+        filled_out at bytes cells k (omega (arith, lt, is.places)) o
+        ∙ s.cells k lt (ap (λ b. have k r.landed.lent || b) (sym (set_out false at (length bytes) r.landed.missing m.0 k o)) ∙ free)
+        ∙ ap Some (sym (over_none l.receive.req.len (byte_in piece) l.part k (byte_lacks at bytes k o)))));
       matched = show_more r.landed _ _ r.message l.matched (λ v x t. record {
         source = t.source;
         number = t.number;

@@ -19,14 +19,14 @@ abbrev pub NewShows : Type 0
 NewShows =
     (number : OpId) (named : Option Life) (req : RecvReq) (piece : Piece) (receive : Receive) (part : ℕ → ℕ)
     → number.0 ≡ receive.number → req ≡ receive.req → named ≡ receive.posted.from
-    → ((k : ℕ) → k < length piece.bytes → part k ≡ get_or piece.bytes k 0)
+    → length piece.bytes ≡ req.len → ((k : ℕ) → k < req.len → part k ≡ get_or piece.bytes k 0)
     → Shows (posted number named req piece) (record { receive = receive; part = part; matched = None })
 
 -- one that took a message shows the match with that early message
 abbrev pub MessageShows : Type 0
 MessageShows =
     (r : ReceiveView) (l : LiveReceive) (p : Pair) (head : Head) (gaps : Missing) (bytes : List ℕ) (first_part : ℕ) (e : EarlyMessage)
-    → IsReceive r → Shows r l → length bytes ≡ length gaps.places → IsEarly head gaps.places bytes first_part e
+    → IsReceive r → r.message ≡ None → Shows r l → length bytes ≡ length gaps.places → IsEarly head gaps.places bytes first_part e
     → Shows (met r p.message.life p.message.no head gaps bytes first_part) (with_message p (Some e) l)
 
 -- room shows nothing

@@ -1,8 +1,8 @@
 -- That a receive shows a live receive of what an endpoint keeps.
-use Rattle.std.specs.Prelude.{◌≡◌, ℕ, ◌<◌, Bool, true, if◌then◌else◌, List, length, get_or, Option, Some, None, slice_get}
+use Rattle.std.specs.Prelude.{◌≡◌, ℕ, ◌<◌, Bool, true, false, if◌then◌else◌, List, length, get_or, Option, Some, None, slice_get}
 use Rattle.rdm_num.specs.declared.head.Head.{Head}
 use Rattle.rdm_land.specs.Landed.{Landed}
-use Rattle.rdm_land.specs.Arrivals.{has_come}
+use Rattle.rdm_land.specs.Arrivals.{waits, has_come}
 use Rattle.rdm_rx.specs.Receiving.{ReceivingView}
 use Rattle.rdm_life.specs.Kept.{LiveReceive, Matched, EarlyMessage}
 use Rattle.rdm_receives.specs.View.{ReceiveView}
@@ -22,12 +22,12 @@ ShowMatch l None (Some m) = ⊥
 ShowMatch l (Some r) None = ⊥
 ShowMatch l (Some r) (Some m) = ShowsMessage l r m
 
--- what it asks for agrees, each byte that is at home is the byte at its place, and so is its message
+-- what it asks for and its message agree, and each place that waits for no byte is at home with the byte that stands there
 pub record Shows (r : ReceiveView) (l : LiveReceive) : Type 0 where
   pub number : r.number.0 ≡ l.receive.number
   pub req : r.req ≡ l.receive.req
   pub named : r.named ≡ l.receive.posted.from
-  pub cells : (k byte : ℕ) → get_or r.landed.tiles.cells k None ≡ Some byte → l.part k ≡ byte
+  pub cells : (k : ℕ) → k < r.req.len → waits r.landed k ≡ false → get_or r.landed.tiles.cells k None ≡ Some (l.part k)
   pub matched : ShowMatch r.landed r.message l.matched
 
 -- the byte at a place that came of a message
