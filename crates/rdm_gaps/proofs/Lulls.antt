@@ -5,7 +5,7 @@ use Rattle.std.proofs.lemmas.Bool.{true≢false}
 use Rattle.std.specs.List.{AllWithin}
 use Rattle.rdm_gaps.specs.declared.ranges.Gap.{Gap}
 use Rattle.rdm_gaps.specs.Places.{lull}
-use Rattle.rdm_gaps.specs.Ranges.{gap, gap_at, places_of, AreApart}
+use Rattle.rdm_gaps.specs.Ranges.{gap_at, places_of, AreApart}
 use Rattle.rdm_gaps.proofs.Covered.{AreApart_lower, drop_past}
 use Rattle.rdm_gaps.proofs.Runs.{drop-equal}
 

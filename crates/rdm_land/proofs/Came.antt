@@ -1,6 +1,6 @@
 -- The bytes of places that came before.
-use Rattle.std.proofs.Common.{◌≡◌, ℕ, zero, suc, ◌+◌, ◌-◌, ◌<◌, ◌≤◌, ◌⊎◌, inl, inr, Bool, true, false, cond, List, [], ◌∷◌, ◌++◌, length, get_or, take, drop, map, Option, Some, None, is_none, refl, sym, ap, subst, ◌∙◌, arith, min}
-use Rattle.std.proofs.lemmas.List.{length-map, length-take, length-take-le, length-drop, get_or-take, get_or-drop, get_or-map, get_or_past, get_or_default, ext_get_or}
+use Rattle.std.proofs.Common.{◌≡◌, ℕ, zero, suc, ◌+◌, ◌-◌, ◌<◌, ◌≤◌, ◌⊎◌, inl, inr, Bool, true, false, cond, List, [], ◌∷◌, length, get_or, take, drop, map, Option, Some, None, is_none, refl, sym, ap, subst, ◌∙◌, arith, min}
+use Rattle.std.proofs.lemmas.List.{length-map, length-take, length-take-le, length-drop, get_or-take, get_or-drop, get_or-map, get_or_past, ext_get_or}
 use Rattle.rdm_gaps.specs.Places.{AreMissing}
 use Rattle.rdm_gaps.proofs.Covered.{all_at}
 use Rattle.rdm_mr.specs.Tiles.{laid, AreHome, IsWhole}
@@ -100,11 +100,11 @@ module _ (missing : List Bool) (bytes : List ℕ) (cells : List (Option ℕ)) wh
       ext_get_or None (laid at xs (so_far at)) (so_far stop) (omega (arith, all, old, new)) (λ k lt.
       by_range at (length xs) k
       (λ p q.
-        new_in at xs (so_far at) None fits k p q
-        ∙ get_or-map Some (take (stop - at) (drop at bytes)) (k - at) 0 None (omega (arith, long, t))
-        ∙ ap Some (get_or-take (stop - at) (drop at bytes) (k - at) 0 (omega (arith, long)) ∙ get_or-drop at bytes (k - at) 0 ∙ ap (λ j. get_or bytes j 0) (let e : at + (k - at) ≡ k = omega arith in e))
-        ∙ sym (came_in k (take stop missing) bytes cells (omega (arith, long, front)) (omega (arith, long)) (omega (arith, long))
-               (get_or-take stop missing k false (omega (arith, long)) ∙ came k p (omega (arith, long)))))
+      new_in at xs (so_far at) None fits k p q
+      ∙ get_or-map Some (take (stop - at) (drop at bytes)) (k - at) 0 None (omega (arith, long, t))
+      ∙ ap Some (get_or-take (stop - at) (drop at bytes) (k - at) 0 (omega (arith, long)) ∙ get_or-drop at bytes (k - at) 0 ∙ ap (λ j. get_or bytes j 0) (let e : at + (k - at) ≡ k = omega arith in e))
+      ∙ sym (came_in k (take stop missing) bytes cells (omega (arith, long, front)) (omega (arith, long)) (omega (arith, long))
+      (get_or-take stop missing k false (omega (arith, long)) ∙ came k p (omega (arith, long)))))
       (λ o. new_out at xs (so_far at) None fits k o ∙ came_same k (take at missing) (take stop missing) bytes cells (outside k o long)))
     where
       outside : (k : ℕ) → (k < at) ⊎ (at + length (map Some (take (stop - at) (drop at bytes))) ≤ k) → length (map Some (take (stop - at) (drop at bytes))) ≡ stop - at → get_or (take at missing) k true ≡ get_or (take stop missing) k true
@@ -117,9 +117,9 @@ module _ (missing : List Bool) (bytes : List ℕ) (cells : List (Option ℕ)) wh
       let old = size at in
       let new = size stop in
       ext_get_or None (so_far at) (so_far stop) (omega (arith, old, new)) (λ k lt. came_same k (take at missing) (take stop missing) bytes cells (
-        by_range at (stop - at) k
-        (λ p q. front_past at k missing p ∙ sym (front_in stop k missing (omega arith) ∙ none k p (omega arith)))
-        (λ o. outside k o)))
+      by_range at (stop - at) k
+      (λ p q. front_past at k missing p ∙ sym (front_in stop k missing (omega arith) ∙ none k p (omega arith)))
+      (λ o. outside k o)))
     where
       outside : (k : ℕ) → (k < at) ⊎ (at + (stop - at) ≤ k) → get_or (take at missing) k true ≡ get_or (take stop missing) k true
       outside k (inl lt) = front_in at k missing lt ∙ sym (front_in stop k missing (omega arith))
@@ -131,9 +131,9 @@ module _ (missing : List Bool) (bytes : List ℕ) (cells : List (Option ℕ)) wh
       let old = size at in
       let new = length-came missing bytes cells in
       ext_get_or None (so_far at) (came_over missing bytes cells) (omega (arith, old, new)) (λ k lt. came_same k (take at missing) missing bytes cells (
-        by_lt k at
-        (λ p. front_in at k missing p)
-        (λ p. front_past at k missing p ∙ sym (get_or_past missing k true (omega (arith, old))))))
+      by_lt k at
+      (λ p. front_in at k missing p)
+      (λ p. front_past at k missing p ∙ sym (get_or_past missing k true (omega (arith, old))))))
 
 -- a missing run, with the places past the end as missing
 pub missing_run : (at n : ℕ) (missing : List Bool) → AreMissing at n missing → (k : ℕ) → at ≤ k → k < at + n → get_or missing k true ≡ true

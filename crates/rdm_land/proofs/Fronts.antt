@@ -1,7 +1,6 @@
 -- The first place that waits, and ranges that do.
-use Rattle.std.proofs.Common.{◌≡◌, ℕ, ◌+◌, ◌-◌, ◌<◌, ◌≤◌, ◌↔◌, Bool, true, false, ◌||◌, ltb, List, [], ◌∷◌, length, get_or, slice_get, Option, Some, None, IsTrue, leb, leb-true, refl, sym, ap, subst, ◌∙◌, arith, min}
+use Rattle.std.proofs.Common.{◌≡◌, ℕ, ◌+◌, ◌-◌, ◌<◌, ◌≤◌, ◌↔◌, Bool, true, false, ◌||◌, List, [], ◌∷◌, length, get_or, slice_get, Some, None, IsTrue, leb, leb-true, refl, sym, ap, subst, ◌∙◌, arith, min}
 use Rattle.std.proofs.lemmas.Bool.{true≢false, le-leb}
-use Rattle.std.proofs.lemmas.List.{get_or_default}
 use Rattle.std.specs.List.{AllWithin}
 use Rattle.rdm_gaps.specs.Places.{lull}
 use Rattle.rdm_mr.specs.Tiles.{Tiles}
@@ -72,16 +71,15 @@ module _ (lo n c : ℕ) (lent slice : List Span) (same : slice ≡ lent) (a : Ar
       let end : off < s.end = subst (λ (t : Span). off < t.end) (sym read) (high i s (omega arith) lt) in
       let some : s.start < s.end = subst (λ (t : Span). t.start < t.end) (sym read) (apart_from lo n c lent a i s lt).1 in
       let at : (k : ℕ) → off ≤ k → k < s.end → have k lent ≡ has k s =
-      (λ k p q. have_at lo n c k i s lent a (λ j d l b. (let e : (get_or lent j d).end ≤ off = low j d l b in omega arith)) lt (subst (λ (t : Span). k < t.end) read q) ∙ ap (has k) (sym read)) in
-      (
+      (λ k p q. have_at lo n c k i s lent a (λ j d l b. (let e : (get_or lent j d).end ≤ off = low j d l b in omega arith)) lt (subst (λ (t : Span). k < t.end) read q) ∙ ap (has k) (sym read)) in (
         λ t k p q. (
-          let le : len ≤ s.start - off = leb-true len (s.start - off) t in
-          at k p (omega arith) ∙ has_before k s (omega arith)),
+            let le : len ≤ s.start - off = leb-true len (s.start - off) t in
+            at k p (omega arith) ∙ has_before k s (omega arith)),
         λ free. by_lt (s.start - off) len
-        (λ short. by_lt s.start off
-          (λ b. absurd (true≢false (sym (sym (free off (omega arith) (omega arith)) ∙ at off (omega arith) end ∙ has_yes off s (omega arith) end))))
-          (λ b. absurd (true≢false (sym (sym (free s.start b (omega arith)) ∙ at s.start b some ∙ has_yes s.start s (omega arith) some)))))
-        (λ le. le-leb len (s.start - off) le),
+            (λ short. by_lt s.start off
+            (λ b. absurd (true≢false (sym (sym (free off (omega arith) (omega arith)) ∙ at off (omega arith) end ∙ has_yes off s (omega arith) end))))
+            (λ b. absurd (true≢false (sym (sym (free s.start b (omega arith)) ∙ at s.start b some ∙ has_yes s.start s (omega arith) some)))))
+            (λ le. le-leb len (s.start - off) le),
       )
 
   -- no range ends after its first place

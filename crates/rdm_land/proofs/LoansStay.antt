@@ -1,18 +1,18 @@
 -- A range that is lent stays lent over the calls for other ranges.
-use Rattle.std.proofs.Common.{◌≡◌, ℕ, zero, suc, ◌+◌, ◌-◌, ◌<◌, ◌≤◌, ◌⊎◌, inl, inr, Bool, true, false, cond, leb, List, [], ◌∷◌, length, get_or, take, drop, map, replicate, min, Option, Some, None, is_none, Result, Ok, Err, refl, sym, ap, subst, ◌∙◌, arith}
+use Rattle.std.proofs.Common.{◌≡◌, ℕ, zero, suc, ◌+◌, ◌-◌, ◌<◌, ◌≤◌, ◌⊎◌, inl, inr, Bool, true, false, cond, leb, List, [], ◌∷◌, length, get_or, take, drop, map, replicate, min, Option, Some, None, is_none, Ok, Err, refl, sym, ap, subst, ◌∙◌, arith}
 use Rattle.std.proofs.lemmas.List.{length-map, length-replicate, length-take, get_or-take, get_or-drop, get_or-replicate, nil_from_length}
 use Rattle.std.proofs.lemmas.Bool.{true≢false}
 use Rattle.std.specs.List.{Contains}
 use Rattle.rdm_gaps.specs.Places.{AreMissing, AreTaken, with_range}
 use Rattle.rdm_gaps.proofs.Covered.{all_at}
 use Rattle.rdm_mr.specs.Part.{Piece}
-use Rattle.rdm_mr.specs.Tiles.{Tiles, laid, AreOut, IsPartAt}
+use Rattle.rdm_mr.specs.Tiles.{laid, AreOut}
 use Rattle.rdm_mr.proofs.Overlays.{by_lt, by_range, length-new, new_in, new_out, out_from_each}
 use Rattle.rdm_mr.proofs.Undone.{laid_nothing}
 use Rattle.rdm_land.specs.declared.spans.Span.{Span}
 use Rattle.rdm_land.specs.declared.landing.Placed.TheVariants.{Placed, Overlap}
 use Rattle.rdm_land.specs.Spans.{span, same, with_span, without_span, AreApart}
-use Rattle.rdm_land.specs.Landed.{Landed, IsLent, IsPartOf, MayLend, capacity, below}
+use Rattle.rdm_land.specs.Landed.{Landed, IsLent, IsPartOf, capacity, below}
 use Rattle.rdm_land.specs.Loans.{IsLoan, ShareNone, LoansAreApart, LentAreLoans, LendGivesLoan, StayReserved, StayPlaced, StayFilled, StayLent, StayLanded, StayUnlent}
 use Rattle.rdm_land.proofs.SetRanges.{length-set, set_in, set_out, all_from_each}
 use Rattle.rdm_land.proofs.Order.{same_is}

@@ -1,5 +1,5 @@
 -- One turn over places that came and places that are missing.
-use Rattle.std.proofs.Common.{◌≡◌, ℕ, ◌+◌, ◌-◌, ◌<◌, ◌≤◌, Bool, true, false, List, length, get_or, take, drop, map, Option, Some, refl, sym, ap, subst, ◌∙◌, arith, min}
+use Rattle.std.proofs.Common.{◌≡◌, ℕ, ◌+◌, ◌-◌, ◌<◌, ◌≤◌, Bool, true, false, List, length, get_or, take, drop, map, Option, Some, sym, ap, subst, ◌∙◌, arith, min}
 use Rattle.std.proofs.lemmas.List.{length-drop, get_or-drop}
 use Rattle.std.proofs.lemmas.Bool.{true≢false}
 use Rattle.rdm_gaps.specs.Places.{AreMissing, lull, run}
@@ -32,11 +32,11 @@ module _ (missing : List Bool) (bytes : List ℕ) (cells : List (Option ℕ)) (a
       by_lt at stop (λ lt. omega arith)
       (λ le. by_lt 0 gone (λ lt. (omega (arith, t.stop_is, t.within)))
       (λ none.
-        let here : at + lull (drop at missing) ≡ stop = omega (arith, t.stop_is, t.came_is, t.within) in
-        let missed = subst (λ k. get_or missing k false ≡ true) here (came_end at missing (omega (arith, here, t.within, t.long, t.stop_is))) in
-        let start : stop + 0 ≡ stop = omega arith in
-        let free : get_or missing stop false ≡ false = ap (λ k. get_or missing k false) (sym start) ∙ sym (get_or-drop stop missing 0 false) ∙ run_none (drop stop missing) (omega (arith, t.gone_is)) in
-        absurd (true≢false (sym missed ∙ free))))
+      let here : at + lull (drop at missing) ≡ stop = omega (arith, t.stop_is, t.came_is, t.within) in
+      let missed = subst (λ k. get_or missing k false ≡ true) here (came_end at missing (omega (arith, here, t.within, t.long, t.stop_is))) in
+      let start : stop + 0 ≡ stop = omega arith in
+      let free : get_or missing stop false ≡ false = ap (λ k. get_or missing k false) (sym start) ∙ sym (get_or-drop stop missing 0 false) ∙ run_none (drop stop missing) (omega (arith, t.gone_is)) in
+      absurd (true≢false (sym missed ∙ free))))
 
   -- the bytes of the first are laid
   pub lays : laid at (map Some (take (stop - at) (drop at bytes))) (so_far missing bytes cells at) ≡ so_far missing bytes cells (stop + gone)

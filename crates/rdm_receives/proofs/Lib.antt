@@ -6,3 +6,9 @@ mod Laying
 mod Coming
 -- a receive that is new, met or filled shows what the record makes of it
 mod Showing
+-- what has come, and what that makes owed
+mod Fullness
+-- what comes back
+mod Backs
+-- loans
+mod Lent

@@ -79,6 +79,13 @@ impl Receiving {
         is_same_life(self.source, source) && self.number.0 == number.0
     }
 
+    /// How many bytes of the message are granted.
+    pub fn granted(&self) -> u64
+        ensures { result ≡ self.now.granted }
+    {
+        self.granted
+    }
+
     /// Whether bytes that end there pass what is granted.
     pub fn passes_grants(&self, end: u64) -> bool
         ensures { result ≡ nat_lt self.now.granted end }

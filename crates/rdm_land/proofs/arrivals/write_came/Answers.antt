@@ -1,9 +1,8 @@
-use Rattle.std.proofs.Common.{◌≡◌, ℕ, ◌+◌, ◌-◌, ◌<◌, ◌≤◌, List, length, get_or, take, drop, map, min, Option, Some, false, refl, sym, ap, subst, ◌∙◌, arith, Fits, w64}
+use Rattle.std.proofs.Common.{◌≡◌, ◌-◌, length, take, drop, sym, ap, subst, ◌∙◌, arith}
 use Rattle.std.proofs.lemmas.List.{length-take-le, length-drop}
-use Rattle.rdm_mr.specs.Tiles.{Tiles, AreHome, laid, overwritten}
-use Rattle.rdm_land.specs.Arrivals.{with_came}
+use Rattle.rdm_mr.specs.Tiles.{Tiles, AreHome, overwritten}
 use Rattle.rdm_gaps.proofs.Lulls.{came_le}
-use Rattle.rdm_land.proofs.Came.{came_range, so_far, all_came}
+use Rattle.rdm_land.proofs.Came.{came_range, all_came}
 use Rattle.rdm_land.proofs.Passes.{IsTurn, fits, goes, lays}
 use Rattle.rdm_land.proofs.arrivals.write_came.Goals as goal
 

@@ -1,4 +1,4 @@
-use Rattle.std.proofs.Common.{◌≡◌, ℕ, ◌-◌, ◌≤◌, length}
+use Rattle.std.proofs.Common.{◌≡◌, ◌-◌, ◌≤◌, length}
 use Rattle.rdm_land.proofs.Came.{so_far}
 use Rattle.rdm_land.proofs.arrivals.write_came.Given as goal
 

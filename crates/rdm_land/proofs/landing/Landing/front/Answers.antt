@@ -1,4 +1,4 @@
-use Rattle.std.proofs.Common.{◌≡◌, List, length, min, slice_get, Some, None, sym, ap, subst, ◌∙◌}
+use Rattle.std.proofs.Common.{◌≡◌, List, min, slice_get, Some, None, sym, ap, subst, ◌∙◌}
 use Rattle.rdm_land.specs.declared.spans.Span.{Span}
 use Rattle.rdm_gaps.specs.Places.{lull}
 use Rattle.rdm_land.specs.Landed.{Landed}

@@ -1,4 +1,4 @@
-use Rattle.std.proofs.Common.{◌≡◌, ◌-◌, ◌↔◌, true, leb, IsTrue, sym, subst, arith}
+use Rattle.std.proofs.Common.{◌-◌, ◌↔◌, true, leb, IsTrue, sym, subst, arith}
 use Rattle.rdm_land.specs.Landed.{Landed}
 use Rattle.rdm_land.specs.Arrivals.{IsFree}
 use Rattle.rdm_land.proofs.Fronts.{free_here, free_past}
