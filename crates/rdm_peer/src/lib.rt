@@ -1,7 +1,7 @@
 //! What is known of a life that messages go to, what is owed to it, and their numbers.
 #![tactic(auto)]
 
-ghost use Rattle.std.specs.Prelude.{◌≡◌, ◌<◌, false, not, length, is_none};
+ghost use Rattle.std.specs.Prelude.{◌≡◌, false, not, is_none};
 ghost use Rattle.rdm_peer.specs.Account.{fresh, learnt, number_given, after_number, has_number};
 ghost use Rattle.rdm_peer.specs.Account as Account;
 
@@ -44,6 +44,13 @@ impl Peer {
         }
     }
 
+    /// No handshake is owed.
+    pub fn is_met(&self) -> bool
+        ensures { result ≡ not self.now.owes }
+    {
+        !self.owes
+    }
+
     /// A handshake is owed. It is so at the first call alone.
     pub fn owes(&mut self) -> bool
         ensures answer { result ≡ self.old.owes }
@@ -52,16 +59,15 @@ impl Peer {
         std::mem::replace(&mut self.owes, false)
     }
 
-    /// Keeps the first of the words, unless words were learnt before.
+    /// Keeps the first of the words, unless one was learnt before.
     #[tactic(auto, unfolding(crate::specs::Account::known_after))]
     pub fn learn(&mut self, words: &[u64]) -> bool
-        requires { 0 < length words.now }
         ensures answer { result ≡ is_none self.old.known }
         ensures after { self.new ≡ learnt self.old words.now }
     {
         let is_first = self.known.is_none();
         if is_first {
-            self.known = Some(words[0]);
+            self.known = words.first().copied();
         }
         is_first
     }
@@ -82,6 +88,13 @@ impl Peer {
             None => true,
             Some(word) => word / RAW_BIT % 2 == 1,
         }
+    }
+
+    /// The message number that comes next; none after the last number of 32 bits.
+    pub fn next_no(&self) -> Option<MsgNo>
+        ensures { result ≡ number_given self.now }
+    {
+        Some(MsgNo(self.next?))
     }
 
     /// Gives the next message number, each once; none after the last number of 32 bits.

@@ -69,6 +69,11 @@ pub hearing_room : (first : ℕ) (ring : Marks) → hearing_of first (marks_room
 unfolding is_heard
 hearing_room first ring = refl
 
+-- room that is given back is no part of what was heard
+pub hearing_spent : (first : ℕ) (ring : Marks) → hearing_of first (marks_spent ring) ≡ with_spent (hearing_of first ring)
+unfolding is_heard
+hearing_spent first ring = refl
+
 -- room that is made is no part of what a number is
 pub state_room : (a : Hearing) (n : ℕ) → state_of (with_room a) n ≡ state_of a n
 unfolding state_of
@@ -78,6 +83,10 @@ state_room a n = refl
 pub window_reserved : {E : Type 0} (first : ℕ) (ring new : Marks) (r : Result (Unit {0}) E) → OnOk r (new ≡ marks_room ring) → OnErr r (new ≡ ring) → IsWindow first ring → IsWindow first new
 window_reserved first ring new (Ok done) ok err w = subst (IsWindow first) (sym ok) (record { from = w.from; fits = w.fits; missing = w.missing })
 window_reserved first ring new (Err why) ok err w = subst (IsWindow first) (sym err) w
+
+-- a window in which a reservation was given back is one
+pub window_spent : (first : ℕ) (ring new : Marks) → new ≡ marks_spent ring → IsWindow first ring → IsWindow first new
+window_spent first ring new given w = subst (IsWindow first) (sym given) (record { from = w.from; fits = w.fits; missing = w.missing })
 
 -- no number of a new window was heard
 not_yet : (first q : ℕ) → is_heard first (none_marked first) q ≡ false

@@ -82,6 +82,14 @@ impl Ring {
         Ok(())
     }
 
+    /// Gives a reservation back.
+    pub(crate) fn give_back(&mut self)
+        requires { 0 < self.old.room }
+        ensures { self.new ≡ with_spent self.old }
+    {
+        self.room -= 1;
+    }
+
     /// Marks a number. It wants no memory, and spends one reservation.
     pub(crate) fn mark_reserved(&mut self, number: u32)
         requires from { self.old.next ≤ number }

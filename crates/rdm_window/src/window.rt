@@ -68,6 +68,14 @@ impl Window {
         }
     }
 
+    /// The least number that was not heard.
+    pub fn next_number(&self) -> u64
+        ensures answer { result ≡ self.now.next }
+        ensures least { IsLeastMissing self.now }
+    {
+        self.ring.next_number()
+    }
+
     /// Makes room for one more number to be heard without memory.
     pub fn reserve(&mut self) -> Result<(), NoMemory>
         ensures ok { OnOk result (self.new ≡ with_room self.old) }
@@ -75,6 +83,15 @@ impl Window {
         ensures least { IsLeastMissing self.new }
     {
         self.ring.reserve()
+    }
+
+    /// Gives a reservation back.
+    pub fn give_back(&mut self)
+        requires { 0 < self.old.room }
+        ensures after { self.new ≡ with_spent self.old }
+        ensures least { IsLeastMissing self.new }
+    {
+        self.ring.give_back();
     }
 
     /// Hears a number, and tells by how much the least number that was not heard rose.

@@ -1,0 +1,6 @@
+-- The proofs on the lives that are known.
+
+-- the accounts beside the tree map that keeps them
+mod Known
+-- what is answered of a life that is not known
+mod Strangers

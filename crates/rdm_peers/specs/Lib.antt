@@ -1,0 +1,7 @@
+-- The lives that are known, and what is kept of each.
+-- What is kept of one life, and its changes:
+pub mod Accounts
+-- The table of them:
+pub mod Table
+-- How both are stored:
+pub mod Codes
