@@ -1,16 +1,15 @@
 -- The accounts of lives beside the tree map that keeps them.
-use Rattle.std.proofs.Common.{◌≡◌, refl, sym, ap, subst, ◌∙◌, ℕ, ◌<◌, Bool, true, false, List, Option, Some, None, IsSome}
+use Rattle.std.proofs.Common.{◌≡◌, refl, sym, ap, subst, ◌∙◌, ℕ, ◌<◌, Bool, true, false, List, Option, Some, None, IsSome, arith}
 use Rattle.std.specs.Ordering.{nat_cmp, is_eq, eq_by_cmp}
 use Rattle.std.specs.Cmp.{IsTotalOrder, Equal-is, tied_itself, nat_cmp_total, then_total, on_total}
 use Rattle.std.specs.Prelude.{cond, is_some, option_map, unwrap_or}
-use Rattle.std.specs.Option.{IsSomeAnd}
 use Rattle.std.specs.Map.{lookup}
 use Rattle.std.specs.BTreeMap.{is_at}
 use Rattle.std.specs.FinMap as map
 use Rattle.std.proofs.lemmas.Map.Lookups.{exact_pairs, exact_unsigned}
 use Rattle.rdm_num.specs.declared.numbers.Life.{Life}
 use Rattle.rdm_window.proofs.Maps.{Changes, get_is_lookup, map_after, map_without}
-use Rattle.rdm_peers.specs.Accounts.{Acquaintance, stranger}
+use Rattle.rdm_peers.specs.Accounts.{Acquaintance, stranger, with_room}
 use Rattle.rdm_peers.specs.Table.{Key, Known, life_order, key_of, account_at, account_of, with_account, without_account, put_back, changed}
 
 -- keys are ordered in full
@@ -41,10 +40,6 @@ not_there o there none = let e : false ≡ true = sym (ap is_some none) ∙ ther
 pub found : (known : Known) (life : Life) (a : Acquaintance) → Some a ≡ account_at known life → a ≡ account_of known life
 found known life a is = ap (λ o. unwrap_or o (stranger known.first)) is
 
--- the account of a life that is not known
-pub not_found : (known : Known) (life : Life) → None ≡ account_at known life → stranger known.first ≡ account_of known life
-not_found known life is = ap (λ o. unwrap_or o (stranger known.first)) is
-
 -- the account of a life that is known, once w is put in its place
 module _ (known : Known) (life : Life) (a w : Acquaintance) (was : Some a ≡ account_at known life) where
   -- what was known, where w is the account itself
@@ -64,18 +59,25 @@ module _ (known : Known) (life : Life) (a w : Acquaintance) (was : Some a ≡ ac
   with_changed change is = ap (with_account known life) is ∙ ap (λ o. put_back known life (option_map change o)) was
 
 -- an account that was given to a life is there
-pub at_with : (known : Known) (life : Life) (w : Acquaintance) → account_at (with_account known life w) life ≡ Some w
+at_with : (known : Known) (life : Life) (w : Acquaintance) → account_at (with_account known life w) life ≡ Some w
 at_with known life w =
     map.get-insert life_order_total known.accounts (key_of life) w (key_of life)
     ∙ ap (λ r. cond (is_eq r) (Some w) (map.get known.accounts (key_of life))) (tied_itself life_order_total (key_of life))
 
--- what holds of the account that was given to a life holds of what is there
-pub holds_there : (known : Known) (life : Life) (w : Acquaintance) (P : Acquaintance → Type 0) → P w → IsSomeAnd (account_at (with_account known life w) life) P
-holds_there known life w P h = subst (λ o. IsSomeAnd o P) (sym (at_with known life w)) h
+-- it is that of the life
+pub given : (known : Known) (life : Life) (w : Acquaintance) → account_of (with_account known life w) life ≡ w
+given known life w = ap (λ o. unwrap_or o (stranger known.first)) (at_with known life w)
 
--- what holds of an account that is there holds of it by its name
-pub holds_of : (o : Option Acquaintance) (a : Acquaintance) (P : Acquaintance → Type 0) → Some a ≡ o → IsSomeAnd o P → P a
-holds_of o a P is h = subst (λ x. IsSomeAnd x P) (sym is) h
+-- a life that has room for messages is known
+pub roomy_known : (first : ℕ) (o : Option Acquaintance) → 0 < (unwrap_or o (stranger first)).hearing.room → IsSome o
+roomy_known first None h = absurd (let e : 0 < 0 = h in omega arith)
+roomy_known first (Some a) h = refl
+
+-- room that was made for a message is there
+pub room_made : (known : Known) (life : Life) (a w : Acquaintance) → w ≡ with_room a → 0 < (account_of (with_account known life w) life).hearing.room
+room_made known life a w is =
+    let some : 0 < (with_room a).hearing.room = omega arith in
+    subst (λ (x : Acquaintance). 0 < x.hearing.room) (sym (given known life w ∙ is)) some
 
 -- what is known beside the entries that keep it
 module _ (first : ℕ) (es : Entries) (known : Known) (is : known_of first es ≡ known) where

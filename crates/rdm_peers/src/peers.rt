@@ -1,6 +1,6 @@
 //! The lives that an endpoint knows.
-ghost use Rattle.std.specs.Prelude.{◌≡◌, ◌<◌, None, Some, IsSome, OnOk, OnErr, is_some};
-ghost use Rattle.std.specs.Option.{option_copied, IsSomeAnd};
+ghost use Rattle.std.specs.Prelude.{◌≡◌, ◌<◌, Some, IsSome, OnOk, OnErr, is_some, false};
+ghost use Rattle.std.specs.Option.{option_copied};
 ghost use Rattle.std.specs.Borrow.{sem, Lends};
 ghost use Rattle.rdm_peer.specs.Account as peer;
 ghost use Rattle.rdm_window.specs.Window.{state_of, IsLeastMissing};
@@ -62,7 +62,7 @@ impl Peers {
 
     /// Opens the account of a life that has none.
     pub fn open(&mut self, life: Life) -> Result<(), NoMemory>
-        requires { account_at self.old life ≡ None }
+        requires { is_some (account_at self.old life) ≡ false }
         ensures ok { OnOk result (self.new ≡ with_account self.old life (stranger self.old.first)) }
         ensures err { OnErr result (self.new ≡ self.old) }
     {
@@ -166,6 +166,7 @@ impl Peers {
     pub fn reserve_hear(&mut self, life: Life) -> Result<(), NoMemory>
         requires { IsSome (account_at self.old life) }
         ensures ok { OnOk result (self.new ≡ changed self.old life with_room) }
+        ensures room { OnOk result (0 < (account_of self.new life).hearing.room) }
         ensures err { OnErr result (self.new ≡ self.old) }
     {
         self.account_mut(life).reserve_hear()
@@ -173,7 +174,7 @@ impl Peers {
 
     /// Gives a reservation back.
     pub fn give_back_hear(&mut self, life: Life)
-        requires { IsSomeAnd (account_at self.old life) (λ a. 0 < a.hearing.room) }
+        requires { 0 < (account_of self.old life).hearing.room }
         ensures { self.new ≡ changed self.old life with_spent }
     {
         self.account_mut(life).give_back_hear();
@@ -182,10 +183,10 @@ impl Peers {
     /// Hears a message of the life, and tells by how much the number of the next one to enter rose. It wants no memory, and
     /// spends one reservation.
     pub fn hear(&mut self, life: Life, no: MsgNo) -> u64
-        requires state { IsSomeAnd (account_at self.old life) (λ a. state_of a.hearing no.0 ≡ Heard.New) }
-        requires room { IsSomeAnd (account_at self.old life) (λ a. 0 < a.hearing.room) }
+        requires state { state_of (account_of self.old life).hearing no.0 ≡ Heard.New }
+        requires room { 0 < (account_of self.old life).hearing.room }
         ensures after { self.new ≡ changed self.old life (with_heard no.0 result) }
-        ensures least { IsSomeAnd (account_at self.new life) (λ a. IsLeastMissing a.hearing) }
+        ensures least { IsLeastMissing (account_of self.new life).hearing }
     {
         self.account_mut(life).hear(no)
     }
