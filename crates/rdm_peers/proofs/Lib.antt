@@ -4,3 +4,5 @@
 mod Known
 -- what is answered of a life that is not known
 mod Strangers
+-- which account is that of a life after a change
+mod Keys

@@ -1,5 +1,5 @@
 -- How what is kept of lives is stored.
-use Rattle.std.specs.Prelude.{◌≡◌, ℕ, Bool, Option, refl}
+use Rattle.std.specs.Prelude.{ℕ, Bool, Option, refl}
 use Rattle.std.specs.Coded.{Coded, code_by, coded×, coded_ℕ, coded_bool, coded_option}
 use Rattle.std.specs.FinMap as map
 use Rattle.rdm_peer.specs.Account.{Account}

@@ -1,4 +1,4 @@
-use Rattle.std.proofs.Common.{◌≡◌, ◌<◌, ap, sym, subst, ◌∙◌}
+use Rattle.std.proofs.Common.{◌<◌, ap, sym, subst, ◌∙◌}
 use Rattle.rdm_window.specs.Window.{state_of, IsLeastMissing}
 use Rattle.rdm_peers.specs.Accounts.{Acquaintance, with_heard}
 use Rattle.rdm_peers.proofs.Known.{with_changed, found, given, roomy_known}
