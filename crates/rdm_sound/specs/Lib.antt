@@ -1,0 +1,7 @@
+-- An endpoint's record one step at a time.
+-- the steps of one receive or one message
+pub mod Steps
+-- what they rest on
+pub mod Premises
+-- so all at once is one after another
+pub mod Laws

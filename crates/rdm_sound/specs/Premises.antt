@@ -1,0 +1,31 @@
+-- What the record has to be for its steps to be taken one at a time.
+use Rattle.std.specs.Prelude.{◌≡◌, ℕ, true, List, [], ◌∷◌, map}
+use Rattle.rdm_lists.specs.Lists.{Member}
+use Rattle.rdm_match.specs.declared.PostedRecv.{PostedRecv}
+use Rattle.rdm_match.specs.Matcher.{Pair}
+use Rattle.rdm_model.specs.Completions.{Name}
+use Rattle.rdm_life.specs.Kept.{LiveReceive}
+use Rattle.rdm_life.specs.Memory.{is_place_of}
+
+-- no element stands twice
+abbrev pub AreOnce : {A : Type 0} → List A → Type 0
+AreOnce [] = Unit {0}
+AreOnce (x ∷ xs) = (Member x xs → ⊥) × AreOnce xs
+
+-- receives of one number are one
+abbrev pub AreNumbered : List LiveReceive → Type 0
+AreNumbered rs = (q r : LiveReceive) → Member q rs → Member r rs → q.receive.number ≡ r.receive.number → q ≡ r
+
+-- receives that have a place in common are one
+abbrev pub AreApart : List LiveReceive → Type 0
+AreApart rs =
+    (q r : LiveReceive) (region place : ℕ) → Member q rs → Member r rs
+    → is_place_of q.receive.req region place ≡ true → is_place_of r.receive.req region place ≡ true → q ≡ r
+
+-- the numbers of posted receives
+abbrev pub posted_numbers : List PostedRecv → List ℕ
+posted_numbers rs = map (λ (r : PostedRecv). r.id.0) rs
+
+-- the messages of pairs
+abbrev pub names_of : List Pair → List Name
+names_of ps = map (λ (p : Pair). record { life = p.message.life; number = p.message.no.0 }) ps
