@@ -7,3 +7,9 @@ pub mod SettlesEach
 -- messages and receives meet one pair after another
 pub mod Pairs
 pub mod Meets
+-- messages enter one after another
+pub mod Arrives
+pub mod Numbers
+pub mod Enters
+-- a receive that is posted, and a piece that lands
+pub mod Posts

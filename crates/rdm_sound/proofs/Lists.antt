@@ -63,8 +63,8 @@ find_left {A} t a b o (x ∷ xs) h =
     let rest = find_left t a b o xs (λ y m. h y (inr m)) in
     elim (h x (inl refl)) [
       | inl e ↦ (let one : (c : Bool) (ys : List A) → find t (cond c (x ∷ ys) ys) ≡ find t ys = λ c ys. elim c as (λ d. find t (cond d (x ∷ ys) ys) ≡ find t ys) [ true ↦ rw e refl | false ↦ refl ] in
-        one (a x) (filter a xs) ∙ rest
-        ∙ sym (elim (o x) as (λ c. find t (filter b (cond c (x ∷ filter o xs) (filter o xs))) ≡ find t (filter b (filter o xs))) [ true ↦ one (b x) (filter b (filter o xs)) | false ↦ refl ]))
+          one (a x) (filter a xs) ∙ rest
+          ∙ sym (elim (o x) as (λ c. find t (filter b (cond c (x ∷ filter o xs) (filter o xs))) ≡ find t (filter b (filter o xs))) [ true ↦ one (b x) (filter b (filter o xs)) | false ↦ refl ]))
       | inr e ↦ rw (e.0, e.1) (elim (b x) as (λ c. find t (cond c (x ∷ filter a xs) (filter a xs)) ≡ find t (cond c (x ∷ filter b (filter o xs)) (filter b (filter o xs)))) [
         | true ↦ ap (λ (y : Option A). cond (t x) (Some x) y) rest
         | false ↦ rest

@@ -99,10 +99,10 @@ settles_before n ps u not_there =
     ∙ (elim (find (is_receive n) u.receives) as (λ o. find (is_receive n) u.receives ≡ o → settle_found true o (with_pairs ps u) ≡ with_pairs ps (settle_found true o u)) [
       | None ↦ λ _. refl
       | Some r ↦ λ e. elim (is_full r.matched) as (λ b. with_replies true r (cond b (with_end r (with_pairs ps u)) (with_next_window r (with_pairs ps u)))
-        ≡ with_pairs ps (with_replies true r (cond b (with_end r u) (with_next_window r u)))) [
-        | true ↦ full_before ps u r
-        | false ↦ open_before n ps u r not_there (eqb-true r.receive.number n (find_member (is_receive n) r u.receives e).1)
-      ]
+          ≡ with_pairs ps (with_replies true r (cond b (with_end r u) (with_next_window r u)))) [
+            | true ↦ full_before ps u r
+            | false ↦ open_before n ps u r not_there (eqb-true r.receive.number n (find_member (is_receive n) r u.receives e).1)
+          ]
     ]) refl
 
 -- ---- one pair after another

@@ -71,14 +71,14 @@ early_stays : (p : Pair) (v : Kept) (ps : List Pair) (q : Pair) → (Member (rec
     → v.early q.message.life q.message.no.0 ≡ (taken p v).early q.message.life q.message.no.0
 early_stays p v ps q not_there m =
     let other : (same_life p.message.life q.message.life && p.message.no.0 == q.message.no.0) ≡ false =
-        false_from_ne_true (same_life p.message.life q.message.life && p.message.no.0 == q.message.no.0) (λ e.
-        let a = and_parts (same_life p.message.life q.message.life) (p.message.no.0 == q.message.no.0) e in
-        let life : q.message.life ≡ p.message.life = sym (same_life-true p.message.life q.message.life a.0) in
-        let number : q.message.no.0 ≡ p.message.no.0 = sym (eqb-true p.message.no.0 q.message.no.0 a.1) in
-        let name : Name = record { life = q.message.life; number = q.message.no.0 } in
-        let N : Life → ℕ → Name = λ l n. record { life = l; number = n } in
-        not_there (subst (λ (x : Name). Member x (names_of ps)) (ap (λ l. N l q.message.no.0) life ∙ ap (N p.message.life) number)
-        (map-member (λ (x : Pair). N x.message.life x.message.no.0) q ps m))) in
+    false_from_ne_true (same_life p.message.life q.message.life && p.message.no.0 == q.message.no.0) (λ e.
+    let a = and_parts (same_life p.message.life q.message.life) (p.message.no.0 == q.message.no.0) e in
+    let life : q.message.life ≡ p.message.life = sym (same_life-true p.message.life q.message.life a.0) in
+    let number : q.message.no.0 ≡ p.message.no.0 = sym (eqb-true p.message.no.0 q.message.no.0 a.1) in
+    let name : Name = record { life = q.message.life; number = q.message.no.0 } in
+    let N : Life → ℕ → Name = λ l n. record { life = l; number = n } in
+    not_there (subst (λ (x : Name). Member x (names_of ps)) (ap (λ l. N l q.message.no.0) life ∙ ap (N p.message.life) number)
+    (map-member (λ (x : Pair). N x.message.life x.message.no.0) q ps m))) in
     sym (ap (λ b. cond b None (v.early q.message.life q.message.no.0)) other)
 
 -- and a receive takes it as before
@@ -135,7 +135,7 @@ unfolding is_matched
 pairs_first p ps v no_number no_name =
     let P : List LiveReceive → (Life → ℕ → Option EarlyMessage) → (Life → ℕ) → ℕ → Kept = λ rs early early_of early_count. record v { receives = rs; early = early; early_of = early_of; early_count = early_count } in
     let early = fun_ext (λ life. fun_ext (λ number.
-        early_first (same_life p.message.life life && p.message.no.0 == number) (is_matched ps (record { life = life; number = number })) (v.early life number))) in
+    early_first (same_life p.message.life life && p.message.no.0 == number) (is_matched ps (record { life = life; number = number })) (v.early life number))) in
     let early_of = fun_ext (λ life. count_first (v.early_of life) (same_life p.message.life life) p (filter (λ (q : Pair). same_life q.message.life life) ps)) in
     ap (λ rs. P rs (with_pairs (p ∷ ps) v).early (with_pairs (p ∷ ps) v).early_of (with_pairs (p ∷ ps) v).early_count) (receives_first p v ps v.receives no_number no_name)
     ∙ ap (λ e. P (with_pairs ps (taken p v)).receives e (with_pairs (p ∷ ps) v).early_of (with_pairs (p ∷ ps) v).early_count) early

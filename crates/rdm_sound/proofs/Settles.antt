@@ -180,17 +180,17 @@ settle_full is_new n ns v r not_there numbered apart found full =
     let left : ℕ → List LiveReceive = λ k. filter (λ (q : LiveReceive). not (is_receive k q)) rs in
     let home = fun_ext (λ region. fun_ext (λ place. back_left n ns rs v.home r region place not_there numbered apart f.0 f.1 full)) in
     let owed : v.owed ++ (replies_by v.own is_new (find (is_receive n) rs) ++ flat_map (λ number. replies_by v.own is_new (receive_numbered v number)) ns)
-        ≡ (v.owed ++ replies_by v.own is_new (Some r)) ++ flat_map (λ number. replies_by v.own is_new (find (is_receive number) (left n))) ns =
-        ap (λ o. v.owed ++ (replies_by v.own is_new o ++ flat_map (λ number. replies_by v.own is_new (receive_numbered v number)) ns)) found
-        ∙ grow v.owed (replies_by v.own is_new (Some r)) _ _
-        (flat_map_same (λ number. replies_by v.own is_new (receive_numbered v number)) (λ number. replies_by v.own is_new (find (is_receive number) (left n))) ns
-        (λ k m. ap (replies_by v.own is_new) (others_left n k ns rs not_there m))) in
+    ≡ (v.owed ++ replies_by v.own is_new (Some r)) ++ flat_map (λ number. replies_by v.own is_new (find (is_receive number) (left n))) ns =
+    ap (λ o. v.owed ++ (replies_by v.own is_new o ++ flat_map (λ number. replies_by v.own is_new (receive_numbered v number)) ns)) found
+    ∙ grow v.owed (replies_by v.own is_new (Some r)) _ _
+    (flat_map_same (λ number. replies_by v.own is_new (receive_numbered v number)) (λ number. replies_by v.own is_new (find (is_receive number) (left n))) ns
+    (λ k m. ap (replies_by v.own is_new) (others_left n k ns rs not_there m))) in
     let done : v.completions ++ (completion_by (find (is_receive n) rs) ++ flat_map (λ number. completion_by (receive_numbered v number)) ns)
-        ≡ (v.completions ++ completion_of r r.matched) ++ flat_map (λ number. completion_by (find (is_receive number) (left n))) ns =
-        ap (λ o. v.completions ++ (completion_by o ++ flat_map (λ number. completion_by (receive_numbered v number)) ns)) found
-        ∙ grow v.completions (completion_of r r.matched) _ _
-        (flat_map_same (λ number. completion_by (receive_numbered v number)) (λ number. completion_by (find (is_receive number) (left n))) ns
-        (λ k m. ap completion_by (others_left n k ns rs not_there m))) in
+    ≡ (v.completions ++ completion_of r r.matched) ++ flat_map (λ number. completion_by (find (is_receive number) (left n))) ns =
+    ap (λ o. v.completions ++ (completion_by o ++ flat_map (λ number. completion_by (receive_numbered v number)) ns)) found
+    ∙ grow v.completions (completion_of r r.matched) _ _
+    (flat_map_same (λ number. completion_by (receive_numbered v number)) (λ number. completion_by (find (is_receive number) (left n))) ns
+    (λ k m. ap completion_by (others_left n k ns rs not_there m))) in
     put_same v _ _ _ _ _ _ _ _ home (receives_left v n ns rs r numbered f.0 f.1 full) owed done
     ∙ ap (λ (k : ℕ). settle is_new ns (with_replies is_new r (record v { home = with_back (r ∷ []) v.home; receives = left k; completions = v.completions ++ completion_of r r.matched }))) (sym number)
 
@@ -203,8 +203,11 @@ back_same v n ns r not_there numbered m is open_yet =
     filter_changed (with_window v.own) (is_filled_one (n ∷ ns)) (is_filled_one ns) (is_receive n) v.receives
     (λ x k. (elim (is_receive n x) as (λ b. is_receive n x ≡ b
     → ((b ≡ true) × (is_filled_one (n ∷ ns) x ≡ false) × (is_filled_one ns (with_window v.own x) ≡ false)) ⊎ ((b ≡ false) × (is_filled_one (n ∷ ns) x ≡ is_filled_one ns x))) [
-      | true ↦ λ e. inl (refl, first_filled n ns x e ∙ ap (λ (q : LiveReceive). is_full q.matched) (only_one n v.receives r x numbered m is k e) ∙ open_yet,
-        none_filled n ns (with_window v.own x) not_there (number_same v n x ∙ e))
+      | true ↦ λ e. inl (
+        refl,
+        first_filled n ns x e ∙ ap (λ (q : LiveReceive). is_full q.matched) (only_one n v.receives r x numbered m is k e) ∙ open_yet,
+        none_filled n ns (with_window v.own x) not_there (number_same v n x ∙ e),
+      )
       | false ↦ λ e. inr (refl, other_filled n ns x e)
     ]) refl)
 
@@ -218,8 +221,13 @@ receives_again v n ns r not_there numbered m is open_yet =
     (λ x k. (elim (is_receive n x) as (λ b. is_receive n x ≡ b
     → ((b ≡ true) × (not (is_filled_one (n ∷ ns) x) ≡ true) × (is_one_of (n ∷ ns) x ≡ true) × (not (is_filled_one ns (with_window v.own x)) ≡ true) × (is_one_of ns (with_window v.own x) ≡ false))
     ⊎ ((b ≡ false) × (not (is_filled_one (n ∷ ns) x) ≡ not (is_filled_one ns x)) × (is_one_of (n ∷ ns) x ≡ is_one_of ns x))) [
-      | true ↦ λ e. inl (refl, ap not (first_filled n ns x e ∙ ap (λ (q : LiveReceive). is_full q.matched) (only_one n v.receives r x numbered m is k e) ∙ open_yet), first_one n ns x e,
-        ap not (none_filled n ns (with_window v.own x) not_there (number_same v n x ∙ e)), none_of n ns (with_window v.own x) not_there (number_same v n x ∙ e))
+      | true ↦ λ e. inl (
+        refl,
+        ap not (first_filled n ns x e ∙ ap (λ (q : LiveReceive). is_full q.matched) (only_one n v.receives r x numbered m is k e) ∙ open_yet),
+        first_one n ns x e,
+        ap not (none_filled n ns (with_window v.own x) not_there (number_same v n x ∙ e)),
+        none_of n ns (with_window v.own x) not_there (number_same v n x ∙ e),
+      )
       | false ↦ λ e. inr (refl, ap not (other_filled n ns x e), other_one n ns x e)
     ]) refl)
 
@@ -243,18 +251,18 @@ settle_open is_new n ns v r not_there numbered found open_yet =
     let now : ℕ → List LiveReceive = λ k. change_where (is_receive k) (with_window v.own) rs in
     let home = ap (λ qs. with_back qs v.home) (back_same v n ns r not_there numbered f.0 f.1 open_yet) in
     let owed : v.owed ++ (replies_by v.own is_new (find (is_receive n) rs) ++ flat_map (λ number. replies_by v.own is_new (receive_numbered v number)) ns)
-        ≡ (v.owed ++ replies_by v.own is_new (Some r)) ++ flat_map (λ number. replies_by v.own is_new (find (is_receive number) (now n))) ns =
-        ap (λ o. v.owed ++ (replies_by v.own is_new o ++ flat_map (λ number. replies_by v.own is_new (receive_numbered v number)) ns)) found
-        ∙ grow v.owed (replies_by v.own is_new (Some r)) _ _
-        (flat_map_same (λ number. replies_by v.own is_new (receive_numbered v number)) (λ number. replies_by v.own is_new (find (is_receive number) (now n))) ns
-        (λ k m. ap (replies_by v.own is_new) (others_same v n k ns not_there m))) in
+    ≡ (v.owed ++ replies_by v.own is_new (Some r)) ++ flat_map (λ number. replies_by v.own is_new (find (is_receive number) (now n))) ns =
+    ap (λ o. v.owed ++ (replies_by v.own is_new o ++ flat_map (λ number. replies_by v.own is_new (receive_numbered v number)) ns)) found
+    ∙ grow v.owed (replies_by v.own is_new (Some r)) _ _
+    (flat_map_same (λ number. replies_by v.own is_new (receive_numbered v number)) (λ number. replies_by v.own is_new (find (is_receive number) (now n))) ns
+    (λ k m. ap (replies_by v.own is_new) (others_same v n k ns not_there m))) in
     let done : v.completions ++ (completion_by (find (is_receive n) rs) ++ flat_map (λ number. completion_by (receive_numbered v number)) ns)
-        ≡ v.completions ++ flat_map (λ number. completion_by (find (is_receive number) (now n))) ns =
-        ap (λ o. v.completions ++ (completion_by o ++ flat_map (λ number. completion_by (receive_numbered v number)) ns)) found
-        ∙ ap (λ cs. v.completions ++ (cs ++ flat_map (λ number. completion_by (receive_numbered v number)) ns)) (not_full r r.matched open_yet)
-        ∙ ap (λ cs. v.completions ++ cs)
-        (flat_map_same (λ number. completion_by (receive_numbered v number)) (λ number. completion_by (find (is_receive number) (now n))) ns
-        (λ k m. ap completion_by (others_same v n k ns not_there m))) in
+    ≡ v.completions ++ flat_map (λ number. completion_by (find (is_receive number) (now n))) ns =
+    ap (λ o. v.completions ++ (completion_by o ++ flat_map (λ number. completion_by (receive_numbered v number)) ns)) found
+    ∙ ap (λ cs. v.completions ++ (cs ++ flat_map (λ number. completion_by (receive_numbered v number)) ns)) (not_full r r.matched open_yet)
+    ∙ ap (λ cs. v.completions ++ cs)
+    (flat_map_same (λ number. completion_by (receive_numbered v number)) (λ number. completion_by (find (is_receive number) (now n))) ns
+    (λ k m. ap completion_by (others_same v n k ns not_there m))) in
     put_same v _ _ _ _ _ _ _ _ home (receives_again v n ns r not_there numbered f.0 f.1 open_yet) owed done
     ∙ ap (λ (k : ℕ). settle is_new ns (with_replies is_new r (record v { receives = now k }))) (sym number)
 

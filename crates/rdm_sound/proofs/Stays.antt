@@ -31,9 +31,9 @@ apart_changed f rs same apart q r region place m k x y =
     let a = member-map f q rs m in
     let b = member-map f r rs k in
     let left : is_place_of q.receive.req region place ≡ is_place_of a.0.receive.req region place =
-        sym (ap (λ (x : LiveReceive). is_place_of x.receive.req region place) a.2) ∙ ap (λ s. is_place_of s.req region place) (same a.0) in
+    sym (ap (λ (x : LiveReceive). is_place_of x.receive.req region place) a.2) ∙ ap (λ s. is_place_of s.req region place) (same a.0) in
     let right : is_place_of r.receive.req region place ≡ is_place_of b.0.receive.req region place =
-        sym (ap (λ (x : LiveReceive). is_place_of x.receive.req region place) b.2) ∙ ap (λ s. is_place_of s.req region place) (same b.0) in
+    sym (ap (λ (x : LiveReceive). is_place_of x.receive.req region place) b.2) ∙ ap (λ s. is_place_of s.req region place) (same b.0) in
     sym a.2 ∙ ap f (apart a.0 b.0 region place a.1 b.1 (sym left ∙ x) (sym right ∙ y)) ∙ b.2
 
 -- a change of those that pass leaves what each was accepted as

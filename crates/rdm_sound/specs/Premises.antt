@@ -1,10 +1,10 @@
--- What the record has to be for its steps to be taken one at a time.
-use Rattle.std.specs.Prelude.{◌≡◌, ℕ, true, List, [], ◌∷◌, map}
+-- What a record has to be for its steps to be taken one at a time.
+use Rattle.std.specs.Prelude.{◌≡◌, ◌<◌, ℕ, true, List, [], ◌∷◌, map}
 use Rattle.rdm_lists.specs.Lists.{Member}
 use Rattle.rdm_match.specs.declared.PostedRecv.{PostedRecv}
 use Rattle.rdm_match.specs.Matcher.{Pair}
 use Rattle.rdm_model.specs.Completions.{Name}
-use Rattle.rdm_life.specs.Kept.{LiveReceive}
+use Rattle.rdm_life.specs.Kept.{Kept, LiveReceive}
 use Rattle.rdm_life.specs.Memory.{is_place_of}
 
 -- no element stands twice
@@ -26,6 +26,18 @@ AreApart rs =
 abbrev pub posted_numbers : List PostedRecv → List ℕ
 posted_numbers rs = map (λ (r : PostedRecv). r.id.0) rs
 
+-- the numbers of the receives of pairs
+abbrev pub paired_numbers : List Pair → List ℕ
+paired_numbers ps = map (λ (p : Pair). p.recv.id.0) ps
+
 -- the messages of pairs
 abbrev pub names_of : List Pair → List Name
 names_of ps = map (λ (p : Pair). record { life = p.message.life; number = p.message.no.0 }) ps
+
+-- receives are told apart by their numbers, which were given, and by their places
+pub record IsOrderly (v : Kept) : Type 0 where
+  pub numbered : AreNumbered v.receives
+  pub given : (r : LiveReceive) → Member r v.receives → r.receive.number < v.receive_count
+  pub apart : AreApart v.receives
+  pub posted_once : AreOnce (posted_numbers v.posted)
+  pub posted_given : (r : PostedRecv) → Member r v.posted → r.id.0 < v.receive_count
