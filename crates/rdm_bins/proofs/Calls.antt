@@ -6,7 +6,7 @@ use Rattle.std.proofs.lemmas.List.{append-nil, append_assoc}
 use Rattle.rdm_num.specs.Lives.{same_life, is_life}
 use Rattle.rdm_match.specs.declared.PostedRecv.{PostedRecv}
 use Rattle.rdm_match.specs.declared.Arrived.{Arrived}
-use Rattle.rdm_match.specs.Matcher.{accepts, Pair, Matching, Event, Post, Arrive, Cancel, Forget, after, after_post, after_arrive, run}
+use Rattle.rdm_match.specs.Matcher.{accepts, Pair, Matching, Post, Arrive, Cancel, Forget, after, after_post, after_arrive, run}
 use Rattle.rdm_match.specs.Waiting.{Waiting, with_pairs, waiting_in, waiting_after, waiting_after_all, taken_by, taker_of, pair_of_post, pair_of_arrival, pair_told, pairs_told}
 use Rattle.rdm_bins.specs.Calls.{with_told, EventsTell, RunsTell, RunsGoOn, CancelsTakeOut, TakenWhereAny, names_any, is_of_any, ForgetsLeave}
 
@@ -23,27 +23,21 @@ arrive_adds w pairs a None = ap (λ (ps : List Pair). record { posted = w.posted
 arrive_adds w pairs a (Some r) = refl
 
 -- so does each event
-event_adds : (w : Waiting) (pairs : List Pair) (e : Event) → after (with_told w pairs) e ≡ with_told (waiting_after w e) (pairs ++ pair_told w e)
+pub events_tell : EventsTell
 unfolding with_pairs waiting_in waiting_after after pair_told taken_by taker_of
-event_adds w pairs (Post r) = post_adds w pairs r (find (accepts r) w.arrived)
-event_adds w pairs (Arrive a) = arrive_adds w pairs a (find (λ r. accepts r a) w.posted)
-event_adds w pairs (Cancel n) = ap (with_told (waiting_after w (Cancel n))) (sym (append-nil pairs))
-event_adds w pairs (Forget life) = ap (with_told (waiting_after w (Forget life))) (sym (append-nil pairs))
+events_tell w pairs (Post r) = post_adds w pairs r (find (accepts r) w.arrived)
+events_tell w pairs (Arrive a) = arrive_adds w pairs a (find (λ r. accepts r a) w.posted)
+events_tell w pairs (Cancel n) = ap (with_told (waiting_after w (Cancel n))) (sym (append-nil pairs))
+events_tell w pairs (Forget life) = ap (with_told (waiting_after w (Forget life))) (sym (append-nil pairs))
 
 -- and events in order
-run_adds : (w : Waiting) (pairs : List Pair) (es : List Event) → run (with_told w pairs) es ≡ with_told (waiting_after_all w es) (pairs ++ pairs_told w es)
-unfolding run waiting_after_all pairs_told
-run_adds w pairs [] = ap (with_told w) (sym (append-nil pairs))
-run_adds w pairs (e ∷ es) =
-    ap (λ (m : Matching). run m es) (event_adds w pairs e)
-    ∙ run_adds (waiting_after w e) (pairs ++ pair_told w e) es
-    ∙ ap (with_told (waiting_after_all (waiting_after w e) es)) (append_assoc pairs (pair_told w e) (pairs_told (waiting_after w e) es))
-
-pub events_tell : EventsTell
-events_tell w e = event_adds w [] e
-
 pub runs_tell : RunsTell
-runs_tell w es = run_adds w [] es
+unfolding run waiting_after_all pairs_told
+runs_tell w pairs [] = ap (with_told w) (sym (append-nil pairs))
+runs_tell w pairs (e ∷ es) =
+    ap (λ (m : Matching). run m es) (events_tell w pairs e)
+    ∙ runs_tell (waiting_after w e) (pairs ++ pair_told w e) es
+    ∙ ap (with_told (waiting_after_all (waiting_after w e) es)) (append_assoc pairs (pair_told w e) (pairs_told (waiting_after w e) es))
 
 pub runs_go_on : RunsGoOn
 unfolding waiting_after_all pairs_told

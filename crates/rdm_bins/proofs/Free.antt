@@ -1,13 +1,13 @@
 -- Numbers of which no receive is posted.
-use Rattle.std.proofs.Common.{◌≡◌, refl, ap, subst, ◌∙◌, Bool, true, false, not, cond, List, [], ◌∷◌, Option, Some, is_some, arith}
+use Rattle.std.proofs.Common.{◌≡◌, ℕ, suc, refl, ap, subst, ◌∙◌, Bool, true, false, not, cond, List, [], ◌∷◌, Option, Some, is_some, arith}
 use Rattle.std.specs.Prelude.{find, filter, T}
 use Rattle.rdm_lists.specs.Lists.{without_first}
 use Rattle.rdm_num.specs.Lives.{is_life}
 use Rattle.rdm_match.specs.declared.PostedRecv.{PostedRecv}
-use Rattle.rdm_match.specs.Matcher.{Post, Arrive, Cancel, Forget, is_recv, after}
-use Rattle.rdm_match.specs.Waiting.{with_pairs, waiting_in, waiting_after, is_posted}
+use Rattle.rdm_match.specs.Matcher.{Event, Post, Arrive, Cancel, Forget, is_recv, after}
+use Rattle.rdm_match.specs.Waiting.{Waiting, with_pairs, waiting_in, waiting_after, waiting_after_all, is_posted}
 use Rattle.rdm_match.proofs.Unposted.{free_after_post, free_after_arrive}
-use Rattle.rdm_bins.specs.Calls.{NumbersStayFree}
+use Rattle.rdm_bins.specs.Calls.{AreFreeFrom, PostsBelow, NumbersStayFree}
 
 -- where a search finds none, the first element fails, and it finds none behind it
 none_parts : {A : Type 0} (t : Bool) (x : A) (o : Option A) → is_some (cond t (Some x) o) ≡ false → (t ≡ false) × (is_some o ≡ false)
@@ -35,9 +35,16 @@ none_filtered p q (x ∷ xs) none =
       | false ↦ none_filtered p q xs parts.1
     ]
 
-pub numbers_stay_free : NumbersStayFree
+-- numbers from one on stay free over an event that posts only lesser ones
+pub stay_free : (n : ℕ) (w : Waiting) (e : Event) → PostsBelow n e → AreFreeFrom n w → AreFreeFrom n (waiting_after w e)
 unfolding waiting_after waiting_in with_pairs after is_posted
-numbers_stay_free n w (Post r) below free k from = free_after_post w r k (omega arith) (free k from)
-numbers_stay_free n w (Arrive a) below free k from = free_after_arrive w a k (free k from)
-numbers_stay_free n w (Cancel m) below free k from = none_without (is_recv k) (is_recv m) w.posted (free k from)
-numbers_stay_free n w (Forget life) below free k from = none_filtered (is_recv k) (λ (r : PostedRecv). not (is_life r.from life)) w.posted (free k from)
+stay_free n w (Post r) below free k from = free_after_post w r k (omega arith) (free k from)
+stay_free n w (Arrive a) below free k from = free_after_arrive w a k (free k from)
+stay_free n w (Cancel m) below free k from = none_without (is_recv k) (is_recv m) w.posted (free k from)
+stay_free n w (Forget life) below free k from = none_filtered (is_recv k) (λ (r : PostedRecv). not (is_life r.from life)) w.posted (free k from)
+
+-- and over events in order
+pub numbers_stay_free : NumbersStayFree
+unfolding waiting_after_all
+numbers_stay_free n w [] below free = free
+numbers_stay_free n w (e ∷ es) below free = numbers_stay_free n (waiting_after w e) es (λ k d within. below (suc k) d (omega arith)) (stay_free n w e (below 0 e (omega arith)) free)

@@ -1,6 +1,6 @@
 -- What calls of a matcher come to, in the plain matcher's lists.
 use Rattle.std.specs.Prelude.{◌≡◌, ℕ, ◌≤◌, ◌<◌, Bool, false, not, List, [], ◌∷◌, ◌++◌, map, filter, is_some, option_map}
-use Rattle.std.specs.List.{list_any}
+use Rattle.std.specs.List.{list_any, All}
 use Rattle.rdm_lists.specs.Lists.{without_first}
 use Rattle.rdm_num.specs.Lives.{same_life, is_life}
 use Rattle.rdm_num.specs.declared.numbers.Life.{Life}
@@ -13,13 +13,13 @@ use Rattle.rdm_match.specs.Waiting.{Waiting, waiting_after, waiting_after_all, p
 abbrev pub with_told : Waiting → List Pair → Matching
 with_told w pairs = record { posted = w.posted; arrived = w.arrived; pairs = pairs }
 
--- from lists with no pair, an event leaves what waits after it, and makes the pair that the answer to its call tells
+-- an event leaves what waits after it, whatever pairs were made, and makes the pair that the answer to its call tells
 abbrev pub EventsTell : Type 0
-EventsTell = (w : Waiting) (e : Event) → after (with_told w []) e ≡ with_told (waiting_after w e) (pair_told w e)
+EventsTell = (w : Waiting) (pairs : List Pair) (e : Event) → after (with_told w pairs) e ≡ with_told (waiting_after w e) (pairs ++ pair_told w e)
 
 -- so do events in order
 abbrev pub RunsTell : Type 0
-RunsTell = (w : Waiting) (es : List Event) → run (with_told w []) es ≡ with_told (waiting_after_all w es) (pairs_told w es)
+RunsTell = (w : Waiting) (pairs : List Pair) (es : List Event) → run (with_told w pairs) es ≡ with_told (waiting_after_all w es) (pairs ++ pairs_told w es)
 
 -- one event more comes to what waits after the others
 abbrev pub RunsGoOn : Type 0
@@ -65,6 +65,6 @@ PostsBelow n (Arrive a) = Unit {0}
 PostsBelow n (Cancel k) = Unit {0}
 PostsBelow n (Forget life) = Unit {0}
 
--- numbers from one on stay free over each event that posts only lesser ones
+-- numbers from one on stay free over events that post only lesser ones
 abbrev pub NumbersStayFree : Type 0
-NumbersStayFree = (n : ℕ) (w : Waiting) (e : Event) → PostsBelow n e → AreFreeFrom n w → AreFreeFrom n (waiting_after w e)
+NumbersStayFree = (n : ℕ) (w : Waiting) (es : List Event) → All (PostsBelow n) es → AreFreeFrom n w → AreFreeFrom n (waiting_after_all w es)
