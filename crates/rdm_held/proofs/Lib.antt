@@ -3,7 +3,7 @@
 -- how many keys of a map pass a test
 pub mod Counts
 -- the bytes of a message that came
--- pub mod Came
+pub mod Came
 -- which ranges of it are awaited
 -- pub mod Missing
 -- the keys of messages

@@ -6,4 +6,4 @@ mod Flags
 mod Marked
 mod Advanced
 mod Told
-mod Awaited
+pub mod Awaited
