@@ -5,7 +5,7 @@ pub mod Counts
 -- the bytes of a message that came
 pub mod Came
 -- which ranges of it are awaited
--- pub mod Missing
+pub mod Missing
 -- the keys of messages
 -- pub mod Keys
 -- each call
