@@ -124,7 +124,7 @@ module _ {K X : Type 0} {R : K → K → Ordering} (o : IsTotalOrder R) (same : 
   of_entries m = map.same_map o same _ _ (λ q. map.get-from_entries o (map.entries m) q ∙ sym (map.get-entries m q))
 
   -- a map of nothing has no key that passes
-  kept_empty : (p : K → Bool) → map.retain_keys (map.empty {X = X} {R = R}) p ≡ map.empty
+  pub kept_empty : (p : K → Bool) → map.retain_keys (map.empty {X = X} {R = R}) p ≡ map.empty
   kept_empty p =
       map.same_map o same _ _ (λ q. get_kept map.empty p q ∙ none_there (p q) (map.get map.empty q) (map.get-empty R q) ∙ sym (map.get-empty R q))
 

@@ -7,6 +7,6 @@ pub mod Came
 -- which ranges of it are awaited
 pub mod Missing
 -- the keys of messages
--- pub mod Keys
+pub mod Keys
 -- each call
--- pub mod Calls
+pub mod Calls
