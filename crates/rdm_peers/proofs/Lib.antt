@@ -6,3 +6,7 @@ mod Known
 mod Strangers
 -- which account is that of a life after a change
 mod Keys
+-- that the table shows the record
+mod Shows
+-- and the laws of that
+mod ShownLaws

@@ -5,3 +5,6 @@ pub mod Accounts
 pub mod Table
 -- How both are stored:
 pub mod Codes
+-- That it shows what an endpoint's record keeps of lives, and that it still does after each change:
+pub mod Shown
+pub mod Laws

@@ -3,8 +3,10 @@
 #![tactic(auto)]
 
 mod account;
+mod laws;
 mod peers;
 #[cfg(test)]
 mod tests;
 
+pub use laws::peers_law;
 pub use peers::Peers;
