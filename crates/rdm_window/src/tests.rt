@@ -12,9 +12,10 @@ enum Call {
     /// Each number from the first to before the second is new, and one enters by it.
     HearAll(u32, u32),
     State(u32, Heard),
+    Next(u64),
 }
 
-use Call::{Hear, HearAll, State};
+use Call::{Hear, HearAll, Next, State};
 use Heard::{Entered, New, Waiting};
 
 /// Hears a number that is new. None where it is not.
@@ -30,7 +31,10 @@ fn hear_reserved(window: &mut Window, no: MsgNo) -> Result<Option<u64>, NoMemory
     window.reserve()?;
     match window.state(no) {
         New => Ok(Some(window.hear_reserved(no))),
-        Waiting | Entered => Ok(None),
+        Waiting | Entered => {
+            window.give_back();
+            Ok(None)
+        }
     }
 }
 
@@ -60,6 +64,7 @@ fn run(rt: &impl Abort, alloc: Global, first: u32, calls: &[Call]) -> Result<(),
                     }
                 }
                 State(number, state) => assert!(rt; window.state(MsgNo(*number)) == *state),
+                Next(next) => assert!(rt; window.next_number() == *next),
             }
         }
     }
@@ -72,7 +77,10 @@ fn numbers_enter_in_order(rt: HostRuntime) -> Result<(), Fail> {
         Hear(2, Some(0)),
         State(2, Waiting),
         Hear(0, Some(1)),
+        Hear(2, None),
+        Next(1),
         Hear(1, Some(2)),
+        Next(3),
         State(1, Entered),
         State(3, New),
     ];
@@ -89,6 +97,7 @@ fn numbers_enter_in_order(rt: HostRuntime) -> Result<(), Fail> {
         Hear(u32::MAX - 1, Some(2)),
         State(u32::MAX, Entered),
         Hear(u32::MAX, None),
+        Next(1 << 32),
     ];
     run(&rt, rt.alloc(), u32::MAX - 1, &the_last)?;
     let far_above_the_ring = [
