@@ -1,7 +1,8 @@
 -- The laws of what is shown.
 use Rattle.std.proofs.Common.{◌≡◌, refl, sym, ap, subst, ◌∙◌, ℕ, ◌+◌, Bool, true, false, List, Option, Some, None, arith}
-use Rattle.std.specs.Prelude.{◌||◌, if◌then◌else◌, slice_get, unwrap_or}
+use Rattle.std.specs.Prelude.{◌||◌, if◌then◌else◌, nat_lt, slice_get, unwrap_or}
 use Rattle.std.specs.FinMap as map
+use Rattle.std.specs.FinSet as set
 use Rattle.rdm_lists.specs.Lists.{or_else}
 use Rattle.rdm_num.specs.Lives.{same_life}
 use Rattle.rdm_num.specs.declared.numbers.Life.{Life}
@@ -15,13 +16,14 @@ use Rattle.rdm_life.specs.Sending.{send_to}
 use Rattle.rdm_life.specs.Receiving.{heard_run, hear, enter, entering_in}
 use Rattle.rdm_life.specs.Handling.{after_item}
 use Rattle.rdm_peer.specs.Account.{Account, known_after, after_number}
-use Rattle.rdm_window.specs.Window.{IsLeastMissing}
+use Rattle.rdm_window.specs.declared.window.Heard.TheVariants.{New, Waiting, Entered}
+use Rattle.rdm_window.specs.Window.{IsLeastMissing, state_of}
 use Rattle.rdm_peers.specs.Accounts.{Acquaintance, stranger, greeted, told, numbered, with_room, with_spent, with_heard}
 use Rattle.rdm_peers.specs.Table.{Known, life_order, key_of, account_of, without_account, changed}
-use Rattle.rdm_peers.specs.Shown.{ShowsPeer, ShowsPeers}
-use Rattle.rdm_peers.specs.Laws.{NobodyShows, OpeningShows, RoomShows, MeetingShows, LearningShows, NumberingShows, HearingShows, ForgettingShows}
+use Rattle.rdm_peers.specs.Shown.{ShowsPeer, ShowsPeers, state_in}
+use Rattle.rdm_peers.specs.Laws.{NobodyShows, OpeningShows, RoomShows, MeetingShows, PassingShows, AnsweringShows, LearningShows, NumberingShows, HearingShows, ForgettingShows}
 use Rattle.rdm_peers.proofs.Keys.{changed_is, changed_account, unknown}
-use Rattle.rdm_peers.proofs.Shows.{stranger_shown, with_one, shown_changed, shown_still, shown_without, heard_of, risen_by, run_risen, heard_shown}
+use Rattle.rdm_peers.proofs.Shows.{stranger_shown, with_one, shown_changed, shown_still, shown_without, either_way, heard_of, risen_by, run_risen, heard_shown}
 
 pub nobody_shows : NobodyShows
 nobody_shows first life =
@@ -31,15 +33,19 @@ pub opening_shows : OpeningShows
 opening_shows known life v shown none =
     shown_still known life v.peers shown (stranger known.first) (subst (λ (a : Acquaintance). ShowsPeer known.first a (v.peers life)) (unknown known life none) (shown life))
 
+-- what a record shows, once its peers are told otherwise
+shown_as : (known : Known) (p q : Life → Peer) → ((life : Life) → p life ≡ q life) → ShowsPeers known p → ShowsPeers known q
+shown_as known p q same shown life = subst (λ (r : Peer). ShowsPeer known.first (account_of known life) r) (same life) (shown life)
+
 -- room is no part of what is shown
 roomy : (first : ℕ) (a : Acquaintance) (p : Peer) → ShowsPeer first a p → ShowsPeer first (with_room a) p
 roomy first a p s =
-    record { met = s.met; known = s.known; number = s.number; heard = s.heard; next = s.next; least = record { from = s.least.from; before = s.least.before; missing = s.least.missing; numbers = s.least.numbers } }
+    record { met = s.met; known = s.known; first_heard = s.first_heard; number = s.number; heard = s.heard; next = s.next; least = record { from = s.least.from; before = s.least.before; missing = s.least.missing; numbers = s.least.numbers } }
 
 -- nor is room that is given back
 spent : (first : ℕ) (a : Acquaintance) (p : Peer) → ShowsPeer first a p → ShowsPeer first (with_spent a) p
 spent first a p s =
-    record { met = s.met; known = s.known; number = s.number; heard = s.heard; next = s.next; least = record { from = s.least.from; before = s.least.before; missing = s.least.missing; numbers = s.least.numbers } }
+    record { met = s.met; known = s.known; first_heard = s.first_heard; number = s.number; heard = s.heard; next = s.next; least = record { from = s.least.from; before = s.least.before; missing = s.least.missing; numbers = s.least.numbers } }
 
 pub room_shows : RoomShows
 room_shows known life v shown there =
@@ -52,7 +58,11 @@ unfolding greet
 meeting_shows known life raw v shown there =
     let s = shown life in
     shown_changed known life v.peers shown greeted (λ p. record p { met = true }) there
-    (record { met = refl; known = s.known; number = s.number; heard = s.heard; next = s.next; least = s.least })
+    (record { met = refl; known = s.known; first_heard = s.first_heard; number = s.number; heard = s.heard; next = s.next; least = s.least })
+
+pub passing_shows : PassingShows
+unfolding greet
+passing_shows known life raw v shown = shown_as known v.peers _ (λ other. sym (either_way (same_life other life) (v.peers other))) shown
 
 -- the first word that was learnt, either way
 first_word : (known : Option ℕ) (words : List ℕ) → or_else known (slice_get words 0) ≡ known_after known words
@@ -68,6 +78,7 @@ learning_shows known life words connid raw v shown there =
     (record {
       met = s.met;
       known = ap (λ o. or_else o (slice_get words 0)) s.known ∙ first_word (account_of known life).peer.known words;
+      first_heard = s.first_heard;
       number = s.number;
       heard = s.heard;
       next = s.next;
@@ -87,11 +98,7 @@ numbering_shows known life req v shown there left =
     let after : after_number a ≡ record a { next = a.next + 1 } = ap (λ b. if b then record a { next = a.next + 1 } else a) left in
     shown_changed known life v.peers shown numbered (λ p. record p { messages = p.messages + 1 }) there
     (subst (λ (b : Account). ShowsPeer known.first (record (account_of known life) { peer = b }) (record p { messages = p.messages + 1 })) (sym after)
-    (record { met = s.met; known = s.known; number = one_more known.first p.messages a.next s.number; heard = s.heard; next = s.next; least = s.least }))
-
--- what a record shows, once its peers are told otherwise
-shown_as : (known : Known) (p q : Life → Peer) → ((life : Life) → p life ≡ q life) → ShowsPeers known p → ShowsPeers known q
-shown_as known p q same shown life = subst (λ (r : Peer). ShowsPeer known.first (account_of known life) r) (same life) (shown life)
+    (record { met = s.met; known = s.known; first_heard = s.first_heard; number = one_more known.first p.messages a.next s.number; heard = s.heard; next = s.next; least = s.least }))
 
 -- the life that is forgotten is the one
 among_one : (b : Bool) (x y : Peer) → (if b then x else y) ≡ (if b || false then x else y)
@@ -109,6 +116,17 @@ forgetting_shows known life v shown same =
 twice : (b : Bool) (f g : Peer → Peer) (p : Peer) → (if b then g (f p) else p) ≡ (if b then g (if b then f p else p) else (if b then f p else p))
 twice true f g p = refl
 twice false f g p = refl
+
+pub answering_shows : AnsweringShows
+unfolding state_of state_in
+answering_shows known life n v shown =
+    let s = shown life in
+    let next : (account_of known life).hearing.next ≡ (v.peers life).next = sym s.next in
+    let there : set.contains (account_of known life).hearing.heard n ≡ (v.peers life).heard n = sym (s.heard n) in (
+      λ i. if nat_lt n (next i) then Entered else if there i then Waiting else New,
+      λ from below. (let begins : (account_of known life).hearing.first ≡ known.first = s.first_heard in
+          s.heard n ∙ s.least.before n (omega arith) (omega arith)),
+    )
 
 pub hearing_shows : HearingShows
 unfolding hear enter meet settle

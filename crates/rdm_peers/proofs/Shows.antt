@@ -35,6 +35,7 @@ stranger_shown first =
     record {
       met = refl;
       known = refl;
+      first_heard = refl;
       number = omega arith;
       heard = λ n. sym (set.contains-empty nat_cmp n);
       next = refl;
@@ -46,7 +47,7 @@ abbrev pub with_one : (Life → Peer) → Life → (Peer → Peer) → Life → 
 with_one peers life change other = if same_life other life then change (peers other) else peers other
 
 -- one of two that are the same
-either_way : {A : Type 0} (b : Bool) (x : A) → (if b then x else x) ≡ x
+pub either_way : {A : Type 0} (b : Bool) (x : A) → (if b then x else x) ≡ x
 either_way true x = refl
 either_way false x = refl
 
@@ -120,6 +121,7 @@ module _ (first : ℕ) (a : Acquaintance) (p : Peer) (number risen : ℕ) (s : S
       record {
         met = s.met;
         known = s.known;
+        first_heard = s.first_heard;
         number = s.number;
         heard = heard_same;
         next = ap (λ n. n + risen) s.next;

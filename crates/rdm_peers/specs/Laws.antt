@@ -1,5 +1,5 @@
 -- What each change of the table shows of the record.
-use Rattle.std.specs.Prelude.{◌≡◌, ℕ, ◌≤◌, true, false, is_some, List, [], ◌∷◌, Option, Some, IsSome}
+use Rattle.std.specs.Prelude.{◌≡◌, ℕ, ◌<◌, ◌≤◌, true, false, is_some, List, [], ◌∷◌, Option, Some, IsSome}
 use Rattle.rdm_num.specs.declared.numbers.Life.{Life}
 use Rattle.rdm_num.specs.declared.numbers.Connid.{Connid}
 use Rattle.rdm_num.specs.declared.numbers.PortNo.{PortNo}
@@ -7,7 +7,7 @@ use Rattle.rdm_num.specs.declared.request.SendReq.{SendReq}
 use Rattle.rdm_pkt.specs.declared.Packet.TheVariants.{Handshake}
 use Rattle.rdm_model.specs.Deeds.{Spelled}
 use Rattle.rdm_peer.specs.Account.{has_number}
-use Rattle.rdm_window.specs.Window.{IsLeastMissing}
+use Rattle.rdm_window.specs.Window.{IsLeastMissing, state_of}
 use Rattle.rdm_life.specs.Kept as record_of
 use Rattle.rdm_life.specs.Kept.{Kept, EarlyMessage}
 use Rattle.rdm_life.specs.Lives.{greet}
@@ -17,7 +17,7 @@ use Rattle.rdm_life.specs.Receiving.{hear, enter, entering_in}
 use Rattle.rdm_life.specs.Handling.{after_item}
 use Rattle.rdm_peers.specs.Accounts.{stranger, greeted, told, numbered, with_room, with_spent, with_heard}
 use Rattle.rdm_peers.specs.Table.{Known, nobody, account_at, account_of, with_account, changed, without_account}
-use Rattle.rdm_peers.specs.Shown.{ShowsPeers}
+use Rattle.rdm_peers.specs.Shown.{ShowsPeers, state_in}
 
 -- where no life is known, each is a stranger
 abbrev pub NobodyShows : Type 0
@@ -39,6 +39,17 @@ abbrev pub MeetingShows : Type 0
 MeetingShows =
     (known : Known) (life : Life) (raw : Option PortNo) (v : Kept) → ShowsPeers known v.peers → IsSome (account_at known life)
     → ShowsPeers (changed known life greeted) (greet true life raw v).peers
+
+-- one that is not is left as it was
+abbrev pub PassingShows : Type 0
+PassingShows =
+    (known : Known) (life : Life) (raw : Option PortNo) (v : Kept) → ShowsPeers known v.peers → ShowsPeers known (greet false life raw v).peers
+
+-- a number is what the record says, and those from the first on that entered were heard
+abbrev pub AnsweringShows : Type 0
+AnsweringShows =
+    (known : Known) (life : Life) (n : ℕ) (v : Kept) → ShowsPeers known v.peers
+    → (state_of (account_of known life).hearing n ≡ state_in (v.peers life) n) × (known.first ≤ n → n < (v.peers life).next → (v.peers life).heard n ≡ true)
 
 -- what a life tells is what a handshake from it tells
 abbrev pub LearningShows : Type 0

@@ -1,5 +1,5 @@
 //! What the table shows of an endpoint's record.
-ghost use Rattle.rdm_peers.specs.Laws.{NobodyShows, OpeningShows, RoomShows, MeetingShows, LearningShows, NumberingShows, HearingShows, ForgettingShows};
+ghost use Rattle.rdm_peers.specs.Laws.{NobodyShows, OpeningShows, RoomShows, MeetingShows, PassingShows, AnsweringShows, LearningShows, NumberingShows, HearingShows, ForgettingShows};
 
 /// The accounts show what the record keeps of lives, before any is known and after each change.
 pub fn peers_law()
@@ -7,6 +7,8 @@ pub fn peers_law()
     ensures opening { OpeningShows }
     ensures room { RoomShows }
     ensures meeting { MeetingShows }
+    ensures passing { PassingShows }
+    ensures answering { AnsweringShows }
     ensures learning { LearningShows }
     ensures numbering { NumberingShows }
     ensures hearing { HearingShows }
