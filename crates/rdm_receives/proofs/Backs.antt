@@ -75,12 +75,12 @@ bytes_show r l m bytes is s e all long there =
     let size' : length (map l.part (below n)) ≡ n = length-map (below n) l.part ∙ size in
     let count : length bytes ≡ n = omega (arith, long, len, f.0) in
     ext_get_or 0 bytes (map l.part (below n)) (count ∙ sym size') (λ k lt.
-      let full = full_waits r.number r.landed r.message is.message is.agrees (f.1 all) k in
-      let a = byte_there bytes r.landed.tiles.cells there k lt in
-      let b = s.cells k (omega (arith, lt, long)) full in
-      let c : Some (get_or bytes k 0) ≡ Some (l.part k) = sym a ∙ b in
-      let d : get_or bytes k 0 ≡ l.part k = cc in
-      d ∙ sym (get_or-map l.part (below n) k 0 0 (omega (arith, lt, count, size)) ∙ ap l.part (get_or-below n k 0 (omega (arith, lt, count)))))
+    let full = full_waits r.number r.landed r.message is.message is.agrees (f.1 all) k in
+    let a = byte_there bytes r.landed.tiles.cells there k lt in
+    let b = s.cells k (omega (arith, lt, long)) full in
+    let c : Some (get_or bytes k 0) ≡ Some (l.part k) = sym a ∙ b in
+    let d : get_or bytes k 0 ≡ l.part k = cc in
+    d ∙ sym (get_or-map l.part (below n) k 0 0 (omega (arith, lt, count, size)) ∙ ap l.part (get_or-below n k 0 (omega (arith, lt, count)))))
 
 pub excess_shows : ExcessShows
 excess_shows r l m is s e =
@@ -93,14 +93,13 @@ part_shows r l p is s o all =
     let long = length-map p.bytes Some in
     let cells : map Some p.bytes ≡ r.landed.tiles.cells = all.3 in
     let size = ap length cells in
-    let len = ap (λ (q : RecvReq). q.len) s.req in
-    (
+    let len = ap (λ (q : RecvReq). q.len) s.req in (
       omega (arith, long, size, len, is.places),
       λ k lt.
-      let b = s.cells k (omega (arith, lt, long, size, is.places)) (free k o) in
-      let c : Some (get_or p.bytes k 0) ≡ Some (l.part k) = sym (get_or-map Some p.bytes k 0 None lt) ∙ ap (λ x. get_or x k None) cells ∙ b in
-      let d : get_or p.bytes k 0 ≡ l.part k = cc in
-      sym d,
+          let b = s.cells k (omega (arith, lt, long, size, is.places)) (free k o) in
+          let c : Some (get_or p.bytes k 0) ≡ Some (l.part k) = sym (get_or-map Some p.bytes k 0 None lt) ∙ ap (λ x. get_or x k None) cells ∙ b in
+          let d : get_or p.bytes k 0 ≡ l.part k = cc in
+          sym d,
     )
   where
     free : (k : ℕ) → (r.message ≡ None) ⊎ (is_full r.landed r.message ≡ true) → waits r.landed k ≡ false

@@ -88,9 +88,9 @@ module _ (missing : List Bool) (lent : List Span) (taken : (k : ℕ) → have k 
 
   clear : (k : ℕ) → at ≤ k → k < at + length bytes → have k lent ≡ false
   clear k p q = elim (have k lent) as (λ b. have k lent ≡ b → b ≡ false) [
-      | true ↦ λ e. (let a = taken k e in let b = all_at true false at (length bytes) k missing m p q in cc)
-      | false ↦ λ e. refl
-    ] refl
+    | true ↦ λ e. (let a = taken k e in let b = all_at true false at (length bytes) k missing m p q in cc)
+    | false ↦ λ e. refl
+  ] refl
 
   -- the places that came are those that came before and those of the piece
   pub come_more : (k : ℕ) (before : Bool) → before ≡ (nat_lt k (length missing) && not (have k lent || get_or missing k false))
@@ -100,13 +100,13 @@ module _ (missing : List Bool) (lent : List Span) (taken : (k : ℕ) → have k 
       (λ p q.
       ap (λ b. before || b) (byte_in_some piece k p q) ∙ or_some before
       ∙ sym (ap (λ n. nat_lt k n && not (have k lent || get_or (with_range false at (length bytes) missing) k false)) size
-        ∙ ap (λ b. b && not (have k lent || get_or (with_range false at (length bytes) missing) k false)) (lt-ltb k (length missing) (omega (arith, m.0)))
-        ∙ ap (λ b. not (b || get_or (with_range false at (length bytes) missing) k false)) (clear k p q)
-        ∙ ap (λ b. not b) (set_in false at (length bytes) missing m.0 k p q)))
+      ∙ ap (λ b. b && not (have k lent || get_or (with_range false at (length bytes) missing) k false)) (lt-ltb k (length missing) (omega (arith, m.0)))
+      ∙ ap (λ b. not (b || get_or (with_range false at (length bytes) missing) k false)) (clear k p q)
+      ∙ ap (λ b. not b) (set_in false at (length bytes) missing m.0 k p q)))
       (λ o.
       ap (λ b. before || b) (outside o) ∙ or_none before ∙ e
       ∙ sym (ap (λ n. nat_lt k n && not (have k lent || get_or (with_range false at (length bytes) missing) k false)) size
-        ∙ ap (λ b. nat_lt k (length missing) && not (have k lent || b)) (set_out false at (length bytes) missing m.0 k o)))
+      ∙ ap (λ b. nat_lt k (length missing) && not (have k lent || b)) (set_out false at (length bytes) missing m.0 k o)))
     where
       outside : (k < at) ⊎ (at + length bytes ≤ k) → is_some (byte_in (record { offset = at; bytes = bytes }) k) ≡ false
       outside (inl p) = ap is_some (byte_in_before piece k p)

@@ -71,11 +71,11 @@ module _ (l : Landed) (r : ReceivingView) (m : Matched) (s : ShowsMessage l r m)
   unfolding items_of
   items_are own is_new number e =
       sym (
-        ap (λ (n : OpId). items is_new n (window_if (has_landed l (Some r)) own.limits r) (is_full l (Some r)) r.number r.head) e
-        ∙ ap (λ w. items is_new number w (is_full l (Some r)) r.number r.head) (window_is own)
-        ∙ ap (λ b. items is_new number (next_window own m) b r.number r.head) full_is
-        ∙ ap (λ n. items is_new number (next_window own m) (has_all m) n r.head) number_is
-        ∙ ap (λ h. items is_new number (next_window own m) (has_all m) (record { 0 = m.number }) h) s.head)
+      ap (λ (n : OpId). items is_new n (window_if (has_landed l (Some r)) own.limits r) (is_full l (Some r)) r.number r.head) e
+      ∙ ap (λ w. items is_new number w (is_full l (Some r)) r.number r.head) (window_is own)
+      ∙ ap (λ b. items is_new number (next_window own m) b r.number r.head) full_is
+      ∙ ap (λ n. items is_new number (next_window own m) (has_all m) n r.head) number_is
+      ∙ ap (λ h. items is_new number (next_window own m) (has_all m) (record { 0 = m.number }) h) s.head)
     where
       items : Bool → OpId → ℕ → Bool → MsgNo → Head → List Item
       items is_new n w full number h = (if is_new then map Asks (asks_for h.shape n) else []) ++ grant_for own h.shape n w ++ (if full then end_for own h.shape h.confirm number n else [])

@@ -57,11 +57,11 @@ module _ (l : Landing) (at len : ℕ) (part : Piece) (may : MayLend l at len) wh
       ap (λ b. b || get_or missing k false) (have-with_span k (span at len) l.lent)
       ∙ by_range at len k
       (λ p q.
-        ap (λ b. (b || have k l.lent) || get_or missing k false) (has_yes k (span at len) p q)
-        ∙ sym (ap (λ b. have k l.lent || b) (all_at true false at len k l.missing may.0 p q) ∙ or_some (have k l.lent)))
+      ap (λ b. (b || have k l.lent) || get_or missing k false) (has_yes k (span at len) p q)
+      ∙ sym (ap (λ b. have k l.lent || b) (all_at true false at len k l.missing may.0 p q) ∙ or_some (have k l.lent)))
       (λ o.
-        ap (λ b. (b || have k l.lent) || get_or missing k false) (has_out k (span at len) o)
-        ∙ ap (λ b. have k l.lent || b) (set_out false at len l.missing may.0.0 k o))
+      ap (λ b. (b || have k l.lent) || get_or missing k false) (has_out k (span at len) o)
+      ∙ ap (λ b. have k l.lent || b) (set_out false at len l.missing may.0.0 k o))
 
   -- it waits
   lend_in : (k : ℕ) → at ≤ k → k < at + len → waits l k ≡ true
@@ -75,9 +75,9 @@ lend_shows r l at len part s may is =
     let long = length-map part.bytes Some in
     let begin : part.start - d.tiles.start ≡ at = omega (arith, is.1) in
     waiting_change r l (with_lent d at len part) s (length-set false at len d.missing may.0.0) (lend_waits d at len part may) (λ k free.
-      by_range at len k
-      (λ p q. absurd (true≢false (sym (sym free ∙ lend_waits d at len part may k ∙ lend_in d at len part may k p q))))
-      (λ o. new_out (part.start - d.tiles.start) (replicate n None) d.tiles.cells None (omega (arith, gone, long, begin, is.3.0)) k (beside k o gone begin)))
+    by_range at len k
+    (λ p q. absurd (true≢false (sym (sym free ∙ lend_waits d at len part may k ∙ lend_in d at len part may k p q))))
+    (λ o. new_out (part.start - d.tiles.start) (replicate n None) d.tiles.cells None (omega (arith, gone, long, begin, is.3.0)) k (beside k o gone begin)))
   where
     beside : (k : ℕ) → (k < at) ⊎ (at + len ≤ k) → length (replicate {A = Option ℕ} (length part.bytes) None) ≡ length part.bytes → part.start - r.landed.tiles.start ≡ at
         → (k < part.start - r.landed.tiles.start) ⊎ ((part.start - r.landed.tiles.start) + length (replicate {A = Option ℕ} (length part.bytes) None) ≤ k)

@@ -51,17 +51,17 @@ message_shows r l p head gaps bytes first_part e is waiting s long early =
       req = s.req;
       named = s.named;
       cells = λ k lt free. (
-        let cells = r.landed.tiles.cells in
-        let size = range_is r l is.places s.req in
-        by_test gaps.places k
-        (λ none.
-        came_out k gaps.places bytes cells none ∙ s.cells k lt (none_waits r.landed r.number r.message waiting is.message k)
-        ∙ ap Some (sym (over_none l.receive.req.len e.came l.part k (early.came k ∙ no_byte gaps.places bytes k none))))
-        (λ some.
-        let b = a_byte gaps.places bytes k long some in
-        let has : get_or gaps.places k false ≡ false = get_or_default gaps.places k false true b.0 ∙ some in
-        came_in k gaps.places bytes cells b.0 (omega (arith, long, b.0)) (omega (arith, lt, is.places)) has
-        ∙ ap Some (sym (over_some l.receive.req.len e.came l.part k (get_or bytes k 0) (omega (arith, lt, is.places, size)) (early.came k ∙ b.1)))));
+          let cells = r.landed.tiles.cells in
+          let size = range_is r l is.places s.req in
+          by_test gaps.places k
+          (λ none.
+          came_out k gaps.places bytes cells none ∙ s.cells k lt (none_waits r.landed r.number r.message waiting is.message k)
+          ∙ ap Some (sym (over_none l.receive.req.len e.came l.part k (early.came k ∙ no_byte gaps.places bytes k none))))
+          (λ some.
+          let b = a_byte gaps.places bytes k long some in
+          let has : get_or gaps.places k false ≡ false = get_or_default gaps.places k false true b.0 ∙ some in
+          came_in k gaps.places bytes cells b.0 (omega (arith, long, b.0)) (omega (arith, lt, is.places)) has
+          ∙ ap Some (sym (over_some l.receive.req.len e.came l.part k (get_or bytes k 0) (omega (arith, lt, is.places, size)) (early.came k ∙ b.1)))));
       matched = record {
         source = refl;
         number = refl;
@@ -93,17 +93,17 @@ bytes_come r l at bytes places taken s m =
       req = s.req;
       named = s.named;
       cells = λ k lt free. (
-        let cells = r.landed.tiles.cells in
-        let size = range_is r l places s.req in
-        let piece : Piece = record { offset = at; bytes = bytes } in
-        by_range at (length bytes) k
-        (λ p q.
-        filled_in at bytes cells k p q (omega (arith, lt, places))
-        ∙ ap Some (sym (over_some l.receive.req.len (byte_in piece) l.part k (get_or bytes (k - at) 0) (omega (arith, lt, places, size)) (byte_has at bytes k p q))))
-        (λ o.
-        filled_out at bytes cells k (omega (arith, lt, places)) o
-        ∙ s.cells k lt (ap (λ b. have k r.landed.lent || b) (sym (set_out false at (length bytes) r.landed.missing m.0 k o)) ∙ free)
-        ∙ ap Some (sym (over_none l.receive.req.len (byte_in piece) l.part k (byte_lacks at bytes k o)))));
+          let cells = r.landed.tiles.cells in
+          let size = range_is r l places s.req in
+          let piece : Piece = record { offset = at; bytes = bytes } in
+          by_range at (length bytes) k
+          (λ p q.
+          filled_in at bytes cells k p q (omega (arith, lt, places))
+          ∙ ap Some (sym (over_some l.receive.req.len (byte_in piece) l.part k (get_or bytes (k - at) 0) (omega (arith, lt, places, size)) (byte_has at bytes k p q))))
+          (λ o.
+          filled_out at bytes cells k (omega (arith, lt, places)) o
+          ∙ s.cells k lt (ap (λ b. have k r.landed.lent || b) (sym (set_out false at (length bytes) r.landed.missing m.0 k o)) ∙ free)
+          ∙ ap Some (sym (over_none l.receive.req.len (byte_in piece) l.part k (byte_lacks at bytes k o)))));
       matched = show_more r.landed _ _ r.message l.matched (λ v x t. record {
         source = t.source;
         number = t.number;

@@ -76,7 +76,7 @@ OwesShow =
     (r : ReceiveView) (l : LiveReceive) (m : Matched) (own : Own) (is_new : Bool)
     → IsReceive r → Shows r l → l.matched ≡ Some m
     → items_of own is_new r.number m
-      ≡ (if is_new then map Asks (asks_owed r.message) else []) ++ grant_owed own own.limits r.landed r.message ++ end_owed own r.landed r.message
+    ≡ (if is_new then map Asks (asks_owed r.message) else []) ++ grant_owed own own.limits r.landed r.message ++ end_owed own r.landed r.message
 
 -- ---- what comes back
 
