@@ -1,9 +1,8 @@
 -- Messages enter one after another.
 use Rattle.std.proofs.Common.{◌≡◌, ℕ, Bool, true, false, cond, List, [], ◌∷◌, ◌++◌, Option, Some, None, map, refl, ◌⊎◌, inl, inr, sym, ◌∙◌, ap, subst, append_assoc}
-use Rattle.std.specs.Prelude.{find, if◌then◌else◌}
+use Rattle.std.specs.Prelude.{find}
 use Rattle.rdm_lists.specs.Lists.{Member, without_first}
 use Rattle.rdm_lists.proofs.Members.{find_member, map-member, member-map, without_member, member-append_cases}
-use Rattle.rdm_num.specs.declared.numbers.Life.{Life}
 use Rattle.rdm_match.specs.declared.PostedRecv.{PostedRecv}
 use Rattle.rdm_match.specs.declared.Arrived.{Arrived}
 use Rattle.rdm_match.specs.Matcher.{Matching, Pair, Event, Arrive, accepts, after_arrive, after, run}
@@ -13,7 +12,7 @@ use Rattle.rdm_life.specs.Landing.{meet, is_full}
 use Rattle.rdm_life.specs.Receiving.{lists_in, with_matching}
 use Rattle.rdm_life.proofs.Settling.{numbers_of}
 use Rattle.rdm_sound.specs.Premises.{AreOnce, AreNumbered, AreApart, names_of, posted_numbers}
-use Rattle.rdm_sound.specs.Steps.{settle_found, settle_one, with_end, with_next_window, with_replies, meet_one, arrive_found, arrive_one}
+use Rattle.rdm_sound.specs.Steps.{settle_found, with_end, with_next_window, with_replies, meet_one, arrive_found, arrive_one}
 use Rattle.rdm_sound.proofs.Meets.{meet_first, meet_nothing, met_numbered, met_apart}
 use Rattle.rdm_sound.proofs.Pairs.{taken}
 

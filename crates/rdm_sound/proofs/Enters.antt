@@ -1,23 +1,23 @@
 -- The messages of a life enter one after another.
-use Rattle.std.proofs.Common.{◌≡◌, ℕ, zero, suc, ◌+◌, Bool, true, false, cond, List, [], ◌∷◌, ◌++◌, Option, Some, None, map, refl, arith, inl, inr, sym, ◌∙◌, ap, subst}
+use Rattle.std.proofs.Common.{◌≡◌, ℕ, zero, suc, ◌+◌, Bool, true, false, cond, List, Option, Some, None, map, refl, arith, sym, ◌∙◌, ap, subst}
 use Rattle.std.specs.Prelude.{◌==◌, ◌&&◌, find, if◌then◌else◌}
 use Rattle.std.proofs.Math.Path.{fun_ext}
-use Rattle.std.proofs.lemmas.Bool.{eqb-true, eq-eqb, false_from_ne_true, and_parts}
-use Rattle.rdm_lists.specs.Lists.{Member, below, without_first}
+use Rattle.std.proofs.lemmas.Bool.{eqb-true, false_from_ne_true, and_parts}
+use Rattle.rdm_lists.specs.Lists.{below, without_first}
 use Rattle.rdm_lists.proofs.Same.{map_same}
 use Rattle.rdm_num.specs.Lives.{same_life}
 use Rattle.rdm_num.proofs.Lives.{same_life-refl}
 use Rattle.rdm_num.specs.declared.numbers.Life.{Life}
 use Rattle.rdm_match.specs.declared.PostedRecv.{PostedRecv}
 use Rattle.rdm_match.specs.declared.Arrived.{Arrived}
-use Rattle.rdm_match.specs.Matcher.{Matching, Pair, Event, Arrive, accepts, run}
+use Rattle.rdm_match.specs.Matcher.{Arrive, accepts, run}
 use Rattle.rdm_model.specs.Completions.{Name}
-use Rattle.rdm_life.specs.Kept.{Kept, Peer, EarlyMessage, LiveReceive, receive_numbered, with_peer}
+use Rattle.rdm_life.specs.Kept.{Kept, Peer, EarlyMessage, LiveReceive, receive_numbered}
 use Rattle.rdm_life.specs.Landing.{is_full}
 use Rattle.rdm_life.specs.Receiving.{lists_in, with_matching, tag_of, arrival_in, entering_in, numbers_in, enter}
 use Rattle.rdm_life.proofs.Completing.{map_twice}
 use Rattle.rdm_sound.specs.Premises.{AreOnce, AreNumbered, AreApart, posted_numbers}
-use Rattle.rdm_sound.specs.Steps.{times, settle_found, with_end, with_next_window, with_replies, meet_one, arrive_found, arrive_one, next_of, enter_one}
+use Rattle.rdm_sound.specs.Steps.{times, settle_found, with_end, with_next_window, with_replies, meet_one, arrive_found, arrive_one, enter_one}
 use Rattle.rdm_sound.proofs.Arrives.{arrive_each, arrivals, name_of, arrives_each}
 use Rattle.rdm_sound.proofs.Numbers.{map_below_first, once_below}
 use Rattle.rdm_sound.proofs.Pairs.{taken}

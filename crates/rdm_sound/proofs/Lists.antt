@@ -1,6 +1,6 @@
 -- Lists that are changed and sifted in one pass or in two.
-use Rattle.std.proofs.Common.{◌≡◌, Bool, true, false, cond, List, [], ◌∷◌, Option, Some, None, refl, ◌⊎◌, inl, inr, sym, ◌∙◌, ap, subst}
-use Rattle.std.specs.Prelude.{filter, find, if◌then◌else◌}
+use Rattle.std.proofs.Common.{◌≡◌, Bool, true, false, cond, List, [], ◌∷◌, Option, Some, None, refl, ◌⊎◌, inl, inr, sym, ◌∙◌, ap}
+use Rattle.std.specs.Prelude.{filter, find}
 use Rattle.rdm_lists.specs.Lists.{Member}
 use Rattle.rdm_lists.proofs.Members.{find_member, member_find}
 use Rattle.rdm_lists.proofs.Options.{some_of}

@@ -1,21 +1,20 @@
 -- Messages and receives meet one pair after another.
-use Rattle.std.proofs.Common.{◌≡◌, ℕ, ◌-◌, Bool, true, false, cond, not, List, [], ◌∷◌, Option, Some, None, map, length, refl, arith, sym, ◌∙◌, ap, subst}
-use Rattle.std.specs.Prelude.{◌==◌, filter, find, if◌then◌else◌}
-use Rattle.std.specs.List.{list_any}
+use Rattle.std.proofs.Common.{◌≡◌, ℕ, ◌-◌, Bool, true, false, cond, not, List, [], ◌∷◌, Some, None, map, refl, arith, sym, ◌∙◌, ap, subst}
+use Rattle.std.specs.Prelude.{◌==◌, filter, find}
 use Rattle.std.proofs.Math.Path.{fun_ext}
-use Rattle.std.proofs.lemmas.Bool.{eqb-true, eq-eqb}
+use Rattle.std.proofs.lemmas.Bool.{eqb-true}
 use Rattle.rdm_lists.specs.Lists.{Member}
 use Rattle.rdm_lists.proofs.Members.{find_member}
 use Rattle.rdm_lists.proofs.Same.{map_same}
 use Rattle.rdm_num.specs.declared.numbers.Life.{Life}
-use Rattle.rdm_match.specs.Matcher.{Pair, is_recv}
-use Rattle.rdm_model.specs.Completions.{Name, is_matched}
-use Rattle.rdm_life.specs.Kept.{Kept, EarlyMessage, LiveReceive, is_receive, receive_numbered, change_where}
+use Rattle.rdm_match.specs.Matcher.{Pair}
+use Rattle.rdm_model.specs.Completions.{is_matched}
+use Rattle.rdm_life.specs.Kept.{Kept, LiveReceive, is_receive, change_where}
 use Rattle.rdm_life.specs.Landing.{is_full, with_message, with_pair, with_window, settle, meet}
 use Rattle.rdm_life.proofs.Meets.{with_pairs, meet_is}
 use Rattle.rdm_life.proofs.Settling.{numbers_of}
 use Rattle.rdm_sound.specs.Premises.{AreOnce, AreNumbered, AreApart, names_of}
-use Rattle.rdm_sound.specs.Steps.{settle_found, settle_one, with_end, with_next_window, with_replies, without_early, meet_one, meet_each}
+use Rattle.rdm_sound.specs.Steps.{settle_found, settle_one, with_end, with_next_window, with_replies, meet_one, meet_each}
 use Rattle.rdm_sound.proofs.Settles.{settle_first, number_same}
 use Rattle.rdm_sound.proofs.SettlesEach.{settle_nothing}
 use Rattle.rdm_sound.proofs.Stays.{numbered_changed, apart_changed, numbered_where, apart_where, settled_numbered, settled_apart}

@@ -1,8 +1,7 @@
 -- The numbers from one on.
-use Rattle.std.proofs.Common.{◌≡◌, ℕ, zero, suc, ◌+◌, ◌<◌, List, [], ◌∷◌, ◌++◌, map, refl, arith, sym, ◌∙◌, ap, subst, inl, inr}
-use Rattle.rdm_lists.specs.Lists.{Member, below}
+use Rattle.std.proofs.Common.{◌≡◌, ℕ, zero, suc, List, [], ◌∷◌, ◌++◌, map, refl, arith, sym, ◌∙◌, ap, subst}
+use Rattle.rdm_lists.specs.Lists.{below}
 use Rattle.rdm_lists.proofs.Members.{member-map}
-use Rattle.rdm_lists.proofs.Same.{map_same}
 use Rattle.rdm_life.proofs.Completing.{map_twice}
 use Rattle.rdm_sound.specs.Premises.{AreOnce}
 

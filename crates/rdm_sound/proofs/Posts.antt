@@ -1,5 +1,5 @@
 -- A receive that is posted meets one message at most.
-use Rattle.std.proofs.Common.{◌≡◌, ◌<◌, ℕ, ◌+◌, Bool, true, false, List, [], ◌∷◌, ◌++◌, Option, Some, None, refl, arith, ◌⊎◌, inl, inr, sym, ◌∙◌, ap, subst}
+use Rattle.std.proofs.Common.{◌≡◌, ℕ, ◌+◌, true, false, [], ◌∷◌, ◌++◌, Option, Some, None, refl, arith, ◌⊎◌, inl, inr, sym, ◌∙◌, ap, subst}
 use Rattle.std.specs.Prelude.{◌==◌, ◌&&◌, nat_lt, nat_le, find}
 use Rattle.std.proofs.lemmas.Bool.{and_parts, and_from, eqb-true, eq-eqb, ltb-true, lt-ltb, leb-true}
 use Rattle.rdm_lists.specs.Lists.{Member, without_first}
@@ -8,7 +8,7 @@ use Rattle.rdm_num.specs.Pieces.{Piece, overlaps}
 use Rattle.rdm_num.specs.declared.request.RecvReq.{RecvReq}
 use Rattle.rdm_match.specs.declared.PostedRecv.{PostedRecv}
 use Rattle.rdm_match.specs.declared.Arrived.{Arrived}
-use Rattle.rdm_match.specs.Matcher.{Matching, Pair, Post, accepts, after_post, after}
+use Rattle.rdm_match.specs.Matcher.{accepts, after_post, after}
 use Rattle.rdm_life.specs.Facts.{meets_receive_in}
 use Rattle.rdm_life.specs.Kept.{Kept, LiveReceive, is_receive, change_where}
 use Rattle.rdm_life.specs.Landing.{with_piece, land}

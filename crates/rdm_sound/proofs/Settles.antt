@@ -1,12 +1,11 @@
 -- Receives settle one after another.
-use Rattle.std.proofs.Common.{◌≡◌, ℕ, ◌-◌, Bool, true, false, cond, not, List, [], ◌∷◌, ◌++◌, Option, Some, None, refl, ◌⊎◌, inl, inr, sym, ◌∙◌, ap, subst, append_assoc, append-nil}
-use Rattle.std.specs.Prelude.{◌==◌, ◌||◌, ◌&&◌, filter, find, flat_map, if◌then◌else◌, option_map}
-use Rattle.std.specs.List.{list_any}
+use Rattle.std.proofs.Common.{◌≡◌, ℕ, ◌-◌, Bool, true, false, cond, not, List, [], ◌∷◌, ◌++◌, Option, Some, None, refl, ◌⊎◌, inl, inr, sym, ◌∙◌, ap, subst, append_assoc}
+use Rattle.std.specs.Prelude.{◌&&◌, filter, find, flat_map, option_map}
 use Rattle.std.proofs.Math.Path.{fun_ext}
-use Rattle.std.proofs.lemmas.Bool.{eqb-true, eq-eqb, false_from_ne_true, and_parts}
+use Rattle.std.proofs.lemmas.Bool.{eqb-true, false_from_ne_true}
 use Rattle.rdm_lists.specs.Lists.{Member, or_else}
-use Rattle.rdm_lists.proofs.Filters.{filter_all, filter_nothing, list_any_none}
-use Rattle.rdm_lists.proofs.Members.{find_member, member-filter, filter-member, member-map}
+use Rattle.rdm_lists.proofs.Filters.{filter_all, list_any_none}
+use Rattle.rdm_lists.proofs.Members.{find_member, member-filter, filter-member}
 use Rattle.rdm_lists.proofs.Same.{flat_map_same, filter_where}
 use Rattle.rdm_num.specs.declared.completion.Completion.{Completion}
 use Rattle.rdm_model.specs.Replies.{Reply}
@@ -14,8 +13,8 @@ use Rattle.rdm_life.specs.Kept.{Kept, LiveReceive, Matched, is_receive, receive_
 use Rattle.rdm_life.specs.Memory.{is_place_of, byte_back, with_back}
 use Rattle.rdm_life.specs.Landing.{is_full, is_one_of, is_filled_one, with_window, completion_of, completion_by, replies_by, settle}
 use Rattle.rdm_life.proofs.Back.{found_none}
-use Rattle.rdm_sound.specs.Premises.{AreOnce, AreNumbered, AreApart}
-use Rattle.rdm_sound.specs.Steps.{settle_found, settle_one, settle_each, with_end, with_next_window, with_replies}
+use Rattle.rdm_sound.specs.Premises.{AreNumbered, AreApart}
+use Rattle.rdm_sound.specs.Steps.{settle_found, settle_one, with_end, with_next_window, with_replies}
 use Rattle.rdm_sound.proofs.Lists.{change_left, change_again, filter_changed, find_left, find_kept, find_unchanged, find_only, find_nothing}
 
 -- ---- which receives

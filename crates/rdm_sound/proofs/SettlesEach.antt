@@ -1,11 +1,11 @@
 -- Receives settle one after another, as many as there are.
-use Rattle.std.proofs.Common.{◌≡◌, ℕ, Bool, true, false, not, List, [], ◌∷◌, ◌++◌, refl, sym, ◌∙◌, ap, append-nil}
+use Rattle.std.proofs.Common.{◌≡◌, ℕ, Bool, false, not, List, [], ◌∷◌, refl, ◌∙◌, ap, append-nil}
 use Rattle.std.specs.Prelude.{filter}
-use Rattle.rdm_lists.specs.Lists.{Member, or_else}
+use Rattle.rdm_lists.specs.Lists.{or_else}
 use Rattle.rdm_lists.proofs.Filters.{filter_all, filter_nothing}
 use Rattle.rdm_life.specs.Kept.{Kept, LiveReceive, change_where}
 use Rattle.rdm_life.specs.Memory.{byte_back, with_back}
-use Rattle.rdm_life.specs.Landing.{is_full, is_one_of, is_filled_one, with_window, settle}
+use Rattle.rdm_life.specs.Landing.{is_one_of, is_filled_one, with_window, settle}
 use Rattle.rdm_sound.specs.Premises.{AreOnce, AreNumbered, AreApart}
 use Rattle.rdm_sound.specs.Steps.{settle_one, settle_each}
 use Rattle.rdm_sound.proofs.Lists.{change_none}

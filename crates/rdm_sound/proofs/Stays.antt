@@ -1,9 +1,7 @@
 -- Receives stay apart, and each of one number, as they change and end.
-use Rattle.std.proofs.Common.{◌≡◌, ℕ, Bool, true, false, cond, not, List, Option, Some, None, map, refl, sym, ◌∙◌, ap, subst}
-use Rattle.std.specs.Prelude.{filter, find, if◌then◌else◌}
-use Rattle.rdm_lists.specs.Lists.{Member}
+use Rattle.std.proofs.Common.{◌≡◌, ℕ, Bool, true, false, cond, not, List, Some, None, map, refl, sym, ◌∙◌, ap}
+use Rattle.std.specs.Prelude.{filter, if◌then◌else◌}
 use Rattle.rdm_lists.proofs.Members.{member-filter, member-map}
-use Rattle.rdm_num.specs.declared.request.RecvReq.{RecvReq}
 use Rattle.rdm_life.specs.Kept.{Kept, LiveReceive, is_receive, receive_numbered, change_where}
 use Rattle.rdm_life.specs.Memory.{is_place_of}
 use Rattle.rdm_life.specs.Landing.{with_window, is_full}

@@ -4,14 +4,13 @@ use Rattle.rdm_lists.specs.Lists.{without_first}
 use Rattle.rdm_num.specs.Lives.{same_life}
 use Rattle.rdm_num.specs.Pieces.{Piece}
 use Rattle.rdm_num.specs.declared.numbers.Life.{Life}
-use Rattle.rdm_num.specs.declared.request.RecvReq.{RecvReq}
 use Rattle.rdm_match.specs.declared.PostedRecv.{PostedRecv}
 use Rattle.rdm_match.specs.declared.Arrived.{Arrived}
 use Rattle.rdm_match.specs.Matcher.{Pair, accepts}
 use Rattle.rdm_life.specs.Kept.{Kept, Peer, LiveReceive, is_receive, receive_numbered, change_where, with_peer}
 use Rattle.rdm_life.specs.Memory.{with_back}
 use Rattle.rdm_life.specs.Landing.{is_full, with_window, replies_by, completion_of, with_piece, with_message}
-use Rattle.rdm_life.specs.Receiving.{receive_in, with_live, tag_of}
+use Rattle.rdm_life.specs.Receiving.{tag_of}
 
 -- a step is done so many times
 unfoldable pub times : {A : Type 0} → ℕ → (A → A) → A → A
