@@ -1,17 +1,14 @@
 -- How answers are what the record of an endpoint owes, as statements.
-use Rattle.std.specs.Prelude.{◌≡◌, ℕ, Bool, if◌then◌else◌, List, [], ◌∷◌, ◌++◌, Option, Some, option_map, IfNone, IfSome}
+use Rattle.std.specs.Prelude.{◌≡◌, ℕ, Bool, if◌then◌else◌, List, [], ◌∷◌, Option, Some, IfNone, IfSome}
 use Rattle.rdm_lists.specs.Lists.{Member, each_below}
 use Rattle.rdm_num.specs.declared.numbers.Life.{Life}
 use Rattle.rdm_num.specs.declared.numbers.OpId.{OpId}
 use Rattle.rdm_num.specs.declared.numbers.PortNo.{PortNo}
-use Rattle.rdm_num.specs.declared.head.Shape.{Shape}
-use Rattle.rdm_pkt.specs.declared.Packet.{Packet}
 use Rattle.rdm_wire.specs.declared.ReadAsk.{ReadAsk}
 use Rattle.rdm_model.specs.Beginnings.{Own}
 use Rattle.rdm_model.specs.Replies.{Reply, reply, greeting, asks_for, grant_for, end_for, given_of}
 use Rattle.rdm_model.specs.Sends.{Sent}
 use Rattle.rdm_owed.specs.declared.Owed.{Owed}
-use Rattle.rdm_rx.specs.declared.asks.Asks.{Asks}
 use Rattle.rdm_rx.specs.Left.{left}
 use Rattle.rdm_rx.specs.Owing.{IsOnlyPacket}
 use Rattle.rdm_rx.specs.Receiving.{ReceivingView, window_if}
