@@ -37,7 +37,7 @@ more_early true o q m e are is = is
 more_early false o q m e are is = are
 
 -- lives are the same the other way round
-same_turned : (a b : Life) → same_life a b ≡ same_life b a
+pub same_turned : (a b : Life) → same_life a b ≡ same_life b a
 same_turned a b =
     elim (same_life a b) as (λ x. same_life a b ≡ x → x ≡ same_life b a) [
       | true ↦ λ h. sym (same_life-refl b) ∙ ap (same_life b) (sym (same_life-true a b h))

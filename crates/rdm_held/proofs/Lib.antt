@@ -10,3 +10,7 @@ pub mod Missing
 pub mod Keys
 -- each call
 pub mod Calls
+-- a message that is changed
+pub mod Changes
+-- messages that are taken or forgotten
+pub mod Leaving

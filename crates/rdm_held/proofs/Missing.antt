@@ -9,9 +9,12 @@ use Rattle.rdm_lists.proofs.Below.{each_below_at, each_below_from}
 use Rattle.rdm_lists.proofs.Places.{slice_get_some}
 use Rattle.rdm_gaps.specs.Places.{AreMissing}
 use Rattle.rdm_window.specs.Message.{Message, Awaits}
-use Rattle.rdm_life.specs.Kept.{EarlyMessage}
+use Rattle.rdm_window.specs.Early.{Held, message_at}
+use Rattle.rdm_num.specs.declared.numbers.Life.{Life}
+use Rattle.rdm_num.specs.declared.numbers.MsgNo.{MsgNo}
+use Rattle.rdm_life.specs.Kept.{Kept, EarlyMessage}
 use Rattle.rdm_life.specs.Facts.{came_or_outside}
-use Rattle.rdm_held.specs.Held.{came_of, IsEarly, AreEarly}
+use Rattle.rdm_held.specs.Held.{came_of, IsEarly, AreEarly, IsHeldIn}
 use Rattle.rdm_held.specs.Laws.{size_of}
 use Rattle.rdm_held.proofs.Came.{get_dropped, missing_at}
 
@@ -79,3 +82,8 @@ awaits_as_kept None None at len bound is within = (λ h. h, λ h. h)
 awaits_as_kept None (Some e) at len bound is within = elim is [ ]
 awaits_as_kept (Some m) None at len bound is within = elim is [ ]
 awaits_as_kept (Some m) (Some e) at len bound is within = (none_came_by m e is at len bound within, awaits_by m e is at len bound within)
+
+-- the same of all that is held
+pub awaits_in : (h : Held) (v : Kept) (source : Life) (number : MsgNo) (at len bound : ℕ) → IsHeldIn h v → (at + len ≤ bound) ↔ (at + len ≤ size_of (message_at h source number))
+    → IsSomeAnd (message_at h source number) (Awaits at len) ↔ IsSomeAnd (v.early source number.0) (λ e. came_or_outside (λ place. is_some (e.came place)) bound at len ≡ false)
+awaits_in h v source number at len bound held within = awaits_as_kept (message_at h source number) (v.early source number.0) at len bound (held.messages source number) within
