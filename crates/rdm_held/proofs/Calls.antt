@@ -1,6 +1,6 @@
 -- Each call of what holds early messages, beside what a deed makes of the record.
-use Rattle.std.proofs.Common.{◌≡◌, refl, sym, ap, subst, ◌∙◌, ℕ, ◌+◌, ◌-◌, Bool, true, false, ◌&&◌, [], ◌∷◌, Option, Some, None, arith, IsSome}
-use Rattle.std.specs.Prelude.{◌==◌, cond, option_map, is_some, not}
+use Rattle.std.proofs.Common.{◌≡◌, refl, sym, ap, subst, ◌∙◌, ℕ, ◌+◌, Bool, true, false, Option, Some, None}
+use Rattle.std.specs.Prelude.{cond, is_some}
 use Rattle.std.specs.FinMap as map
 use Rattle.rdm_num.specs.Lives.{same_life}
 use Rattle.rdm_num.proofs.Lives.{same_life-refl, same_life-true}
@@ -8,7 +8,7 @@ use Rattle.rdm_num.specs.declared.numbers.Life.{Life}
 use Rattle.rdm_num.specs.declared.numbers.MsgNo.{MsgNo}
 use Rattle.rdm_model.specs.Beginnings.{Own}
 use Rattle.rdm_window.specs.Message.{Message}
-use Rattle.rdm_window.specs.Early.{Key, Held, message_order, key_of, message_at, none_held, with_message, is_of_life}
+use Rattle.rdm_window.specs.Early.{Held, message_order, key_of, message_at, none_held, with_message, is_of_life}
 use Rattle.rdm_window.proofs.Messages.{message_order_total, message_order-IsAntisymmetric}
 use Rattle.rdm_life.specs.Kept.{Kept, EarlyMessage, nothing_kept}
 use Rattle.rdm_life.specs.Receiving.{hear}
@@ -59,12 +59,12 @@ unfolding hear
 hears h v source number m e held none is =
     record {
       messages = λ life n.
-        subst (λ o. AreEarly o ((hear source number.0 e v).early life n.0)) (sym (at_with h source number m life n))
-        (more_early (is_at life n source number) (message_at h life n) (v.early life n.0) m e (held.messages life n) is);
+          subst (λ o. AreEarly o ((hear source number.0 e v).early life n.0)) (sym (at_with h source number m life n))
+          (more_early (is_at life n source number) (message_at h life n) (v.early life n.0) m e (held.messages life n) is);
       of_lives = λ life.
-        heard_more (same_life source life) (same_life life source) (v.early_of life) (count_of h life) (same_turned life source) (held.of_lives life)
-        ∙ sym (count_insert message_order_total message_order-IsAntisymmetric h.messages (is_of_life life) (key_of source number) m
-        ∙ (λ i. cond (key_life life source number i) (more (is_some (none i)) (count_of h life)) (count_of h life)));
+          heard_more (same_life source life) (same_life life source) (v.early_of life) (count_of h life) (same_turned life source) (held.of_lives life)
+          ∙ sym (count_insert message_order_total message_order-IsAntisymmetric h.messages (is_of_life life) (key_of source number) m
+          ∙ (λ i. cond (key_life life source number i) (more (is_some (none i)) (count_of h life)) (count_of h life)));
       count = ap (λ n. n + 1) held.count
-        ∙ sym (map.len-insert message_order_total h.messages (key_of source number) m ∙ ap (λ o. more (is_some o) (map.len h.messages)) none);
+          ∙ sym (map.len-insert message_order_total h.messages (key_of source number) m ∙ ap (λ o. more (is_some o) (map.len h.messages)) none);
     }

@@ -6,11 +6,11 @@ use Rattle.std.proofs.lemmas.Bool.{ltb-false, ltb-true, lt-ltb, le-ltb}
 use Rattle.rdm_lists.specs.Lists.{or_else}
 use Rattle.rdm_lists.proofs.Options.{or_else-none}
 use Rattle.rdm_num.specs.Pieces.{Piece, byte_in}
-use Rattle.rdm_gaps.specs.Places.{with_range, AreMissing}
+use Rattle.rdm_gaps.specs.Places.{AreMissing}
 use Rattle.rdm_pkt.specs.declared.Form.{Form}
 use Rattle.rdm_pkt.specs.Heads.{piece_of}
 use Rattle.rdm_model.specs.Grants.{first_part_in}
-use Rattle.rdm_window.specs.Message.{Message, opened, filled, written, Awaits, with_room, with_spent}
+use Rattle.rdm_window.specs.Message.{Message, opened, filled, Awaits}
 use Rattle.rdm_window.specs.declared.message.Opening.{Opening}
 use Rattle.rdm_window.proofs.Awaited.{opened_awaits}
 use Rattle.rdm_life.specs.Kept.{EarlyMessage}

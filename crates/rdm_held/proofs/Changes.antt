@@ -1,5 +1,5 @@
 -- A held message that is changed, beside the record's.
-use Rattle.std.proofs.Common.{◌≡◌, refl, sym, ap, subst, ◌∙◌, ℕ, ◌+◌, Bool, true, false, ◌&&◌, Option, Some, None, length}
+use Rattle.std.proofs.Common.{◌≡◌, refl, sym, ap, subst, ◌∙◌, ℕ, Bool, true, false, Option, Some, None, length}
 use Rattle.std.specs.Prelude.{◌==◌, cond, option_map, is_some, unwrap_or}
 use Rattle.std.specs.Option.{IsSomeAnd}
 use Rattle.std.proofs.lemmas.Bool.{and_parts, eqb-true}
@@ -63,8 +63,8 @@ module _ (h : Held) (v : Kept) (source : Life) (at : MsgNo) (held : IsHeldIn h v
   none_held_there none =
       record {
         messages = λ life n.
-          subst (AreEarly (message_at h life n)) (sym (is_so life n))
-          (none_changed (is_at life n source at) (message_at h life n) (v.early life n.0) fe (λ is. at_same h life source n at is ∙ none) (held.messages life n));
+            subst (AreEarly (message_at h life n)) (sym (is_so life n))
+            (none_changed (is_at life n source at) (message_at h life n) (v.early life n.0) fe (λ is. at_same h life source n at is ∙ none) (held.messages life n));
         of_lives = held.of_lives;
         count = held.count;
       }
@@ -74,16 +74,16 @@ module _ (h : Held) (v : Kept) (source : Life) (at : MsgNo) (held : IsHeldIn h v
   one_held_there m some =
       record {
         messages = λ life n.
-          subst (λ o. AreEarly o (early life n.0)) (sym (at_with h source at (fm m) life n))
-          (subst (AreEarly (cond (is_at life n source at) (Some (fm m)) (message_at h life n))) (sym (is_so life n))
-          (some_changed (is_at life n source at) (message_at h life n) (v.early life n.0) m fm fe (λ is. at_same h life source n at is ∙ some) (λ e is. each m e some is) (held.messages life n)));
+            subst (λ o. AreEarly o (early life n.0)) (sym (at_with h source at (fm m) life n))
+            (subst (AreEarly (cond (is_at life n source at) (Some (fm m)) (message_at h life n))) (sym (is_so life n))
+            (some_changed (is_at life n source at) (message_at h life n) (v.early life n.0) m fm fe (λ is. at_same h life source n at is ∙ some) (λ e is. each m e some is) (held.messages life n)));
         of_lives = λ life.
-          held.of_lives life
-          ∙ sym (count_insert message_order_total message_order-IsAntisymmetric h.messages (is_of_life life) (key_of source at) (fm m)
-          ∙ ap (λ o. cond (is_of_life life (key_of source at)) (more (is_some o) (count_of h life)) (count_of h life)) some
-          ∙ same_both (is_of_life life (key_of source at)) (count_of h life));
+            held.of_lives life
+            ∙ sym (count_insert message_order_total message_order-IsAntisymmetric h.messages (is_of_life life) (key_of source at) (fm m)
+            ∙ ap (λ o. cond (is_of_life life (key_of source at)) (more (is_some o) (count_of h life)) (count_of h life)) some
+            ∙ same_both (is_of_life life (key_of source at)) (count_of h life));
         count = held.count
-          ∙ sym (map.len-insert message_order_total h.messages (key_of source at) (fm m) ∙ ap (λ o. more (is_some o) (map.len h.messages)) some);
+            ∙ sym (map.len-insert message_order_total h.messages (key_of source at) (fm m) ∙ ap (λ o. more (is_some o) (map.len h.messages)) some);
       }
 
   -- a message that is changed

@@ -1,16 +1,15 @@
 -- The keys of messages, as lives and numbers tell them apart.
-use Rattle.std.proofs.Common.{◌≡◌, refl, sym, ap, ◌∙◌, ℕ, Bool, true, false, ◌&&◌, List, Option, Some, None}
-use Rattle.std.specs.Prelude.{◌==◌, cond, option_map, is_some}
+use Rattle.std.proofs.Common.{◌≡◌, refl, sym, ap, ◌∙◌, Bool, ◌&&◌, Some, None}
+use Rattle.std.specs.Prelude.{◌==◌, cond}
 use Rattle.std.specs.Ordering.{nat_cmp, eq_by_cmp, ordering_then}
 use Rattle.std.specs.Cmp.{both_tied, unsigned_ties}
 use Rattle.std.specs.FinMap as map
 use Rattle.rdm_num.specs.Lives.{same_life}
-use Rattle.rdm_num.proofs.Lives.{same_life-refl, same_life-true}
 use Rattle.rdm_num.specs.declared.numbers.Life.{Life}
 use Rattle.rdm_num.specs.declared.numbers.MsgNo.{MsgNo}
 use Rattle.rdm_window.specs.Message.{Message}
-use Rattle.rdm_window.specs.Early.{Key, Held, message_order, key_of, message_at, with_message, without_message, without_life, is_of_life, changed, put_back}
-use Rattle.rdm_window.proofs.Messages.{message_order_total, message_order-IsAntisymmetric}
+use Rattle.rdm_window.specs.Early.{Held, message_order, key_of, message_at, with_message, without_message, is_of_life}
+use Rattle.rdm_window.proofs.Messages.{message_order_total}
 
 -- the life and the number are the same
 abbrev pub is_at : Life → MsgNo → Life → MsgNo → Bool
@@ -46,4 +45,3 @@ pub at_without : (h : Held) (source : Life) (at : MsgNo) (life : Life) (number :
 at_without h source at life number =
     map.get-remove message_order_total h.messages (key_of source at) (key_of life number)
     ∙ ap (λ b. cond b None (message_at h life number)) (key_tie life source number at)
-

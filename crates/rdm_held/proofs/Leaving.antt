@@ -1,10 +1,10 @@
 -- Messages that are taken or forgotten, beside the record's.
-use Rattle.std.proofs.Common.{◌≡◌, refl, sym, ap, subst, ◌∙◌, ℕ, ◌+◌, ◌-◌, ◌≤◌, Bool, true, false, not, ◌&&◌, ◌||◌, List, [], ◌∷◌, Option, Some, None, length, arith, IsSome, leb-true, le-leb}
-use Rattle.std.specs.Prelude.{◌==◌, cond, is_some, nat_le}
+use Rattle.std.proofs.Common.{◌≡◌, refl, sym, ap, subst, ◌∙◌, ℕ, ◌+◌, ◌-◌, ◌≤◌, Bool, true, false, not, ◌&&◌, ◌||◌, [], ◌∷◌, Option, None, length, arith, IsSome, leb-true, le-leb}
+use Rattle.std.specs.Prelude.{◌==◌, cond, nat_le}
 use Rattle.std.proofs.lemmas.Bool.{and_parts, and_from, eqb-true, eq-eqb}
 use Rattle.std.specs.FinMap as map
 use Rattle.rdm_num.specs.Lives.{same_life}
-use Rattle.rdm_num.proofs.Lives.{same_life-refl, same_life-true}
+use Rattle.rdm_num.proofs.Lives.{same_life-true}
 use Rattle.rdm_num.specs.declared.numbers.Life.{Life}
 use Rattle.rdm_num.specs.declared.numbers.MsgNo.{MsgNo}
 use Rattle.rdm_match.specs.Matcher.{Pair}
@@ -60,21 +60,21 @@ unfolding meet settle is_matched
 meets h v p held there =
     record {
       messages = λ life n.
-        subst (λ o. AreEarly o ((meet (p ∷ []) v).early life n.0)) (sym (at_without h p.message.life p.message.no life n))
-        (less_early
-        (is_at life n p.message.life p.message.no)
-        ((same_life p.message.life life && p.message.no.0 == n.0) || false)
-        (message_at h life n)
-        (v.early life n.0)
-        (pair_at life p.message.life n p.message.no)
-        (held.messages life n));
+          subst (λ o. AreEarly o ((meet (p ∷ []) v).early life n.0)) (sym (at_without h p.message.life p.message.no life n))
+          (less_early
+          (is_at life n p.message.life p.message.no)
+          ((same_life p.message.life life && p.message.no.0 == n.0) || false)
+          (message_at h life n)
+          (v.early life n.0)
+          (pair_at life p.message.life n p.message.no)
+          (held.messages life n));
       of_lives = λ life.
-        met_less (same_life p.message.life life) p (v.early_of life) (count_of h life) (held.of_lives life)
-        ∙ sym (count_remove message_order_total message_order-IsAntisymmetric h.messages (is_of_life life) (key_of p.message.life p.message.no) there
-        ∙ ap (λ b. cond b (count_of h life - 1) (count_of h life)) (key_life life p.message.life p.message.no));
+          met_less (same_life p.message.life life) p (v.early_of life) (count_of h life) (held.of_lives life)
+          ∙ sym (count_remove message_order_total message_order-IsAntisymmetric h.messages (is_of_life life) (key_of p.message.life p.message.no) there
+          ∙ ap (λ b. cond b (count_of h life - 1) (count_of h life)) (key_life life p.message.life p.message.no));
       count = ap (λ n. n - 1) held.count
-        ∙ sym (map.len-remove message_order_total h.messages (key_of p.message.life p.message.no)
-        ∙ ap (λ b. cond b (map.len h.messages - 1) (map.len h.messages)) there);
+          ∙ sym (map.len-remove message_order_total h.messages (key_of p.message.life p.message.no)
+          ∙ ap (λ b. cond b (map.len h.messages - 1) (map.len h.messages)) there);
     }
 
 -- a message is left in both where it is not of the life
@@ -117,13 +117,13 @@ unfolding forget is_among
 forgets h v life held =
     record {
       messages = λ other n.
-        subst (λ o. AreEarly o ((forget (life ∷ []) v).early other n.0))
-        (sym (get_kept message_order_total message_order-IsAntisymmetric h.messages (λ k. not (is_of_life life k)) (key_of other n)
-        ∙ ap (λ b. cond (not b) (message_at h other n) None) (key_life life other n)))
-        (left_early (same_life other life) (message_at h other n) (v.early other n.0) (held.messages other n));
+          subst (λ o. AreEarly o ((forget (life ∷ []) v).early other n.0))
+          (sym (get_kept message_order_total message_order-IsAntisymmetric h.messages (λ k. not (is_of_life life k)) (key_of other n)
+          ∙ ap (λ b. cond (not b) (message_at h other n) None) (key_life life other n)))
+          (left_early (same_life other life) (message_at h other n) (v.early other n.0) (held.messages other n));
       of_lives = λ other. left_of h life other (v.early_of other) (held.of_lives other);
       count = less_all v.early_count (count_of h life) (map.len (without_life h life).messages) (map.len h.messages) (v.early_of life) held.count (held.of_lives life)
-        (both_parts message_order_total message_order-IsAntisymmetric h.messages (is_of_life life));
+          (both_parts message_order_total message_order-IsAntisymmetric h.messages (is_of_life life));
     }
 
 -- all places are taken where there are no fewer messages than places

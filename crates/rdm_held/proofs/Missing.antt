@@ -1,5 +1,5 @@
 -- Which ranges of a message are awaited.
-use Rattle.std.proofs.Common.{◌≡◌, refl, sym, ap, ◌∙◌, ℕ, zero, suc, ◌+◌, ◌-◌, ◌<◌, ◌≤◌, Bool, true, false, not, ◌&&◌, List, [], ◌∷◌, Option, Some, None, length, take, drop, replicate, arith, leb-true, le-leb}
+use Rattle.std.proofs.Common.{◌≡◌, refl, sym, ap, ◌∙◌, ℕ, zero, suc, ◌+◌, ◌<◌, ◌≤◌, Bool, true, false, not, List, [], ◌∷◌, Option, Some, None, length, take, drop, replicate, arith, leb-true, le-leb}
 use Rattle.std.specs.Prelude.{◌↔◌, cond, nat_le, slice_get, unwrap_or, is_some}
 use Rattle.std.specs.Option.{IsSomeAnd}
 use Rattle.std.proofs.lemmas.List.{length-drop}
@@ -14,7 +14,7 @@ use Rattle.rdm_num.specs.declared.numbers.Life.{Life}
 use Rattle.rdm_num.specs.declared.numbers.MsgNo.{MsgNo}
 use Rattle.rdm_life.specs.Kept.{Kept, EarlyMessage}
 use Rattle.rdm_life.specs.Facts.{came_or_outside}
-use Rattle.rdm_held.specs.Held.{came_of, IsEarly, AreEarly, IsHeldIn}
+use Rattle.rdm_held.specs.Held.{IsEarly, AreEarly, IsHeldIn}
 use Rattle.rdm_held.specs.Laws.{size_of}
 use Rattle.rdm_held.proofs.Came.{get_dropped, missing_at}
 

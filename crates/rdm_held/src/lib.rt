@@ -1,5 +1,6 @@
 //! That the early messages are held as an endpoint's record keeps them.
 #![tactic(auto)]
+
 ghost use Rattle.rdm_held.specs.Laws.{NoneHeld, Opens, OpensWith, Hears, Adds, AddsReserved, Reserves, Meets, Forgets, AwaitsAsKept, FullAsKept};
 
 /// What is held shows what the record keeps of early messages, before any is heard of and after each change.
