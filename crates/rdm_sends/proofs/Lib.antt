@@ -1,0 +1,4 @@
+-- what a send begins as
+pub mod Begins
+-- and what comes next of it
+pub mod Pushing
