@@ -5,6 +5,8 @@
 mod begin;
 mod protocol;
 mod sending;
+#[cfg(test)]
+mod tests;
 
 pub use begin::{Own, Place, opt_for, read_list, wants_raw};
 pub use protocol::Protocol;
