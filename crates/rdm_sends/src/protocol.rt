@@ -123,7 +123,8 @@ impl Protocol {
 
     /// Whether the bytes may be asked for.
     pub(crate) fn may_ask(&self, ask: &ReadAsk) -> bool
-        ensures { IsTrue result ↔ TakesAsk ask.now self.now }
+        ensures may { IsTrue result ↔ TakesAsk ask.now self.now }
+        ensures within { (total : ℕ) → IsTrue result → ask.now.at + ask.now.length ≤ length_by total self.now }
     {
         match self {
             Protocol::Read(asked) => asked.may_ask(ask),

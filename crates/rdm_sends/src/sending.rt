@@ -144,7 +144,8 @@ impl Sending {
     /// Whether the bytes may be asked for. What comes from another life is tested so before it is
     /// taken.
     pub fn may_ask(&self, ask: &ReadAsk) -> bool
-        ensures { IsTrue result ↔ Coming.TakesAsk ask.now self.now.protocol }
+        ensures may { IsTrue result ↔ Coming.TakesAsk ask.now self.now.protocol }
+        ensures within { IsTrue result → ask.now.at + ask.now.length ≤ self.now.total }
     {
         self.protocol.may_ask(ask)
     }
