@@ -57,3 +57,7 @@ packet_second own limits x piece p h w = λ bytes e fit.
     let fits : IfSome (granted_span limits x.protocol) (λ t. piece ≡ part t bytes) =
     subst (λ (o : Option Span). IfSome o (λ (t : Span). piece ≡ part t bytes)) (sym next) fit in
     granted (packet_after limits x.message bytes x.given) (granted_by own bytes x.protocol (granted_span limits x.protocol)) p after (w bytes fits)
+
+-- a piece that is as long as the next span has the length of the next packet
+pub length_is : (limits : EpLimits) (x : SendingView) (s : Span) (n : ℕ) → IsSpanNext limits x (Some s) → n ≡ s.length → IsLengthNext limits x n
+length_is limits x s n h q = λ bytes e. subst (λ (o : Option Span). IfSome o (λ (t : Span). n ≡ t.length)) (h bytes e) q

@@ -91,6 +91,25 @@ fn sending(
     Sending::new(alloc, &own, &place, &req)
 }
 
+/// How many bytes the next packet is spelled in.
+fn spelled(
+    rt: &impl Abort,
+    alloc: Global,
+    sending: &Sending,
+    bytes: &[u8],
+) -> Result<u64, NoMemory> {
+    let span = sending.span(&LIMITS).expect(rt, "a packet is next");
+    let rest = bytes.get(span.offset as usize..).expect(rt, "it is within");
+    let piece = rest.get(..span.length as usize).expect(rt, "it is within");
+    assert!(rt; piece.len() as u64 == span.length);
+    let packet = sending.packet(alloc, OWN.connid, &LIMITS, piece)?;
+    let packet = packet.expect(rt, "a packet is next");
+    assert!(rt; packet.fits());
+    let mut to = Vec::new(alloc);
+    packet.write(&mut to)?;
+    Ok(to.len() as u64)
+}
+
 /// The openings of a send are pushed in turn.
 fn opens(rt: &impl Abort, sending: &mut Sending, spans: &[(u64, u64)], ends: bool) {
     for (offset, length) in spans {
@@ -113,6 +132,24 @@ fn each_kind_opens_by_its_packets(rt: HostRuntime) -> Result<(), Fail> {
         assert!(rt; sending.message_number() == MsgNo(3));
         assert!(rt; sending.is_confirmed() == confirm);
         opens(&rt, &mut sending, spans, ends);
+    }
+    Ok(())
+}
+
+/// The sizes of the packets of 600 bytes, of which each has 28 bytes of headers.
+const SIZES: [u64; 3] = [256, 256, 172];
+
+#[test]
+fn each_packet_has_the_bytes_at_its_span(rt: HostRuntime) -> Result<(), Fail> {
+    let alloc = rt.alloc();
+    let mut bytes = Vec::new(alloc);
+    for place in 0..600_u64 {
+        bytes.push((place % 251) as u8)?;
+    }
+    let mut sending = sending(alloc, 600, 0, Some(0), false)?;
+    for size in SIZES {
+        assert_eq!(rt; spelled(&rt, alloc, &sending, &bytes)?, size);
+        sending.step(&LIMITS);
     }
     Ok(())
 }
