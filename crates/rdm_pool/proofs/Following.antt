@@ -30,12 +30,12 @@ ends-last [] (end ∷ ends) place at is within have = rw is (refl, have.1)
 ends-last (first ∷ rest) [] place at is within have = absurd have
 ends-last (first ∷ rest) (end ∷ ends) place at is within have = rw is (have.0, ends-last rest ends place (length rest) refl (omega (arith, is, within)) have.1)
 
--- a place that is gone
-pub ends-gone : (places : List Place) (ends : List ℕ) (number at : ℕ) (gone : Place) → IsAt places number at → gone.key ≡ None → HaveEnds places ends → HaveEnds (slice_set places at gone) (set ends at 0)
-ends-gone [] ends number at gone is none have = absurd is
-ends-gone (place ∷ rest) [] number at gone is none have = absurd have
-ends-gone (place ∷ rest) (end ∷ ends) number zero gone is none have = (rw none refl, have.1)
-ends-gone (place ∷ rest) (end ∷ ends) number (suc at) gone is none have = (have.0, ends-gone rest ends number at gone is none have.1)
+-- another place with its end
+pub ends-set : (places : List Place) (ends : List ℕ) (number at new_end : ℕ) (new : Place) → IsAt places number at → new_end ≡ end_of new.number new.key → HaveEnds places ends → HaveEnds (slice_set places at new) (set ends at new_end)
+ends-set [] ends number at new_end new is ended have = absurd is
+ends-set (place ∷ rest) [] number at new_end new is ended have = absurd have
+ends-set (place ∷ rest) (end ∷ ends) number zero new_end new is ended have = (ended, have.1)
+ends-set (place ∷ rest) (end ∷ ends) number (suc at) new_end new is ended have = (have.0, ends-set rest ends number at new_end new is ended have.1)
 
 -- one more place of a list
 pub ends-more : (places : List Place) (ends : List ℕ) (at : ℕ) (d : Place) → at < length places → length places ≤ length ends → HaveEnds (take at places) ends → HaveEnds (take (at + 1) places) (set ends at (end_of (get_or places at d).number (get_or places at d).key))

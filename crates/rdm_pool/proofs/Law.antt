@@ -1,7 +1,7 @@
 -- The puts of any calls gave each number once.
 use Rattle.std.proofs.Common.{◌≡◌, ℕ, Bool, true, false, List, [], ◌∷◌, refl, add-one}
 use Rattle.rdm_pool.specs.Numbered.{Numbered, is_full, put_answer, after_put}
-use Rattle.rdm_pool.specs.Runs.{Put, Take, Write, after_calls, with_given, given, falling_from, NumbersComeOnce}
+use Rattle.rdm_pool.specs.Runs.{Put, Take, Write, Mark, Unmark, after_calls, with_given, given, falling_from, NumbersComeOnce}
 
 -- by the two values of a test
 by_test : {P : Type 0} (b : Bool) → (b ≡ true → P) → (b ≡ false → P) → P
@@ -23,3 +23,5 @@ module _ {T : Type 0} where
   numbers_come_once size (Put value ∷ before) = once_more (after_calls size before) value (given size before) (numbers_come_once size before)
   numbers_come_once size (Take id ∷ before) = numbers_come_once size before
   numbers_come_once size (Write id value ∷ before) = numbers_come_once size before
+  numbers_come_once size (Mark id ∷ before) = numbers_come_once size before
+  numbers_come_once size (Unmark id ∷ before) = numbers_come_once size before

@@ -4,6 +4,8 @@ mod Search
 mod Live
 mod SlabKeys
 mod Following
+mod Marks
+mod Marked
 mod Changed
 mod Seen
 mod Law

@@ -23,7 +23,7 @@ rises-last least [] place is below rises = (is, tt)
 rises-last least (first ∷ rest) place is below rises = (rises.0, rises-last (first.number + 1) rest place (omega (arith, below.0)) below.1 rises.1)
 
 -- a place at the end is live after the others
-pub live-last : (places : List Place) (number key : ℕ) → live (places ++ record { number = number; key = Some key } ∷ []) ≡ live places ++ (number, key) ∷ []
+pub live-last : (places : List Place) (number key : ℕ) → live (places ++ record { number = number; key = Some key; is_marked = false } ∷ []) ≡ live places ++ (number, key) ∷ []
 unfolding live
 live-last [] number key = refl
 live-last (place ∷ rest) number key = ap (with_entry place.number place.key) (live-last rest number key) ∙ entry-append place.number place.key (live rest) ((number, key) ∷ [])

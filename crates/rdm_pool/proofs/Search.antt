@@ -1,5 +1,5 @@
 -- Where a number's place is, among places of rising numbers.
-use Rattle.std.proofs.Common.{◌≡◌, ◌≢◌, ℕ, zero, suc, ◌+◌, ◌<◌, ◌≤◌, List, [], ◌∷◌, length, get_or, None, Result, Ok, Err, IfSome, IfNone, refl, sym, ◌∙◌, inl, inr, arith}
+use Rattle.std.proofs.Common.{◌≡◌, ◌≢◌, ℕ, false, zero, suc, ◌+◌, ◌<◌, ◌≤◌, List, [], ◌∷◌, length, get_or, None, Result, Ok, Err, IfSome, IfNone, refl, sym, ◌∙◌, inl, inr, arith}
 use Rattle.std.specs.Result.{result_ok}
 use Rattle.std.proofs.lemmas.Bool.{cases_lt}
 use Rattle.std.specs.List.Sorted.{IsSearchInRange, IsBinarySearchResult, IsNonDecreasingBy}
@@ -13,8 +13,8 @@ use Rattle.rdm_pool.specs.Places.{Rises, IsAt, IsNowhere, live}
 use Rattle.rdm_pool.proofs.Entries.{value-here, value-later}
 
 -- stands where there is no place
-abbrev no_place : Place
-no_place = record { number = 0; key = None }
+abbrev pub no_place : Place
+no_place = record { number = 0; key = None; is_marked = false }
 
 -- the number of the place at an index
 abbrev number_at : List Place → ℕ → ℕ

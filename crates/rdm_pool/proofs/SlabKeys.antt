@@ -3,10 +3,9 @@ use Rattle.std.proofs.Common.{◌≡◌, ◌≢◌, ℕ, suc, ◌+◌, ◌<◌, 
 use Rattle.std.proofs.lemmas.Bool.{cases_eq}
 use Rattle.std.proofs.lemmas.Bool.Decides.{nat_tests}
 use Rattle.slab.specs.Slab.{Slab, get, Updates}
-use Rattle.rdm_pool.specs.Numbered.{RisesWithin, IsPool, value_at}
+use Rattle.rdm_pool.specs.Numbered.{RisesWithin, value_at}
 use Rattle.rdm_pool.specs.declared.places.Place.{Place}
-use Rattle.rdm_pool.specs.Places.{Rises, AreBelow, IsFree, AreHeld, with_entry, live, listed, seen, IsKept}
-use Rattle.rdm_pool.specs.declared.Pool.TheInside.{Inside}
+use Rattle.rdm_pool.specs.Places.{Rises, AreBelow, IsFree, AreHeld, with_entry, live, listed}
 
 -- the value under a key, if there is a key
 abbrev pub value_under : {T : Type 0} → Slab T → Option ℕ → Option T
@@ -94,21 +93,14 @@ module _ {A : Type 0} where
   rises-entry least bound number (Some item) rest least_is below rises = (least_is, below, rises)
 
 -- the numbers of places rise below a bound where they are live
-rises_live : (least bound : ℕ) (places : List Place) → Rises least places → AreBelow bound places → RisesWithin least (live places) bound
+pub rises_live : (least bound : ℕ) (places : List Place) → Rises least places → AreBelow bound places → RisesWithin least (live places) bound
 unfolding live
 rises_live least bound [] rises below = tt
 rises_live least bound (place ∷ rest) rises below = rises-entry least bound place.number place.key (live rest) rises.0 below.0 (rises_live (place.number + 1) bound rest rises.1 below.1)
 
 module _ {T : Type 0} where
   -- so do the numbers that are listed
-  rises_listed : (values : Slab T) (least bound : ℕ) (pairs : List (ℕ × ℕ)) → RisesWithin least pairs bound → RisesWithin least (listed values pairs) bound
+  pub rises_listed : (values : Slab T) (least bound : ℕ) (pairs : List (ℕ × ℕ)) → RisesWithin least pairs bound → RisesWithin least (listed values pairs) bound
   unfolding listed
   rises_listed values least bound [] rises = tt
   rises_listed values least bound (pair ∷ rest) rises = rises-entry least bound pair.0 (get values pair.1) (listed values rest) rises.0 rises.1 (rises_listed values (pair.0 + 1) bound rest rises.2)
-
-  -- what is kept is a pool
-  pub is_pool : (p : Inside T) → IsKept p → IsPool (seen p)
-  is_pool p kept = record {
-    rises = rises_listed p.values 0 p.made (live p.places.items) (rises_live 0 p.made p.places.items kept.rises kept.given);
-    within = rw (length-listed p.values (live p.places.items) kept.held, ← kept.counted) kept.within;
-  }

@@ -1,4 +1,5 @@
 -- Values under numbers that never repeat.
+pub mod Marks
 pub mod Numbered
 pub mod Ends
 pub mod Places

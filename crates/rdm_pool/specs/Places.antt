@@ -1,8 +1,9 @@
 -- How a pool keeps its values: each stands in the slab under a key, and a place ties the key to the
--- value's number. A place whose value was taken is gone: it keeps its number and has no key. No
--- public clause cites this module.
-use Rattle.std.specs.Prelude.{◌≡◌, ◌≢◌, ◌⊎◌, ℕ, zero, suc, ◌+◌, ◌*◌, ◌<◌, ◌≤◌, List, [], ◌∷◌, length, Option, Some, None, IsSome, Vec, vec_len, vec_capacity}
+-- value's number and says whether the number is marked. A place whose value was taken is gone: it
+-- keeps its number and has no key. No public clause cites this module.
+use Rattle.std.specs.Prelude.{◌≡◌, ◌≢◌, ◌⊎◌, ℕ, zero, suc, ◌+◌, ◌*◌, ◌<◌, ◌≤◌, Bool, true, false, if◌then◌else◌, List, [], ◌∷◌, length, map, Option, Some, None, IsSome, Vec, vec_len, vec_capacity}
 use Rattle.slab.specs.Slab.{Slab, get, slab_len}
+use Rattle.rdm_pool.specs.Marks.{with_number, without_number}
 use Rattle.rdm_pool.specs.Numbered.{Numbered}
 use Rattle.rdm_pool.specs.declared.places.Place.{Place}
 use Rattle.rdm_pool.specs.declared.Pool.TheInside.{Inside}
@@ -50,6 +51,24 @@ unfoldable pub live : List Place → List (ℕ × ℕ)
 live [] = []
 live (place ∷ rest) = with_entry place.number place.key (live rest)
 
+-- a place as it stands among the marked ones: it has no key where it is not marked
+abbrev pub if_marked : Place → Place
+if_marked place = record place { key = if place.is_marked then place.key else None }
+
+-- the numbers of some entries
+abbrev pub numbers_of : {A : Type 0} → List (ℕ × A) → List ℕ
+numbers_of entries = map (λ entry. entry.0) entries
+
+-- the numbers of the places that are marked and not gone
+abbrev pub marked_numbers : List Place → List ℕ
+marked_numbers places = numbers_of (live (map if_marked places))
+
+-- the marked numbers once a number that has an item is marked, or once a number is not
+abbrev pub after_set_mark : {A : Type 0} → Bool → Option A → List ℕ → ℕ → List ℕ
+after_set_mark true (Some item) marked number = with_number marked number
+after_set_mark true None marked number = marked
+after_set_mark false o marked number = without_number marked number
+
 -- no number has the key
 abbrev pub IsFree : List (ℕ × ℕ) → ℕ → Type 0
 IsFree [] key = Unit {0}
@@ -71,6 +90,14 @@ HaveEnds [] ends = AreZero ends
 HaveEnds (place ∷ rest) [] = ⊥
 HaveEnds (place ∷ rest) (end ∷ ends) = (end ≡ end_of place.number place.key) × HaveEnds rest ends
 
+-- the ends of the old places are those of the new ones
+abbrev pub StayEnding : List Place → List Place → Type 0
+StayEnding old new = (ends : List ℕ) → HaveEnds old ends → HaveEnds new ends
+
+-- each place has its end where it is marked and not gone, and all else is 0
+abbrev pub HaveMarks : List Place → List ℕ → Type 0
+HaveMarks places marks = HaveEnds (map if_marked places) marks
+
 module _ {T : Type 0} where
   -- each number has a value, under a key that no other number has
   abbrev pub AreHeld : Slab T → List (ℕ × ℕ) → Type 0
@@ -84,7 +111,7 @@ module _ {T : Type 0} where
 
   -- what a contract sees of a pool
   abbrev pub seen : Inside T → Numbered T
-  seen p = record { list = listed p.values (live p.places.items); size = p.size; made = p.made }
+  seen p = record { list = listed p.values (live p.places.items); marked = marked_numbers p.places.items; size = p.size; made = p.made }
 
   -- what is true of a pool's fields
   pub record IsKept (p : Inside T) : Type 0 where
@@ -97,3 +124,5 @@ module _ {T : Type 0} where
     pub has_places : 2 * p.size ≤ vec_capacity p.places
     pub ended : HaveEnds p.places.items p.ends
     pub has_ends : vec_capacity p.places ≤ length p.ends
+    pub mark_ended : HaveMarks p.places.items p.marks
+    pub has_marks : vec_capacity p.places ≤ length p.marks

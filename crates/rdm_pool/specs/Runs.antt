@@ -2,13 +2,15 @@
 use Rattle.std.specs.Prelude.{◌≡◌, ℕ, zero, suc, List, [], ◌∷◌, Result, Ok, Err}
 use Rattle.rdm_num.specs.declared.numbers.OpId.{OpId}
 use Rattle.rdm_pool.specs.declared.Full.{Full}
-use Rattle.rdm_pool.specs.Numbered.{Numbered, nothing_put, put_answer, after_put, after_take, after_write}
+use Rattle.rdm_pool.specs.Numbered.{Numbered, nothing_put, put_answer, after_put, after_take, after_write, after_mark, after_unmark}
 
 -- a call that may change a pool
 pub data Call (T : Type 0) : Type 0 where
   Put : T → Call T
   Take : OpId → Call T
   Write : OpId → T → Call T
+  Mark : OpId → Call T
+  Unmark : OpId → Call T
 
 module _ {T : Type 0} where
   -- the pool after calls, the newest call first
@@ -17,6 +19,8 @@ module _ {T : Type 0} where
   after_calls size (Put value ∷ before) = after_put (after_calls size before) value
   after_calls size (Take id ∷ before) = after_take (after_calls size before) id
   after_calls size (Write id value ∷ before) = after_write (after_calls size before) id value
+  after_calls size (Mark id ∷ before) = after_mark (after_calls size before) id
+  after_calls size (Unmark id ∷ before) = after_unmark (after_calls size before) id
 
   -- the number that a put gave, if any, before others
   unfoldable pub with_given : Result OpId (Full T) → List ℕ → List ℕ
@@ -29,6 +33,8 @@ module _ {T : Type 0} where
   given size (Put value ∷ before) = with_given (put_answer (after_calls size before) value) (given size before)
   given size (Take id ∷ before) = given size before
   given size (Write id value ∷ before) = given size before
+  given size (Mark id ∷ before) = given size before
+  given size (Unmark id ∷ before) = given size before
 
 -- the numbers below one, the greatest first
 unfoldable pub falling_from : ℕ → List ℕ

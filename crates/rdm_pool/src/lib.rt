@@ -1,10 +1,11 @@
-//! Values under numbers that never repeat, in memory that is taken once.
+//! Values under numbers that never repeat, and marks on some of the numbers, in memory that is taken
+//! once.
 #![tactic(auto)]
 
-ghost use Rattle.std.specs.Prelude.{◌≡◌, ◌<◌, IfOk, IfSome, IfNone, option_copied};
+ghost use Rattle.std.specs.Prelude.{◌≡◌, ◌<◌, if◌then◌else◌, length, IfOk, IfSome, IfNone, option_copied};
 ghost use Rattle.std.specs.Option.{option_copied_mut};
 ghost use Rattle.std.specs.Borrow.{sem};
-ghost use Rattle.rdm_pool.specs.Numbered.{nothing_put, put_answer, after_put, found, after_take, next_from, IsNext, HasNoNext, IsPool};
+ghost use Rattle.rdm_pool.specs.Numbered.{nothing_put, next_number, put_answer, after_put, found, after_take, next_from, IsNext, HasNoNext, after_mark, after_unmark, first_marked, IsFirstMarked, HasNoMarked, IsPool};
 ghost use Rattle.rdm_pool.specs.Numbered as Numbered;
 ghost use Rattle.rdm_pool.specs.Runs.{NumbersComeOnce};
 
@@ -19,7 +20,7 @@ mod places;
 mod tests;
 
 use ends::Ends;
-use places::{Place, key_of, make_room, take_key};
+use places::{Place, has_mark, key_of, make_room, set_mark, take_key};
 
 /// The pool holds as many values as it may, so this one is given back.
 #[derive(Clone, Debug, PartialEq, Drop)]
@@ -37,6 +38,8 @@ pub struct Pool<T> {
     // The end of each place's number while it has a value. The way to the first end above a number
     // is as long as the tree is high, so no search steps over places that are gone, however many.
     ends: Ends,
+    // The same for the numbers that are marked.
+    marks: Ends,
     size: usize,
     made: u32,
 }
@@ -64,11 +67,13 @@ impl<T> Pool<T> {
         let room = size.checked_mul(2).ok_or(AllocError)?;
         let places = Vec::with_capacity(alloc, room)?;
         let ends = Ends::new(alloc, places.capacity())?;
+        let marks = Ends::new(alloc, places.capacity())?;
         let values = Slab::with_capacity(alloc, size)?;
         Ok(Pool {
             values,
             places,
             ends,
+            marks,
             size,
             made: 0,
         })
@@ -83,12 +88,13 @@ impl<T> Pool<T> {
         if self.is_full() {
             return Err(Full(value));
         }
-        make_room(&mut self.places, &mut self.ends);
+        make_room(&mut self.places, &mut self.ends, &mut self.marks);
         let number = self.made;
         let key = self.values.insert_reserved(value);
         let place = Place {
             number,
             key: Some(key),
+            is_marked: false,
         };
         self.ends.set(self.places.len(), place.end());
         self.places.push_reserved(place);
@@ -117,12 +123,12 @@ impl<T> Pool<T> {
         }
     }
 
-    /// Takes the value under a number out. No other value gets the number.
+    /// Takes the value under a number out, and the number's mark. No other value gets the number.
     pub fn take(&mut self, id: OpId) -> Option<T>
         ensures answer { result ≡ found self.old id }
         ensures after { self.new ≡ after_take self.old id }
     {
-        let key = take_key(&mut self.places, &mut self.ends, id)?;
+        let key = take_key(&mut self.places, &mut self.ends, &mut self.marks, id)?;
         Some(self.values.remove(key))
     }
 
@@ -134,6 +140,59 @@ impl<T> Pool<T> {
     {
         let end = self.ends.first_above(from.0)?;
         Some(OpId(end - 1))
+    }
+
+    /// Marks a number that has a value, and no other. The mark stays until it or the value is taken
+    /// away.
+    pub fn mark(&mut self, id: OpId)
+        ensures { self.new ≡ after_mark self.old id }
+    {
+        self.set_mark(id, true);
+    }
+
+    /// Takes the mark of a number away. Its value stays.
+    pub fn unmark(&mut self, id: OpId)
+        ensures { self.new ≡ after_unmark self.old id }
+    {
+        self.set_mark(id, false);
+    }
+
+    /// Marks a number that has a value, or takes a number's mark away.
+    fn set_mark(&mut self, id: OpId, is_marked: bool)
+        ensures { self.new ≡ (if is_marked then after_mark self.old id else after_unmark self.old id) }
+    {
+        set_mark(&mut self.places, &mut self.marks, id, is_marked);
+    }
+
+    /// The number is marked.
+    pub fn is_marked(&self, id: OpId) -> bool
+        ensures { result ≡ Numbered.is_marked self.now id }
+    {
+        has_mark(&self.places, id)
+    }
+
+    /// The least number from a given one on that is marked.
+    pub fn first_marked(&self, from: OpId) -> Option<OpId>
+        ensures answer { result ≡ first_marked self.now from }
+        ensures next { IfSome result (IsFirstMarked self.now from) }
+        ensures none { IfNone result (HasNoMarked self.now from) }
+    {
+        let end = self.marks.first_above(from.0)?;
+        Some(OpId(end - 1))
+    }
+
+    /// The number that the next put gives, unless the pool is full.
+    pub fn next_number(&self) -> OpId
+        ensures { result ≡ next_number self.now }
+    {
+        OpId(self.made)
+    }
+
+    /// How many numbers have a value.
+    pub fn len(&self) -> usize
+        ensures { result ≡ length self.now.list }
+    {
+        self.values.len()
     }
 
     /// A put would give its value back.

@@ -1,4 +1,5 @@
-use Rattle.rdm_pool.proofs.SlabKeys.{is_pool, length-listed}
+use Rattle.rdm_pool.proofs.SlabKeys.{length-listed}
+use Rattle.rdm_pool.proofs.Seen.{is_pool}
 use Rattle.std.proofs.Common.{rules}
 use Rattle.rdm_pool.proofs.Pool.is_full.Goals as goal
 

@@ -17,4 +17,6 @@ invariant_of-result g c =
       has_places = search rules;
       ended = rw none (rw c.in_ok-ends.ensures.zero (zeros _));
       has_ends = omega (arith, c.capacity.ensures, c.in_ok-ends.ensures.room);
+      mark_ended = rw none (rw c.in_ok-marks.ensures.zero (zeros _));
+      has_marks = omega (arith, c.capacity-2.ensures, c.in_ok-marks.ensures.room);
     }

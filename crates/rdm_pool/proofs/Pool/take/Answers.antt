@@ -1,6 +1,6 @@
 use Rattle.std.proofs.Common.{sym, ◌∙◌, ap, length, arith}
 use Rattle.std.proofs.lemmas.List.{with_items_is}
-use Rattle.rdm_pool.specs.Places.{live}
+use Rattle.rdm_pool.specs.Places.{live, marked_numbers}
 use Rattle.rdm_pool.proofs.Entries.{without-absent, length-without}
 use Rattle.rdm_pool.proofs.SlabKeys.{key_held}
 use Rattle.rdm_pool.proofs.Changed.{held-take}
@@ -34,6 +34,8 @@ invariant_of-self-2 g c =
       has_places = kept.has_places;
       ended = rw items gone.ends;
       has_ends = rw gone.ends_stay kept.has_ends;
+      mark_ended = rw items gone.marks;
+      has_marks = rw gone.marks_stay kept.has_marks;
     }
 
 pub invariant_of-self : goal.invariant_of-self
@@ -54,6 +56,8 @@ invariant_of-self g c =
       has_places = kept.has_places;
       ended = rw items gone.ends;
       has_ends = rw gone.ends_stay kept.has_ends;
+      mark_ended = rw items gone.marks;
+      has_marks = rw gone.marks_stay kept.has_marks;
     }
 
 pub returns-clause-answer : goal.returns-clause-answer
@@ -67,7 +71,8 @@ returns-clause-after g c =
     let items = with_items_is p.places c.take_key.new.places (c.take_key.auto.places ∙ c.deref_mut.ensures.len) in
     let is = rw c.deref_mut.ensures.value at c.in_ok-key.ensures.key in
     let others = ap live items ∙ rw c.deref_mut.ensures.value at c.take_key.ensures.live in
-    rw (← c.self.view_is) (taken_seen p c.self.invariant c.args.id c.in_ok-key.key _ _ is c.remove.ensures.updates others)
+    let marked = ap marked_numbers items ∙ rw c.deref_mut.ensures.value at c.take_key.ensures.marked in
+    rw (← c.self.view_is) (taken_seen p c.self.invariant c.args.id c.in_ok-key.key _ _ _ is c.remove.ensures.updates others marked)
 
 pub returns-in_err-key-clause-answer : goal.returns-in_err-key-clause-answer
 returns-in_err-key-clause-answer g c =
@@ -80,4 +85,5 @@ returns-in_err-key-clause-after g c =
     let items = with_items_is p.places c.take_key.new.places (c.take_key.auto.places ∙ c.deref_mut.ensures.len) in
     let none = rw c.deref_mut.ensures.value at c.in_err-key.ensures.key in
     let others = ap live items ∙ rw c.deref_mut.ensures.value at c.take_key.ensures.live in
-    rw (← c.self.view_is) (nothing_taken p c.self.invariant c.args.id _ none others)
+    let marked = ap marked_numbers items ∙ rw c.deref_mut.ensures.value at c.take_key.ensures.marked in
+    rw (← c.self.view_is) (nothing_taken p c.self.invariant c.args.id _ _ none others marked)

@@ -1,6 +1,7 @@
 use Rattle.std.proofs.Common.{◌∙◌, ap, inr, length, arith}
-use Rattle.rdm_pool.specs.Places.{live}
+use Rattle.rdm_pool.specs.Places.{live, marked_numbers}
 use Rattle.rdm_pool.proofs.Live.{rises-filter, below-filter, live-filter, length-filter}
+use Rattle.rdm_pool.proofs.Marked.{marked-filter}
 use Rattle.rdm_pool.proofs.places.make_room.Goals as goal
 
 pub returns-then-len-capacity-clause-live : goal.returns-then-len-capacity-clause-live
@@ -24,3 +25,6 @@ returns-then-len-capacity-clause-seldom c =
 
 pub set_ends-requires-clause-below : goal.set_ends-requires-clause-below
 set_ends-requires-clause-below c = rw (c.deref.ensures.value, c.drop_gone.ensures.items) (below-filter 4294967295 c.args.places.now.items c.requires.below)
+
+pub returns-then-len-capacity-clause-marked : goal.returns-then-len-capacity-clause-marked
+returns-then-len-capacity-clause-marked c = ap marked_numbers c.drop_gone.ensures.items ∙ marked-filter c.args.places.now.items
