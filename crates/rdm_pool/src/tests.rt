@@ -74,3 +74,56 @@ fn a_size_may_be_none_or_too_great(rt: HostRuntime) -> Result<(), Fail> {
     assert!(rt; Pool::<u8>::new(rt.alloc(), usize::MAX / 2).is_err());
     Ok(())
 }
+
+/// A call of the table in `marks_come_and_go`.
+#[derive(Clone, Copy)]
+enum Step {
+    Put,
+    Take(u32),
+    Mark(u32),
+    Unmark(u32),
+}
+
+#[test]
+fn marks_come_and_go(rt: HostRuntime) -> Result<(), Fail> {
+    let mut pool = Pool::new(rt.alloc(), 4)?;
+    // Each call, and the first marked number after it, from 0, 2 and 5 on.
+    let table = [
+        (Step::Put, [None, None, None]),
+        (Step::Mark(0), [Some(0), None, None]),
+        (Step::Mark(1), [Some(0), None, None]),
+        (Step::Put, [Some(0), None, None]),
+        (Step::Put, [Some(0), None, None]),
+        (Step::Put, [Some(0), None, None]),
+        (Step::Mark(3), [Some(0), Some(3), None]),
+        (Step::Mark(2), [Some(0), Some(2), None]),
+        (Step::Take(0), [Some(2), Some(2), None]),
+        (Step::Unmark(2), [Some(3), Some(3), None]),
+        (Step::Take(1), [Some(3), Some(3), None]),
+        (Step::Put, [Some(3), Some(3), None]),
+        (Step::Put, [Some(3), Some(3), None]),
+        (Step::Take(2), [Some(3), Some(3), None]),
+        (Step::Mark(5), [Some(3), Some(3), Some(5)]),
+        (Step::Put, [Some(3), Some(3), Some(5)]),
+        (Step::Take(4), [Some(3), Some(3), Some(5)]),
+        (Step::Put, [Some(3), Some(3), Some(5)]),
+        (Step::Take(3), [Some(5), Some(5), Some(5)]),
+        (Step::Put, [Some(5), Some(5), Some(5)]),
+        (Step::Unmark(5), [None, None, None]),
+    ];
+    for &(step, firsts) in &table {
+        match step {
+            Step::Put => assert!(rt; pool.put('a').is_ok()),
+            Step::Take(number) => assert!(rt; pool.take(OpId(number)).is_some()),
+            Step::Mark(number) => pool.mark(OpId(number)),
+            Step::Unmark(number) => pool.unmark(OpId(number)),
+        }
+        for (from, first) in [0, 2, 5].into_iter().zip(firsts) {
+            assert!(rt; pool.first_marked(OpId(from)) == first.map(OpId));
+        }
+    }
+    assert!(rt; pool.len() == 4);
+    assert!(rt; pool.next_number() == OpId(9));
+    assert!(rt; !pool.is_marked(OpId(5)));
+    Ok(())
+}
