@@ -1,5 +1,5 @@
 -- Rising numbers, and which of the numbers of some entries are among them.
-use Rattle.std.proofs.Common.{◌≡◌, ℕ, ◌+◌, ◌<◌, ◌≤◌, true, false, List, [], ◌∷◌, Option, Some, None, is_some, refl, sym, ◌∙◌, inl, inr, arith}
+use Rattle.std.proofs.Common.{◌≡◌, ℕ, ◌+◌, ◌<◌, ◌≤◌, true, false, List, [], ◌∷◌, Option, Some, None, is_some, IsSome, refl, sym, ◌∙◌, inl, inr, arith}
 use Rattle.std.proofs.lemmas.Bool.{cases_eq}
 use Rattle.std.proofs.lemmas.Bool.Decides.{nat_tests}
 use Rattle.rdm_num.specs.declared.numbers.OpId.{OpId}
@@ -96,6 +96,15 @@ module _ {A : Type 0} where
     rw (value-later number o list first (λ same. omega (arith, have.0, less, same))) have.1,
     have-more (first + 1) number o list rest (omega (arith, have.0, less)) have.2,
   )
+
+  -- one of them has its value
+  pub have-has : (least : ℕ) (list : List (ℕ × A)) (numbers : List ℕ) (number : ℕ) → HaveValues least list numbers → has_number numbers number ≡ true → IsSome (value_at list number)
+  unfolding has_number
+  have-has least list [] number have has = absurd (cc)
+  have-has least list (first ∷ rest) number have has = elim (cases_eq first number) [
+    | inl here ↦ rw (← here) have.1
+    | inr away ↦ have-has (first + 1) list rest number have.2 (grind (arith, nat_tests, away, has))
+  ]
 
 module _ {T : Type 0} where
   -- numbers that have keys have what the slab lists under these

@@ -14,7 +14,7 @@ use Rattle.rdm_pool.specs.Ends.{first_above}
 use Rattle.rdm_pool.proofs.Entries.{without-absent}
 use Rattle.rdm_pool.proofs.SlabKeys.{some_of, length-listed, value_under, found_at, key_held, rises_live, rises_listed}
 use Rattle.rdm_pool.proofs.Following.{end_after, first_end, first_listed, first_is}
-use Rattle.rdm_pool.proofs.Marks.{first-numbers_of, first_of_numbers, none_of_numbers, have-listed}
+use Rattle.rdm_pool.proofs.Marks.{first-numbers_of, first_of_numbers, none_of_numbers, have-has, have-listed}
 use Rattle.rdm_pool.proofs.Marked.{rises-marked, below-marked, have-marked}
 use Rattle.rdm_pool.proofs.Changed.{listed-take, held-written, listed-written}
 
@@ -116,7 +116,7 @@ module _ {T : Type 0} where
   marked_is p kept from id is =
       let rises = rises_live 0 p.made (map if_marked p.places.items) (rises-marked 0 p.places.items kept.rises) (below-marked p.made p.places.items kept.given) in
       let first = first_of_numbers 0 p.made (live (map if_marked p.places.items)) from.0 id rises is in
-      record { has_mark = first.0; not_before = first.1; least = λ other. first.2 other.0 }
+      record { has_mark = first.0; has_value = have-has 0 (seen p).list (seen p).marked id.0 (is_pool p kept).marks first.0; not_before = first.1; least = λ other. first.2 other.0 }
 
   -- and where there is none, no number from the given one on is marked
   pub none_marked : (p : Inside T) (from : OpId) → first_marked (seen p) from ≡ None → HasNoMarked (seen p) from

@@ -103,11 +103,11 @@ module _ {T : Type 0} where
   abbrev pub is_marked : Numbered T → OpId → Bool
   is_marked p id = has_number p.marked id.0
 
-  -- a number that has a value is marked
+  -- a number is marked if it has a value
   abbrev pub after_mark : Numbered T → OpId → Numbered T
   after_mark p id = record p { marked = if is_some (found p id) then with_number p.marked id.0 else p.marked }
 
-  -- the number is not marked
+  -- the number is marked no more
   abbrev pub after_unmark : Numbered T → OpId → Numbered T
   after_unmark p id = record p { marked = without_number p.marked id.0 }
 
@@ -115,9 +115,10 @@ module _ {T : Type 0} where
   abbrev pub first_marked : Numbered T → OpId → Option OpId
   first_marked p from = first_number p.marked from.0
 
-  -- of the numbers from a given one on, this is the least that is marked
+  -- of the numbers from a given one on, this is the least that is marked, and it has a value
   pub record IsFirstMarked (p : Numbered T) (from id : OpId) : Type 0 where
     pub has_mark : is_marked p id ≡ true
+    pub has_value : IsSome (found p id)
     pub not_before : from.0 ≤ id.0
     pub least : (other : OpId) → from.0 ≤ other.0 → other.0 < id.0 → is_marked p other ≡ false
 

@@ -171,7 +171,7 @@ impl<T> Pool<T> {
         has_mark(&self.places, id)
     }
 
-    /// The least number from a given one on that is marked.
+    /// The least number from a given one on that is marked. It has a value.
     pub fn first_marked(&self, from: OpId) -> Option<OpId>
         ensures answer { result ≡ first_marked self.now from }
         ensures next { IfSome result (IsFirstMarked self.now from) }

@@ -97,7 +97,8 @@ pub fn set_mark(places: &mut [Place], marks: &mut Ends, id: OpId, is_marked: boo
     requires below { AreBelow 4294967295 places.old }
     requires marks { HaveMarks places.old marks.old }
     ensures live { live places.new ≡ live places.old }
-    ensures marked { marked_numbers places.new ≡ after_set_mark is_marked (value_at (live places.old) id.0) (marked_numbers places.old) id.0 }
+    ensures marked { marked_numbers places.new ≡
+        after_set_mark is_marked (value_at (live places.old) id.0) (marked_numbers places.old) id.0 }
     ensures rises { StayRising places.old places.new }
     ensures below { StayBelow places.old places.new }
     ensures ends { StayEnding places.old places.new }
