@@ -82,7 +82,7 @@ run_made (a ∷ come) m p k =
 
 -- ---- numbers that stand once
 
-once_without : {A B : Type 0} (g : A → B) (t : A → Bool) (xs : List A) (x : A) → AreOnce (map g xs) → find t xs ≡ Some x
+pub once_without : {A B : Type 0} (g : A → B) (t : A → Bool) (xs : List A) (x : A) → AreOnce (map g xs) → find t xs ≡ Some x
     → (Member (g x) (map g (without_first t xs)) → ⊥) × AreOnce (map g (without_first t xs))
 unfolding without_first
 once_without g t [] x once found = cc

@@ -11,5 +11,12 @@ pub mod Meets
 pub mod Arrives
 pub mod Numbers
 pub mod Enters
+-- a record stays orderly as some are left out
+pub mod Thinned
+pub mod Orderly
+pub mod Thinning
 -- a receive that is posted, and a piece that lands
 pub mod Posts
+-- each deed that may be done leaves a record orderly
+pub mod Allowed
+pub mod Deeds

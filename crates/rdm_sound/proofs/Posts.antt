@@ -19,6 +19,7 @@ use Rattle.rdm_sound.specs.Steps.{land_one, post_found, post_one}
 use Rattle.rdm_sound.proofs.Meets.{meet_nothing, meet_alone}
 use Rattle.rdm_sound.proofs.SettlesEach.{settle_alone}
 use Rattle.rdm_sound.proofs.Stays.{numbered_where, apart_where}
+use Rattle.rdm_sound.proofs.Orderly.{numbered}
 
 -- a place of two ranges makes them meet
 places_meet : (q s : RecvReq) (region place : ℕ) → is_place_of q region place ≡ true → is_place_of s region place ≡ true
@@ -52,7 +53,7 @@ abbrev pub accepted : Kept → RecvReq → LiveReceive
 accepted v req = record { receive = receive_in v req; part = part_of v req; matched = None }
 
 -- a live receive was one, or is that one
-live_cases : (v : Kept) (req : RecvReq) (r : LiveReceive) → Member r (v.receives ++ accepted v req ∷ []) → Member r v.receives ⊎ (accepted v req ≡ r)
+pub live_cases : (v : Kept) (req : RecvReq) (r : LiveReceive) → Member r (v.receives ++ accepted v req ∷ []) → Member r v.receives ⊎ (accepted v req ≡ r)
 live_cases v req r m =
     elim (member-append_cases r v.receives (accepted v req ∷ []) m) [
       | inl old ↦ inl old
@@ -70,7 +71,7 @@ pub live_numbered : (v : Kept) (req : RecvReq) → IsOrderly v → AreNumbered (
 live_numbered v req o q r m k e =
     elim (live_cases v req q m) [
       | inl a ↦ elim (live_cases v req r k) [
-        | inl b ↦ o.numbered q r a b e
+        | inl b ↦ numbered v.receives o.once q r a b e
         | inr b ↦ absurd (new_number v req q r o a b e)
       ]
       | inr a ↦ elim (live_cases v req r k) [
@@ -110,5 +111,5 @@ pub lands_in_one : (number : ℕ) (p : Piece) (v : Kept) → IsOrderly v → lan
 unfolding land
 lands_in_one number p v o =
     settle_alone false number (record v { receives = change_where (is_receive number) (with_piece p) v.receives })
-    (numbered_where (is_receive number) (with_piece p) v.receives (λ x. refl) o.numbered)
+    (numbered_where (is_receive number) (with_piece p) v.receives (λ x. refl) (numbered v.receives o.once))
     (apart_where (is_receive number) (with_piece p) v.receives (λ x. refl) o.apart)

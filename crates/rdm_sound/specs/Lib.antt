@@ -5,3 +5,5 @@ pub mod Steps
 pub mod Premises
 -- so all at once is one after another
 pub mod Laws
+-- what each step leaves as it has to be
+pub mod Orders

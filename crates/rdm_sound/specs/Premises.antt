@@ -4,7 +4,7 @@ use Rattle.rdm_lists.specs.Lists.{Member}
 use Rattle.rdm_match.specs.declared.PostedRecv.{PostedRecv}
 use Rattle.rdm_match.specs.Matcher.{Pair}
 use Rattle.rdm_model.specs.Completions.{Name}
-use Rattle.rdm_life.specs.Kept.{Kept, LiveReceive}
+use Rattle.rdm_life.specs.Kept.{Kept, LiveSend, LiveReceive}
 use Rattle.rdm_life.specs.Memory.{is_place_of}
 
 -- no element stands twice
@@ -22,6 +22,14 @@ AreApart rs =
     (q r : LiveReceive) (region place : ℕ) → Member q rs → Member r rs
     → is_place_of q.receive.req region place ≡ true → is_place_of r.receive.req region place ≡ true → q ≡ r
 
+-- the numbers of live receives
+abbrev pub receive_numbers : List LiveReceive → List ℕ
+receive_numbers rs = map (λ (r : LiveReceive). r.receive.number) rs
+
+-- the numbers of live sends
+abbrev pub send_numbers : List LiveSend → List ℕ
+send_numbers ss = map (λ (s : LiveSend). s.sent.number) ss
+
 -- the numbers of posted receives
 abbrev pub posted_numbers : List PostedRecv → List ℕ
 posted_numbers rs = map (λ (r : PostedRecv). r.id.0) rs
@@ -34,10 +42,12 @@ paired_numbers ps = map (λ (p : Pair). p.recv.id.0) ps
 abbrev pub names_of : List Pair → List Name
 names_of ps = map (λ (p : Pair). record { life = p.message.life; number = p.message.no.0 }) ps
 
--- receives are told apart by their numbers, which were given, and by their places
+-- receives are told apart by their numbers, which were given, and by their places, and sends by their numbers
 pub record IsOrderly (v : Kept) : Type 0 where
-  pub numbered : AreNumbered v.receives
+  pub once : AreOnce (receive_numbers v.receives)
   pub given : (r : LiveReceive) → Member r v.receives → r.receive.number < v.receive_count
   pub apart : AreApart v.receives
   pub posted_once : AreOnce (posted_numbers v.posted)
   pub posted_given : (r : PostedRecv) → Member r v.posted → r.id.0 < v.receive_count
+  pub sends_once : AreOnce (send_numbers v.sends)
+  pub sends_given : (s : LiveSend) → Member s v.sends → s.sent.number < v.send_count

@@ -2,6 +2,7 @@
 #![tactic(auto)]
 
 ghost use Rattle.rdm_sound.specs.Laws.{EntersEach, LandsInOne, MeetsEach, PostsOne, SettlesEach};
+ghost use Rattle.rdm_sound.specs.Orders.{AnswersAllow, BeginsOrderly, StaysOrderly, StaysOrderlyInSteps};
 
 /// What happens to an endpoint's record at once is what happens to it one step at a time: a call may settle, land, meet, post
 /// and let enter one receive or one message after another.
@@ -11,4 +12,13 @@ pub fn steps_law()
     ensures posts { PostsOne }
     ensures lands { LandsInOne }
     ensures enters { EntersEach }
+{}
+
+/// A record that is orderly stays so, by each deed and by each step of which deeds are made: an endpoint that keeps it so at
+/// each call may take every step of `steps_law`.
+pub fn orders_law()
+    ensures begins { BeginsOrderly }
+    ensures stays { StaysOrderly }
+    ensures steps { StaysOrderlyInSteps }
+    ensures allows { AnswersAllow }
 {}
