@@ -20,3 +20,6 @@ pub mod Posts
 -- each deed that may be done leaves a record orderly
 pub mod Allowed
 pub mod Deeds
+-- a life is forgotten loss by loss
+pub mod Losses
+pub mod Forgotten

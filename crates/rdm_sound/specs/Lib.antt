@@ -1,9 +1,11 @@
 -- An endpoint's record one step at a time.
 -- the steps of one receive or one message
 pub mod Steps
+-- the losses of which a life's forgetting is made
+pub mod Forgets
 -- what they rest on
 pub mod Premises
 -- so all at once is one after another
 pub mod Laws
--- what each step leaves as it has to be
+-- what each step leaves orderly
 pub mod Orders

@@ -1,6 +1,7 @@
 //! The record of an endpoint, one receive or one message at a time.
 #![tactic(auto)]
 
+ghost use Rattle.rdm_sound.specs.Forgets.{ForgetsEach, ForgetsNone, StaysOrderlyByLosses};
 ghost use Rattle.rdm_sound.specs.Laws.{EntersEach, LandsInOne, MeetsEach, PostsOne, SettlesEach};
 ghost use Rattle.rdm_sound.specs.Orders.{AnswersAllow, BeginsOrderly, StaysOrderly, StaysOrderlyInSteps};
 
@@ -21,4 +22,12 @@ pub fn orders_law()
     ensures stays { StaysOrderly }
     ensures steps { StaysOrderlyInSteps }
     ensures allows { AnswersAllow }
+{}
+
+/// A life is forgotten as the receives that concern it are lost, then the sends to it, each in a step of its own, and then what
+/// else is kept of it. A record stays orderly by each of these steps.
+pub fn losses_law()
+    ensures forgets { ForgetsEach }
+    ensures none { ForgetsNone }
+    ensures stays { StaysOrderlyByLosses }
 {}
