@@ -213,7 +213,7 @@ added_orderly source number p v o =
       | false ↦ land_found_orderly (receive_of v source number) p v o
     ]
 
-heard_orderly : (source : Life) (number : ℕ) (e : EarlyMessage) (v : Kept) → IsOrderly v → IsOrderly (hear source number e v)
+pub heard_orderly : (source : Life) (number : ℕ) (e : EarlyMessage) (v : Kept) → IsOrderly v → IsOrderly (hear source number e v)
 unfolding hear
 heard_orderly source number e v o = orderly_thinned v (hear source number e v) (thins_still v (hear source number e v) refl refl refl refl refl) o
 

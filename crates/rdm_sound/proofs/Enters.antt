@@ -78,7 +78,7 @@ arrived_early a (Some r) v source n other =
 abbrev pub further : Life → ℕ → (Life → Peer) → Life → Peer
 further source k peers = λ other. if same_life other source then record (peers other) { next = (peers other).next + k } else peers other
 
-further_twice : (source : Life) (j : ℕ) (peers : Life → Peer) → further source j (further source 1 peers) ≡ further source (suc j) peers
+pub further_twice : (source : Life) (j : ℕ) (peers : Life → Peer) → further source j (further source 1 peers) ≡ further source (suc j) peers
 further_twice source j peers =
     fun_ext (λ other.
     let p = peers other in
@@ -88,7 +88,7 @@ further_twice source j peers =
       | false ↦ refl
     ])
 
-further_none : (source : Life) (peers : Life → Peer) → further source 0 peers ≡ peers
+pub further_none : (source : Life) (peers : Life → Peer) → further source 0 peers ≡ peers
 further_none source peers =
     fun_ext (λ other.
     let p = peers other in

@@ -23,3 +23,9 @@ pub mod Deeds
 -- a life is forgotten loss by loss
 pub mod Losses
 pub mod Forgotten
+-- what was heard of stays early
+pub mod EarlyLists
+pub mod HeardSame
+pub mod HeardSteps
+pub mod HeardRuns
+pub mod HeardDeeds

@@ -9,3 +9,5 @@ pub mod Premises
 pub mod Laws
 -- what each step leaves orderly
 pub mod Orders
+-- and that what was heard of stays early
+pub mod Heard

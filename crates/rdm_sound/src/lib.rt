@@ -2,6 +2,7 @@
 #![tactic(auto)]
 
 ghost use Rattle.rdm_sound.specs.Forgets.{ForgetsEach, ForgetsNone, StaysOrderlyByLosses};
+ghost use Rattle.rdm_sound.specs.Heard.{BeginsHeard, EntersUntil, EntersWhile, StaysHeard, StaysHeardInSteps};
 ghost use Rattle.rdm_sound.specs.Laws.{EntersEach, LandsInOne, MeetsEach, PostsOne, SettlesEach};
 ghost use Rattle.rdm_sound.specs.Orders.{AnswersAllow, BeginsOrderly, StaysOrderly, StaysOrderlyInSteps};
 
@@ -30,4 +31,14 @@ pub fn losses_law()
     ensures forgets { ForgetsEach }
     ensures none { ForgetsNone }
     ensures stays { StaysOrderlyByLosses }
+{}
+
+/// What was heard of is early until a receive takes it, by each deed and by each step. So the messages of a life enter while
+/// the next one was heard of, and each is early as it enters.
+pub fn heard_law()
+    ensures begins { BeginsHeard }
+    ensures stays { StaysHeard }
+    ensures steps { StaysHeardInSteps }
+    ensures enters { EntersWhile }
+    ensures ends { EntersUntil }
 {}
