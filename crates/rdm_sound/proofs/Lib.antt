@@ -29,3 +29,5 @@ pub mod HeardSame
 pub mod HeardSteps
 pub mod HeardRuns
 pub mod HeardDeeds
+-- so it is with what is kept of a life
+pub mod KeptOrderly

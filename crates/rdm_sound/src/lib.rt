@@ -2,9 +2,9 @@
 #![tactic(auto)]
 
 ghost use Rattle.rdm_sound.specs.Forgets.{ForgetsEach, ForgetsNone, StaysOrderlyByLosses};
-ghost use Rattle.rdm_sound.specs.Heard.{BeginsHeard, EntersUntil, EntersWhile, StaysHeard, StaysHeardInSteps};
+ghost use Rattle.rdm_sound.specs.Heard.{BeginsHeard, EntersUntil, EntersWhile, KeptIsHeard, StaysHeard, StaysHeardInSteps};
 ghost use Rattle.rdm_sound.specs.Laws.{EntersEach, LandsInOne, MeetsEach, PostsOne, SettlesEach};
-ghost use Rattle.rdm_sound.specs.Orders.{AnswersAllow, BeginsOrderly, StaysOrderly, StaysOrderlyInSteps};
+ghost use Rattle.rdm_sound.specs.Orders.{AnswersAllow, BeginsOrderly, KeptIsOrderly, StaysOrderly, StaysOrderlyInSteps};
 
 /// What happens to an endpoint's record at once is what happens to it one step at a time: a call may settle, land, meet, post
 /// and let enter one receive or one message after another.
@@ -17,12 +17,13 @@ pub fn steps_law()
 {}
 
 /// A record that is orderly stays so, by each deed and by each step of which deeds are made: an endpoint that keeps it so at
-/// each call may take every step of `steps_law`.
+/// each call may take every step of `steps_law`. What is kept of each life of a port whose log is right by itself is such a record.
 pub fn orders_law()
     ensures begins { BeginsOrderly }
     ensures stays { StaysOrderly }
     ensures steps { StaysOrderlyInSteps }
     ensures allows { AnswersAllow }
+    ensures kept { KeptIsOrderly }
 {}
 
 /// A life is forgotten as the receives that concern it are lost, then the sends to it, each in a step of its own, and then what
@@ -41,4 +42,5 @@ pub fn heard_law()
     ensures steps { StaysHeardInSteps }
     ensures enters { EntersWhile }
     ensures ends { EntersUntil }
+    ensures kept { KeptIsHeard }
 {}
