@@ -101,6 +101,11 @@ found_orderly r (Some a) v o given new =
 pub posted_orderly : (r : PostedRecv) (v : Kept) → IsOrderly v → r.id.0 < v.receive_count → (Member r.id.0 (posted_numbers v.posted) → ⊥) → IsOrderly (post_one r v)
 posted_orderly r v o given new = found_orderly r (find (accepts r) v.arrived) v o given new
 
+-- a message is heard of
+pub heard_orderly : (source : Life) (number : ℕ) (e : EarlyMessage) (v : Kept) → IsOrderly v → IsOrderly (hear source number e v)
+unfolding hear
+heard_orderly source number e v o = orderly_thinned v (hear source number e v) (thins_still v (hear source number e v) refl refl refl refl refl) o
+
 -- each step
 pub steps_orderly : (v : Kept) → IsOrderly v → StepsStayOrderly v
 steps_orderly v o =
@@ -110,6 +115,8 @@ steps_orderly v o =
       meets = λ p. orderly_thinned v _ (meets_thin p v) o;
       accepts = λ req free. accepted_orderly req v o free;
       posts = λ r given new. posted_orderly r v o given new;
+      cancels = λ number. orderly_thinned v _ (cancels_thin number v) o;
+      hears = λ source number e. heard_orderly source number e v o;
       enters = λ source. orderly_thinned v _ (enters_thin source v) o;
     }
 
@@ -212,10 +219,6 @@ added_orderly source number p v o =
       | true ↦ orderly_thinned v (with_early source number (with_more p) v) (thins_still v (with_early source number (with_more p) v) refl refl refl refl refl) o
       | false ↦ land_found_orderly (receive_of v source number) p v o
     ]
-
-pub heard_orderly : (source : Life) (number : ℕ) (e : EarlyMessage) (v : Kept) → IsOrderly v → IsOrderly (hear source number e v)
-unfolding hear
-heard_orderly source number e v o = orderly_thinned v (hear source number e v) (thins_still v (hear source number e v) refl refl refl refl refl) o
 
 opened_orderly : (source : Life) (number : ℕ) (head : Head) (form : Form) (v : Kept) → IsOrderly v → IsOrderly (after_rtm source number head form v)
 unfolding after_rtm

@@ -34,7 +34,8 @@ use Rattle.rdm_sound.proofs.Enters.{enters_each}
 use Rattle.rdm_sound.proofs.Forgotten.{forgets_each, forgets_none}
 use Rattle.rdm_sound.proofs.HeardRuns.{enters_while}
 use Rattle.rdm_sound.proofs.HeardSame.{hears_still, heard_same, landed_hears, cancelled_hears, pushed_hears, peer_hears, sent_hears, more_hears, lost_receives_heard, lost_sends_heard}
-use Rattle.rdm_sound.proofs.HeardSteps.{posts_heard, enters_heard, hears_heard, loses_heard}
+use Rattle.rdm_sound.proofs.HeardSteps.{hears_heard, loses_heard}
+use Rattle.rdm_sound.proofs.HeardEnters.{posts_heard, enters_heard}
 use Rattle.rdm_sound.proofs.Orderly.{numbered, orderly_thinned}
 use Rattle.rdm_sound.proofs.Posts.{posts_one}
 use Rattle.rdm_sound.proofs.Thinning.{thins_still}

@@ -8,12 +8,12 @@ use Rattle.rdm_num.specs.declared.numbers.Life.{Life}
 use Rattle.rdm_num.specs.declared.request.SendReq.{SendReq}
 use Rattle.rdm_match.specs.declared.Arrived.{Arrived}
 use Rattle.rdm_model.specs.Replies.{Reply}
-use Rattle.rdm_life.specs.Kept.{Kept, Peer, EarlyMessage, LiveSend, LiveReceive, with_peer, send_numbered, receive_numbered}
-use Rattle.rdm_life.specs.Landing.{is_full, settle, land}
+use Rattle.rdm_life.specs.Kept.{Kept, Peer, EarlyMessage, LiveSend, LiveReceive, with_peer, is_receive, send_numbered, receive_numbered, change_where}
+use Rattle.rdm_life.specs.Landing.{is_full, with_piece, settle, land}
 use Rattle.rdm_life.specs.Receiving.{after_cancel, with_early}
 use Rattle.rdm_life.specs.Sending.{push_send, push_first, send_next, send_to}
 use Rattle.rdm_sound.specs.Premises.{AreOnce}
-use Rattle.rdm_sound.specs.Steps.{settle_found, with_end, with_next_window, with_replies}
+use Rattle.rdm_sound.specs.Steps.{settle_found, with_end, with_next_window, with_replies, land_one}
 use Rattle.rdm_sound.specs.Forgets.{lose_receive, lose_receives, lose_send, lose_sends}
 use Rattle.rdm_sound.specs.Heard.{IsHeardEarly, arrived_names}
 
@@ -77,6 +77,12 @@ pub landed_hears : (number : ℕ) (p : Piece) (v : Kept) → HearsSame v (land n
 unfolding land settle
 landed_hears number p v = hears_still v (land number p v) refl refl refl refl refl
 
+pub landed_one_hears : (number : ℕ) (p : Piece) (v : Kept) → HearsSame v (land_one number p v)
+landed_one_hears number p v =
+    let u : Kept = record v { receives = change_where (is_receive number) (with_piece p) v.receives } in
+    let h = settled_hears false (receive_numbered u number) u in
+    record { heard = h.heard; next = h.next; arrived = h.arrived; early = h.early; counts = h.counts; count = h.count }
+
 pub cancelled_hears : (recv : ℕ) (v : Kept) → HearsSame v (after_cancel recv v)
 unfolding after_cancel
 cancelled_hears recv v = hears_still v (after_cancel recv v) refl refl refl refl refl
@@ -136,7 +142,7 @@ more_hears source number change v =
     }
 
 -- receives and sends are lost
-lost_receive_hears : (o : Option LiveReceive) (v : Kept) → HearsSame v (lose_receive o v)
+pub lost_receive_hears : (o : Option LiveReceive) (v : Kept) → HearsSame v (lose_receive o v)
 unfolding lose_receive
 lost_receive_hears None v = hears_still v v refl refl refl refl refl
 lost_receive_hears (Some r) v = hears_still v (lose_receive (Some r) v) refl refl refl refl refl
@@ -148,7 +154,7 @@ lost_receives_heard (n ∷ rest) v h =
     let w : Kept = lose_receive (receive_numbered v n) v in
     lost_receives_heard rest w (heard_same v w (lost_receive_hears (receive_numbered v n) v) h)
 
-lost_send_hears : (o : Option LiveSend) (v : Kept) → HearsSame v (lose_send o v)
+pub lost_send_hears : (o : Option LiveSend) (v : Kept) → HearsSame v (lose_send o v)
 unfolding lose_send
 lost_send_hears None v = hears_still v v refl refl refl refl refl
 lost_send_hears (Some s) v = hears_still v (lose_send (Some s) v) refl refl refl refl refl

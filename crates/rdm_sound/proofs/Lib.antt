@@ -26,6 +26,8 @@ pub mod Forgotten
 -- what was heard of stays early
 pub mod EarlyLists
 pub mod HeardSame
+pub mod HeardMeets
+pub mod HeardEnters
 pub mod HeardSteps
 pub mod HeardRuns
 pub mod HeardDeeds

@@ -2,8 +2,10 @@
 use Rattle.std.specs.Prelude.{◌≡◌, ◌<◌, ◌≤◌, ℕ, Bool, true, false, List, map, filter, length, Some, is_some}
 use Rattle.rdm_lists.specs.Lists.{Member}
 use Rattle.rdm_num.specs.Lives.{same_life}
+use Rattle.rdm_num.specs.Pieces.{Piece}
 use Rattle.rdm_num.specs.declared.numbers.Life.{Life}
 use Rattle.rdm_num.specs.declared.numbers.Connid.{Connid}
+use Rattle.rdm_num.specs.declared.request.RecvReq.{RecvReq}
 use Rattle.rdm_match.specs.declared.PostedRecv.{PostedRecv}
 use Rattle.rdm_match.specs.declared.Arrived.{Arrived}
 use Rattle.rdm_model.specs.declared.job.Job.{Job}
@@ -14,11 +16,11 @@ use Rattle.rdm_model.specs.Deeds.{Deed, of_life}
 use Rattle.rdm_model.specs.Local.{Local}
 use Rattle.rdm_model.specs.Scenes.{deeds_at}
 use Rattle.rdm_life.specs.Handling.{kept, after}
-use Rattle.rdm_life.specs.Kept.{Kept, EarlyMessage, nothing_kept}
-use Rattle.rdm_life.specs.Receiving.{entering_in, hear}
+use Rattle.rdm_life.specs.Kept.{Kept, EarlyMessage, nothing_kept, send_numbered, receive_numbered}
+use Rattle.rdm_life.specs.Receiving.{receive_in, with_live, entering_in, hear}
 use Rattle.rdm_sound.specs.Premises.{AreOnce, IsOrderly}
-use Rattle.rdm_sound.specs.Steps.{times, settle_one, post_one, enter_one}
-use Rattle.rdm_sound.specs.Forgets.{lose_life}
+use Rattle.rdm_sound.specs.Steps.{times, settle_one, land_one, post_one, enter_one}
+use Rattle.rdm_sound.specs.Forgets.{lose_receive, lose_send, lose_life}
 use Rattle.rdm_sound.specs.Orders.{IsAllowed}
 
 -- a message by its life and number
@@ -37,7 +39,8 @@ pub record EarlyAre (v : Kept) (names : List Name) : Type 0 where
   pub count : v.early_count ≡ length names
   pub counts : (life : Life) → v.early_of life ≡ length (filter (λ (m : Name). same_life m.life life) names)
 
--- what is early was heard of; each message that was heard of and did not enter is early; and those that wait for a receive have entered, are early, and wait once
+-- what is early was heard of; each message that was heard of and did not enter is early; and those that wait for a receive have
+-- entered, are early, and wait once
 pub record IsHeardEarly (v : Kept) : Type 0 where
   pub names : List Name
   pub are : EarlyAre v names
@@ -62,9 +65,13 @@ is_next_heard source v = (v.peers source).heard (v.peers source).next
 -- It stays so by each step: a message is heard of that was not, and one enters that was.
 pub record StepsStayHeard (v : Kept) : Type 0 where
   pub settles : (is_new : Bool) (number : ℕ) → IsHeardEarly (settle_one is_new number v)
+  pub lands : (number : ℕ) (p : Piece) → IsHeardEarly (land_one number p v)
+  pub accepts : (req : RecvReq) → IsHeardEarly (with_live (receive_in v req) v)
   pub posts : (r : PostedRecv) → IsHeardEarly (post_one r v)
   pub hears : (source : Life) (number : ℕ) (e : EarlyMessage) → (v.peers source).heard number ≡ false → IsHeardEarly (hear source number e v)
   pub enters : (source : Life) → is_next_heard source v ≡ true → IsHeardEarly (enter_one source v)
+  pub loses_receives : (number : ℕ) → IsHeardEarly (lose_receive (receive_numbered v number) v)
+  pub loses_sends : (number : ℕ) → IsHeardEarly (lose_send (send_numbered v number) v)
   pub loses : (life : Life) → IsHeardEarly (lose_life life v)
 
 abbrev pub StaysHeardInSteps : Type 0
@@ -76,6 +83,10 @@ KeptIsHeard =
     (job : Job) (port : ℕ) (connid : Connid) (log : List Entry)
     → Local job port log
     → IsHeardEarly (kept (own_of job (life_at port (Some connid))) (of_life connid (deeds_at job port log)))
+
+-- A message that enters next is early, where it was heard of.
+abbrev pub EntersEarly : Type 0
+EntersEarly = (source : Life) (v : Kept) → IsHeardEarly v → is_next_heard source v ≡ true → (e : EarlyMessage) × (v.early source (v.peers source).next ≡ Some e)
 
 -- Messages of a life enter one after another while the next was heard of,
 abbrev pub EntersWhile : Type 0

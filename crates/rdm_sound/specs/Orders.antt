@@ -21,8 +21,8 @@ use Rattle.rdm_model.specs.Local.{Local}
 use Rattle.rdm_model.specs.Scenes.{deeds_at}
 use Rattle.rdm_life.specs.Facts.{meets_receive_in, facts_in}
 use Rattle.rdm_life.specs.Handling.{kept, after}
-use Rattle.rdm_life.specs.Kept.{Kept, nothing_kept}
-use Rattle.rdm_life.specs.Receiving.{receive_in, with_live}
+use Rattle.rdm_life.specs.Kept.{Kept, EarlyMessage, nothing_kept}
+use Rattle.rdm_life.specs.Receiving.{receive_in, with_live, after_cancel, hear}
 use Rattle.rdm_sound.specs.Premises.{IsOrderly, posted_numbers}
 use Rattle.rdm_sound.specs.Steps.{settle_one, land_one, meet_one, post_one, enter_one}
 
@@ -50,6 +50,8 @@ pub record StepsStayOrderly (v : Kept) : Type 0 where
   pub meets : (p : Pair) → IsOrderly (meet_one p v)
   pub accepts : (req : RecvReq) → meets_receive_in v req.region.0 req.at req.len ≡ false → IsOrderly (with_live (receive_in v req) v)
   pub posts : (r : PostedRecv) → r.id.0 < v.receive_count → (Member r.id.0 (posted_numbers v.posted) → ⊥) → IsOrderly (post_one r v)
+  pub cancels : (number : ℕ) → IsOrderly (after_cancel number v)
+  pub hears : (source : Life) (number : ℕ) (e : EarlyMessage) → IsOrderly (hear source number e v)
   pub enters : (source : Life) → IsOrderly (enter_one source v)
 
 abbrev pub StaysOrderlyInSteps : Type 0

@@ -2,7 +2,7 @@
 #![tactic(auto)]
 
 ghost use Rattle.rdm_sound.specs.Forgets.{ForgetsEach, ForgetsNone, StaysOrderlyByLosses};
-ghost use Rattle.rdm_sound.specs.Heard.{BeginsHeard, EntersUntil, EntersWhile, KeptIsHeard, StaysHeard, StaysHeardInSteps};
+ghost use Rattle.rdm_sound.specs.Heard.{BeginsHeard, EntersEarly, EntersUntil, EntersWhile, KeptIsHeard, StaysHeard, StaysHeardInSteps};
 ghost use Rattle.rdm_sound.specs.Laws.{EntersEach, LandsInOne, MeetsEach, PostsOne, SettlesEach};
 ghost use Rattle.rdm_sound.specs.Orders.{AnswersAllow, BeginsOrderly, KeptIsOrderly, StaysOrderly, StaysOrderlyInSteps};
 
@@ -40,6 +40,7 @@ pub fn heard_law()
     ensures begins { BeginsHeard }
     ensures stays { StaysHeard }
     ensures steps { StaysHeardInSteps }
+    ensures early { EntersEarly }
     ensures enters { EntersWhile }
     ensures ends { EntersUntil }
     ensures kept { KeptIsHeard }
