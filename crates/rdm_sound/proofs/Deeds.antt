@@ -242,11 +242,15 @@ item_orderly from (Asks ask) v o = orderly_thinned v (after_item from (Asks ask)
 item_orderly from (Gives g) v o = landed_orderly g.recv_id.0 (record { offset = g.at; bytes = g.bytes }) v o
 item_orderly from _ v o = o
 
-taken_orderly : (from : Life) (item : Item) (v : Kept) → IsOrderly v → IsOrderly (after_take from item v)
+-- its source is met, and current where its port had no life
+pub source_orderly : (from : Life) (v : Kept) → IsOrderly v → IsOrderly (greet true from None (with_source from v))
 unfolding greet with_source
-taken_orderly from item v o =
+source_orderly from v o =
     let w : Kept = greet true from None (with_source from v) in
-    item_orderly from item w (orderly_thinned v w (thins_still v w refl refl refl refl refl) o)
+    orderly_thinned v w (thins_still v w refl refl refl refl refl) o
+
+taken_orderly : (from : Life) (item : Item) (v : Kept) → IsOrderly v → IsOrderly (after_take from item v)
+taken_orderly from item v o = item_orderly from item (greet true from None (with_source from v)) (source_orderly from v o)
 
 -- ---- all deeds
 

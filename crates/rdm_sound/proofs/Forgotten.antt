@@ -111,7 +111,7 @@ no_concern : (r : LiveReceive) → concerns [] r ≡ false
 unfolding concerns
 no_concern r = let a = none_named r.receive.posted.from in let b = of_none r.matched in rw (a, b) refl
 
-or_nothing : (b : Bool) → (b || false) ≡ b
+pub or_nothing : (b : Bool) → (b || false) ≡ b
 or_nothing true = refl
 or_nothing false = refl
 

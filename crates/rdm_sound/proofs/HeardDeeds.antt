@@ -29,16 +29,15 @@ use Rattle.rdm_sound.specs.Forgets.{lose_receives, lose_sends, lost_receives, lo
 use Rattle.rdm_sound.specs.Heard.{IsHeardEarly, is_next_heard}
 use Rattle.rdm_sound.specs.Orders.{IsAllowed}
 use Rattle.rdm_sound.specs.Steps.{times, enter_one}
-use Rattle.rdm_sound.proofs.Deeds.{heard_orderly}
+use Rattle.rdm_sound.proofs.Deeds.{heard_orderly, source_orderly}
 use Rattle.rdm_sound.proofs.Enters.{enters_each}
 use Rattle.rdm_sound.proofs.Forgotten.{forgets_each, forgets_none}
 use Rattle.rdm_sound.proofs.HeardRuns.{enters_while}
 use Rattle.rdm_sound.proofs.HeardSame.{hears_still, heard_same, landed_hears, cancelled_hears, pushed_hears, peer_hears, sent_hears, more_hears, lost_receives_heard, lost_sends_heard}
 use Rattle.rdm_sound.proofs.HeardSteps.{hears_heard, loses_heard}
 use Rattle.rdm_sound.proofs.HeardEnters.{posts_heard, enters_heard}
-use Rattle.rdm_sound.proofs.Orderly.{numbered, orderly_thinned}
+use Rattle.rdm_sound.proofs.Orderly.{numbered}
 use Rattle.rdm_sound.proofs.Posts.{posts_one}
-use Rattle.rdm_sound.proofs.Thinning.{thins_still}
 
 -- ---- messages that enter
 
@@ -113,12 +112,6 @@ greeted_heard is_met life raw v h =
     let w : Kept = with_peer life change v in
     heard_same w (greet is_met life raw v) (hears_still w (greet is_met life raw v) refl refl refl refl refl)
     (heard_same v w (peer_hears life change v (λ p. refl) (λ p. refl)) h)
-
-source_orderly : (from : Life) (v : Kept) → IsOrderly v → IsOrderly (greet true from None (with_source from v))
-unfolding greet with_source
-source_orderly from v o =
-    let w : Kept = greet true from None (with_source from v) in
-    orderly_thinned v w (thins_still v w refl refl refl refl refl) o
 
 source_heard : (from : Life) (v : Kept) → IsHeardEarly v → IsHeardEarly (with_source from v)
 unfolding with_source

@@ -20,6 +20,7 @@ use Rattle.rdm_sound.specs.Heard.{named, arrived_names, IsHeardEarly, is_next_he
 use Rattle.rdm_sound.proofs.EarlyLists.{length_split, filters_turn}
 use Rattle.rdm_sound.proofs.HeardSame.{hears_still, heard_same, settled_hears, landed_one_hears, lost_receive_hears, lost_send_hears}
 use Rattle.rdm_sound.proofs.Thinned.{thinned_once, thinned_map, thinned_filter}
+use Rattle.rdm_sound.proofs.Forgotten.{or_nothing}
 use Rattle.rdm_sound.proofs.HeardEnters.{posts_heard, enters_heard}
 use Rattle.rdm_sound.proofs.HeardMeets.{name_is, tests}
 
@@ -38,11 +39,6 @@ hear_next : (source : Life) (number : ℕ) (e : EarlyMessage) (v : Kept) (life :
 unfolding hear
 hear_next source number e v life =
     elim (same_life life source) as (λ b. (cond b (record (v.peers life) { heard = λ n. (v.peers life).heard n || n == number }) (v.peers life)).next ≡ (v.peers life).next) [ true ↦ refl | false ↦ refl ]
-
--- nothing is added
-or_nothing : (b : Bool) → (b || false) ≡ true → b ≡ true
-or_nothing true e = refl
-or_nothing false e = e
 
 -- how many are early of a life
 hear_counts : (source life : Life) (k : ℕ) (number : ℕ) (names : List Name) → k ≡ length (filter (λ (m : Name). same_life m.life life) names)
@@ -85,7 +81,7 @@ hears_heard source number e v new h =
           let next = hear_next source number e v life in
           (elim (t life n) as (λ b. ((v.peers life).heard n || b) ≡ true → is_some (cond b (Some e) (v.early life n)) ≡ true) [
             | true ↦ λ k. refl
-            | false ↦ λ k. h.waits life n (or_nothing ((v.peers life).heard n) k) (omega arith)
+            | false ↦ λ k. h.waits life n (sym (or_nothing ((v.peers life).heard n)) ∙ k) (omega arith)
           ]) (sym (hear_is source number e v life n) ∙ k);
       arrived_once = h.arrived_once;
       arrived_before = λ a m. let b = h.arrived_before a m in let n = hear_next source number e v a.life in omega arith;

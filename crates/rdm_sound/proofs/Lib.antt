@@ -31,5 +31,8 @@ pub mod HeardEnters
 pub mod HeardSteps
 pub mod HeardRuns
 pub mod HeardDeeds
+-- receives that wait stay live and without a message
+pub mod Waiting
+pub mod WaitingDeeds
 -- so it is with what is kept of a life
 pub mod KeptOrderly

@@ -61,7 +61,7 @@ pub passing_once : {A : Type 0} (key : A → ℕ) (t : A → Bool) (xs : List A)
 passing_once key t xs once = thinned_once (map key (filter t xs)) (map key xs) (thinned_map key (filter t xs) xs (thinned_filter t xs)) once
 
 -- what has the number of an element is that one
-found_one : {A : Type 0} (key : A → ℕ) (x : A) (xs : List A) → AreOnce (map key xs) → Member x xs → find (λ y. key y == key x) xs ≡ Some x
+pub found_one : {A : Type 0} (key : A → ℕ) (x : A) (xs : List A) → AreOnce (map key xs) → Member x xs → find (λ y. key y == key x) xs ≡ Some x
 found_one key x xs once m =
     find_only (λ y. key y == key x) x xs m (eq-eqb (key x) (key x) refl) (λ y k e. same_key key xs once y x k m (eqb-true (key y) (key x) e))
 

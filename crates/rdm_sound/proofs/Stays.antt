@@ -49,7 +49,7 @@ unfolding change_where
 apart_where t f rs same apart = apart_changed (λ x. if t x then f x else x) rs (λ x. where_same t f x (same x)) apart
 
 -- a window leaves it
-window_same : (v : Kept) (x : LiveReceive) → (with_window v.own x).receive ≡ x.receive
+pub window_same : (v : Kept) (x : LiveReceive) → (with_window v.own x).receive ≡ x.receive
 unfolding with_window
 window_same v x = refl
 

@@ -20,6 +20,7 @@ use Rattle.rdm_sound.specs.Steps.{settle_found, settle_one, with_end, with_next_
 use Rattle.rdm_sound.proofs.Thinned.{IsThinned, thinned_self, thinned_same, thinned_more, thinned_map, thinned_filter, thinned_without, change_unseen}
 use Rattle.rdm_sound.proofs.Orderly.{Thins, thins_none, thins_again, accepted_receives, accepted_sends}
 use Rattle.rdm_sound.proofs.Pairs.{taken, message_same}
+use Rattle.rdm_sound.proofs.Stays.{window_same}
 
 -- ---- receives
 
@@ -52,10 +53,6 @@ thins_changed t f v same =
     }
 
 -- one settles
-window_same : (own : Own) (x : LiveReceive) → (with_window own x).receive ≡ x.receive
-unfolding with_window
-window_same own x = refl
-
 settled_thins : (is_new : Bool) (o : Option LiveReceive) (v : Kept) → Thins v (settle_found is_new o v)
 unfolding settle_found
 settled_thins is_new None v = thins_none v
@@ -63,7 +60,7 @@ settled_thins is_new (Some r) v =
     elim (is_full r.matched) as (λ b. Thins v (with_replies is_new r (cond b (with_end r v) (with_next_window r v)))) [
       | true ↦ (let h = thins_none v in
           record { receives = thinned_live (λ (q : LiveReceive). not (is_receive r.receive.number q)) v.receives; posted = h.posted; sends = h.sends; receive_count = refl; send_count = refl })
-      | false ↦ (let h = thins_changed (is_receive r.receive.number) (with_window v.own) v (window_same v.own) in
+      | false ↦ (let h = thins_changed (is_receive r.receive.number) (with_window v.own) v (window_same v) in
           record { receives = h.receives; posted = h.posted; sends = h.sends; receive_count = refl; send_count = refl })
     ]
 
@@ -77,7 +74,7 @@ lands_thin number p v =
     thins_again v w (settle_one false number w) (thins_changed (is_receive number) (with_piece p) v (λ x. refl)) (settles_thin false number w)
 
 -- one takes its message
-taken_thins : (p : Pair) (v : Kept) → Thins v (taken p v)
+pub taken_thins : (p : Pair) (v : Kept) → Thins v (taken p v)
 taken_thins p v =
     let h = thins_changed (is_receive p.recv.id.0) (with_message p (v.early p.message.life p.message.no.0)) v (message_same p (v.early p.message.life p.message.no.0)) in
     record { receives = h.receives; posted = h.posted; sends = h.sends; receive_count = refl; send_count = refl }

@@ -11,3 +11,5 @@ pub mod Laws
 pub mod Orders
 -- and that what was heard of stays early
 pub mod Heard
+-- and receives that wait live and without a message
+pub mod Waiting

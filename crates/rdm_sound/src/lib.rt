@@ -5,6 +5,7 @@ ghost use Rattle.rdm_sound.specs.Forgets.{ForgetsEach, ForgetsNone, StaysOrderly
 ghost use Rattle.rdm_sound.specs.Heard.{BeginsHeard, EntersEarly, EntersUntil, EntersWhile, KeptIsHeard, StaysHeard, StaysHeardInSteps};
 ghost use Rattle.rdm_sound.specs.Laws.{EntersEach, LandsInOne, MeetsEach, PostsOne, SettlesEach};
 ghost use Rattle.rdm_sound.specs.Orders.{AnswersAllow, BeginsOrderly, KeptIsOrderly, StaysOrderly, StaysOrderlyInSteps};
+ghost use Rattle.rdm_sound.specs.Waiting.{AcceptsFree, BeginsWaiting, KeptIsWaiting, StaysWaiting, StaysWaitingInSteps};
 
 /// What happens to an endpoint's record at once is what happens to it one step at a time: a call may settle, land, meet, post
 /// and let enter one receive or one message after another.
@@ -44,4 +45,14 @@ pub fn heard_law()
     ensures enters { EntersWhile }
     ensures ends { EntersUntil }
     ensures kept { KeptIsHeard }
+{}
+
+/// A receive that waits is live under its number and has no message, by each deed and by each step: so a message that a waiting
+/// receive accepts finds one that may take it.
+pub fn waiting_law()
+    ensures begins { BeginsWaiting }
+    ensures stays { StaysWaiting }
+    ensures steps { StaysWaitingInSteps }
+    ensures accepts { AcceptsFree }
+    ensures kept { KeptIsWaiting }
 {}
