@@ -155,14 +155,14 @@ forgets_none v =
 
 -- ---- each loss leaves a record orderly
 
-lost_receive_thins : (o : Option LiveReceive) (v : Kept) → Thins v (lose_receive o v)
+pub lost_receive_thins : (o : Option LiveReceive) (v : Kept) → Thins v (lose_receive o v)
 unfolding lose_receive
 lost_receive_thins None v = thins_none v
 lost_receive_thins (Some r) v =
     let h = thins_none v in
     record { receives = thinned_live (λ (q : LiveReceive). not (is_receive r.receive.number q)) v.receives; posted = h.posted; sends = h.sends; receive_count = refl; send_count = refl }
 
-lost_send_thins : (o : Option LiveSend) (v : Kept) → Thins v (lose_send o v)
+pub lost_send_thins : (o : Option LiveSend) (v : Kept) → Thins v (lose_send o v)
 unfolding lose_send
 lost_send_thins None v = thins_none v
 lost_send_thins (Some s) v =

@@ -22,7 +22,7 @@ use Rattle.rdm_sound.proofs.Numbers.{once_below}
 -- ---- what is known of lives
 
 -- after so many messages entered
-times_peers : (n : ℕ) (source : Life) (v : Kept) → (times n (enter_one source) v).peers ≡ further source n v.peers
+pub times_peers : (n : ℕ) (source : Life) (v : Kept) → (times n (enter_one source) v).peers ≡ further source n v.peers
 unfolding times
 times_peers zero source v = sym (further_none source v.peers)
 times_peers (suc n) source v =
@@ -42,7 +42,7 @@ next_times n source v =
 -- ---- runs of numbers
 
 -- each number of a run was heard of
-run_heard : (most : ℕ) (heard : ℕ → Bool) (from n : ℕ) → n < heard_run most heard from → heard (from + n) ≡ true
+pub run_heard : (most : ℕ) (heard : ℕ → Bool) (from n : ℕ) → n < heard_run most heard from → heard (from + n) ≡ true
 unfolding heard_run
 run_heard zero heard from n less = absurd (omega arith)
 run_heard (suc most) heard from zero less =
@@ -73,7 +73,7 @@ pub enters_while : (source : Life) (v : Kept) (n : ℕ) → n < entering_in v so
 enters_while source v n less = next_times n source v ∙ run_heard v.early_count (v.peers source).heard (v.peers source).next n less
 
 -- numbers that were heard of one after another are no more than the early messages
-heard_fit : (source : Life) (n : ℕ) (v : Kept) → IsHeardEarly v → ((k : ℕ) → k < n → (v.peers source).heard ((v.peers source).next + k) ≡ true) → n ≤ v.early_count
+pub heard_fit : (source : Life) (n : ℕ) (v : Kept) → IsHeardEarly v → ((k : ℕ) → k < n → (v.peers source).heard ((v.peers source).next + k) ≡ true) → n ≤ v.early_count
 heard_fit source n v h each =
     let next = (v.peers source).next in
     let f : ℕ → Name = λ k. named source (next + k) in
@@ -87,13 +87,13 @@ heard_fit source n v h each =
     let c = h.are.count in
     omega arith
 
-pub enters_until : (source : Life) (v : Kept) → IsHeardEarly v → is_next_heard source (times (entering_in v source) (enter_one source) v) ≡ false
-enters_until source v h =
+-- the number after those that enter was not heard of
+pub entering_stops : (source : Life) (v : Kept) → IsHeardEarly v → (v.peers source).heard ((v.peers source).next + entering_in v source) ≡ false
+entering_stops source v h =
     let heard = (v.peers source).heard in
     let next = (v.peers source).next in
     let count = entering_in v source in
-    next_times count source v
-    ∙ false_from_ne_true (heard (next + count)) (λ on.
+    false_from_ne_true (heard (next + count)) (λ on.
     let fits = heard_fit source (suc count) v h (λ k less.
     elim (last_or_less k count less) [
       | inl is ↦ subst (λ (j : ℕ). heard (next + j) ≡ true) (sym is) on
@@ -102,3 +102,6 @@ enters_until source v h =
     let off = run_stops v.early_count heard next (omega arith) in
     let wrong : true ≡ false = sym on ∙ off in
     cc)
+
+pub enters_until : (source : Life) (v : Kept) → IsHeardEarly v → is_next_heard source (times (entering_in v source) (enter_one source) v) ≡ false
+enters_until source v h = next_times (entering_in v source) source v ∙ entering_stops source v h

@@ -23,6 +23,7 @@ pub mod Deeds
 -- a life is forgotten loss by loss
 pub mod Losses
 pub mod Forgotten
+pub mod ForgottenNext
 -- what was heard of stays early
 pub mod EarlyLists
 pub mod HeardSame
@@ -30,6 +31,7 @@ pub mod HeardMeets
 pub mod HeardEnters
 pub mod HeardSteps
 pub mod HeardRuns
+pub mod HeardNext
 pub mod HeardDeeds
 -- receives that wait stay live and without a message
 pub mod Waiting

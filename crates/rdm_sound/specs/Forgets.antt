@@ -1,5 +1,5 @@
 -- A life is forgotten, one receive and one send at a time.
-use Rattle.std.specs.Prelude.{◌≡◌, ℕ, ◌-◌, true, not, ◌||◌, if◌then◌else◌, List, [], ◌∷◌, ◌++◌, filter, Option, Some, None}
+use Rattle.std.specs.Prelude.{◌≡◌, ℕ, ◌-◌, true, not, ◌||◌, if◌then◌else◌, List, [], ◌∷◌, ◌++◌, filter, find, Option, Some, None}
 use Rattle.rdm_num.specs.Lives.{same_life, is_life}
 use Rattle.rdm_num.specs.declared.numbers.Life.{Life}
 use Rattle.rdm_num.specs.declared.completion.Completion.TheVariants.{Send, Recv}
@@ -65,6 +65,25 @@ lost_sends life v = send_numbers (filter (λ (s : LiveSend). same_life s.sent.to
 -- A life is forgotten as the receives that concern it go, then the sends to it, and then what else is kept of it.
 abbrev pub ForgetsEach : Type 0
 ForgetsEach = (life : Life) (v : Kept) → IsOrderly v → forget (life ∷ []) v ≡ lose_life life (lose_sends (lost_sends life v) (lose_receives (lost_receives life v) v))
+
+-- The first receive that concerns a life is lost before the others,
+abbrev pub ForgetsReceive : Type 0
+ForgetsReceive =
+    (life : Life) (r : LiveReceive) (v : Kept) → IsOrderly v → find (concerns (life ∷ [])) v.receives ≡ Some r
+    → forget (life ∷ []) v ≡ forget (life ∷ []) (lose_receive (Some r) v)
+
+-- then the first send to it before the others,
+abbrev pub ForgetsSend : Type 0
+ForgetsSend =
+    (life : Life) (s : LiveSend) (v : Kept) → IsOrderly v → find (concerns (life ∷ [])) v.receives ≡ None
+    → find (λ (x : LiveSend). same_life x.sent.to life) v.sends ≡ Some s
+    → forget (life ∷ []) v ≡ forget (life ∷ []) (lose_send (Some s) v)
+
+-- and what else is kept of it where none is left.
+abbrev pub ForgetsRest : Type 0
+ForgetsRest =
+    (life : Life) (v : Kept) → IsOrderly v → find (concerns (life ∷ [])) v.receives ≡ None → find (λ (x : LiveSend). same_life x.sent.to life) v.sends ≡ None
+    → forget (life ∷ []) v ≡ lose_life life v
 
 -- Where no life is forgotten, all stays.
 abbrev pub ForgetsNone : Type 0

@@ -1,5 +1,5 @@
 -- What was heard of and did not enter is early, and so is what entered and waits for a receive.
-use Rattle.std.specs.Prelude.{◌≡◌, ◌<◌, ◌≤◌, ℕ, Bool, true, false, List, map, filter, length, Some, is_some}
+use Rattle.std.specs.Prelude.{◌≡◌, ◌<◌, ◌≤◌, ℕ, ◌+◌, Bool, true, false, List, map, filter, length, Some, is_some}
 use Rattle.rdm_lists.specs.Lists.{Member}
 use Rattle.rdm_num.specs.Lives.{same_life}
 use Rattle.rdm_num.specs.Pieces.{Piece}
@@ -17,7 +17,7 @@ use Rattle.rdm_model.specs.Local.{Local}
 use Rattle.rdm_model.specs.Scenes.{deeds_at}
 use Rattle.rdm_life.specs.Handling.{kept, after}
 use Rattle.rdm_life.specs.Kept.{Kept, EarlyMessage, nothing_kept, send_numbered, receive_numbered}
-use Rattle.rdm_life.specs.Receiving.{receive_in, with_live, entering_in, hear}
+use Rattle.rdm_life.specs.Receiving.{receive_in, with_live, entering_in, enter, hear}
 use Rattle.rdm_sound.specs.Premises.{AreOnce, IsOrderly}
 use Rattle.rdm_sound.specs.Steps.{times, settle_one, land_one, post_one, enter_one}
 use Rattle.rdm_sound.specs.Forgets.{lose_receive, lose_send, lose_life}
@@ -95,3 +95,13 @@ EntersWhile = (source : Life) (v : Kept) (n : ℕ) → n < entering_in v source 
 -- and then it was not.
 abbrev pub EntersUntil : Type 0
 EntersUntil = (source : Life) (v : Kept) → IsHeardEarly v → is_next_heard source (times (entering_in v source) (enter_one source) v) ≡ false
+
+-- Where the next message of a life was heard of, it enters before the others, which are then one fewer;
+abbrev pub EntersNext : Type 0
+EntersNext =
+    (source : Life) (v : Kept) → IsOrderly v → IsHeardEarly v → is_next_heard source v ≡ true
+    → (enter source v ≡ enter source (enter_one source v)) × (entering_in v source ≡ entering_in (enter_one source v) source + 1)
+
+-- where it was not, none enters.
+abbrev pub EntersNone : Type 0
+EntersNone = (source : Life) (v : Kept) → IsOrderly v → is_next_heard source v ≡ false → enter source v ≡ v

@@ -1,8 +1,8 @@
 //! The record of an endpoint, one receive or one message at a time.
 #![tactic(auto)]
 
-ghost use Rattle.rdm_sound.specs.Forgets.{ForgetsEach, ForgetsNone, StaysOrderlyByLosses};
-ghost use Rattle.rdm_sound.specs.Heard.{BeginsHeard, EntersEarly, EntersUntil, EntersWhile, KeptIsHeard, StaysHeard, StaysHeardInSteps};
+ghost use Rattle.rdm_sound.specs.Forgets.{ForgetsEach, ForgetsNone, ForgetsReceive, ForgetsRest, ForgetsSend, StaysOrderlyByLosses};
+ghost use Rattle.rdm_sound.specs.Heard.{BeginsHeard, EntersEarly, EntersNext, EntersNone, EntersUntil, EntersWhile, KeptIsHeard, StaysHeard, StaysHeardInSteps};
 ghost use Rattle.rdm_sound.specs.Laws.{EntersEach, LandsInOne, MeetsEach, PostsOne, SettlesEach};
 ghost use Rattle.rdm_sound.specs.Orders.{AnswersAllow, BeginsOrderly, KeptIsOrderly, StaysOrderly, StaysOrderlyInSteps};
 ghost use Rattle.rdm_sound.specs.Waiting.{AcceptsFree, BeginsWaiting, KeptIsWaiting, StaysWaiting, StaysWaitingInSteps};
@@ -31,6 +31,9 @@ pub fn orders_law()
 /// else is kept of it. A record stays orderly by each of these steps.
 pub fn losses_law()
     ensures forgets { ForgetsEach }
+    ensures receives { ForgetsReceive }
+    ensures sends { ForgetsSend }
+    ensures rest { ForgetsRest }
     ensures none { ForgetsNone }
     ensures stays { StaysOrderlyByLosses }
 {}
@@ -44,6 +47,8 @@ pub fn heard_law()
     ensures early { EntersEarly }
     ensures enters { EntersWhile }
     ensures ends { EntersUntil }
+    ensures next { EntersNext }
+    ensures none { EntersNone }
     ensures kept { KeptIsHeard }
 {}
 
