@@ -10,7 +10,7 @@ use Rattle.rdm_num.specs.declared.numbers.Life.{Life}
 use Rattle.rdm_match.specs.declared.PostedRecv.{PostedRecv}
 use Rattle.rdm_match.specs.declared.Arrived.{Arrived}
 use Rattle.rdm_model.specs.Replies.{Reply, without_lives}
-use Rattle.rdm_life.specs.Kept.{Kept, LiveSend, LiveReceive, Matched, is_send, is_receive, send_numbered, receive_numbered, stranger}
+use Rattle.rdm_life.specs.Kept.{Kept, LiveSend, LiveReceive, Matched, is_send, is_receive, stranger}
 use Rattle.rdm_life.specs.Memory.{byte_back, with_back}
 use Rattle.rdm_life.specs.Forgetting.{is_among, names_one, is_of_one, concerns, zeroed, gone_completions, forget}
 use Rattle.rdm_sound.specs.Premises.{IsOrderly, send_numbers}
@@ -179,7 +179,7 @@ lost_life_thins life v =
 pub losses_orderly : (v : Kept) → IsOrderly v → LossesStayOrderly v
 losses_orderly v o =
     record {
-      receives = λ number. orderly_thinned v _ (lost_receive_thins (receive_numbered v number) v) o;
-      sends = λ number. orderly_thinned v _ (lost_send_thins (send_numbered v number) v) o;
+      receives = λ r. orderly_thinned v _ (lost_receive_thins r v) o;
+      sends = λ s. orderly_thinned v _ (lost_send_thins s v) o;
       lives = λ life. orderly_thinned v _ (lost_life_thins life v) o;
     }

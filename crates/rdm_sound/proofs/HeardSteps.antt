@@ -12,7 +12,7 @@ use Rattle.rdm_num.proofs.Lives.{same_life-true}
 use Rattle.rdm_num.specs.declared.numbers.Life.{Life}
 use Rattle.rdm_match.specs.declared.Arrived.{Arrived}
 use Rattle.rdm_model.specs.Completions.{Name}
-use Rattle.rdm_life.specs.Kept.{Kept, Peer, EarlyMessage, send_numbered, receive_numbered, stranger}
+use Rattle.rdm_life.specs.Kept.{Kept, Peer, EarlyMessage, receive_numbered, stranger}
 use Rattle.rdm_life.specs.Receiving.{receive_in, with_live, hear}
 use Rattle.rdm_life.proofs.LivesCurrent.{same_turn}
 use Rattle.rdm_sound.specs.Forgets.{lose_life}
@@ -158,8 +158,8 @@ steps_heard v h =
       posts = λ r. posts_heard r v h;
       hears = λ source number e new. hears_heard source number e v new h;
       enters = λ source next_heard. enters_heard source v h next_heard;
-      loses_receives = λ number. heard_same v _ (lost_receive_hears (receive_numbered v number) v) h;
-      loses_sends = λ number. heard_same v _ (lost_send_hears (send_numbered v number) v) h;
+      loses_receives = λ r. heard_same v _ (lost_receive_hears r v) h;
+      loses_sends = λ s. heard_same v _ (lost_send_hears s v) h;
       loses = λ life. loses_heard life v h;
     }
 

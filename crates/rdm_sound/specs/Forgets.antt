@@ -55,10 +55,11 @@ lose_life life v =
       owed = filter (λ (r : Reply). not (same_life r.to life)) v.owed;
     }
 
--- the numbers of the receives that concern a life, and of the sends to it
+-- the numbers of the receives that concern a life
 abbrev pub lost_receives : Life → Kept → List ℕ
 lost_receives life v = receive_numbers (filter (concerns (life ∷ [])) v.receives)
 
+-- and of the sends to it
 abbrev pub lost_sends : Life → Kept → List ℕ
 lost_sends life v = send_numbers (filter (λ (s : LiveSend). same_life s.sent.to life) v.sends)
 
@@ -91,9 +92,10 @@ ForgetsNone = (v : Kept) → forget [] v ≡ v
 
 -- It stays orderly by each of these steps.
 pub record LossesStayOrderly (v : Kept) : Type 0 where
-  pub receives : (number : ℕ) → IsOrderly (lose_receive (receive_numbered v number) v)
-  pub sends : (number : ℕ) → IsOrderly (lose_send (send_numbered v number) v)
+  pub receives : (r : Option LiveReceive) → IsOrderly (lose_receive r v)
+  pub sends : (s : Option LiveSend) → IsOrderly (lose_send s v)
   pub lives : (life : Life) → IsOrderly (lose_life life v)
 
+-- By each of them, where it was orderly.
 abbrev pub StaysOrderlyByLosses : Type 0
 StaysOrderlyByLosses = (v : Kept) → IsOrderly v → LossesStayOrderly v

@@ -1,5 +1,5 @@
 -- What was heard of and did not enter is early, and so is what entered and waits for a receive.
-use Rattle.std.specs.Prelude.{◌≡◌, ◌<◌, ◌≤◌, ℕ, ◌+◌, Bool, true, false, List, map, filter, length, Some, is_some}
+use Rattle.std.specs.Prelude.{◌≡◌, ◌<◌, ◌≤◌, ℕ, ◌+◌, Bool, true, false, List, map, filter, length, Option, Some, is_some}
 use Rattle.rdm_lists.specs.Lists.{Member}
 use Rattle.rdm_num.specs.Lives.{same_life}
 use Rattle.rdm_num.specs.Pieces.{Piece}
@@ -16,7 +16,7 @@ use Rattle.rdm_model.specs.Deeds.{Deed, of_life}
 use Rattle.rdm_model.specs.Local.{Local}
 use Rattle.rdm_model.specs.Scenes.{deeds_at}
 use Rattle.rdm_life.specs.Handling.{kept, after}
-use Rattle.rdm_life.specs.Kept.{Kept, EarlyMessage, nothing_kept, send_numbered, receive_numbered}
+use Rattle.rdm_life.specs.Kept.{Kept, EarlyMessage, LiveSend, LiveReceive, nothing_kept}
 use Rattle.rdm_life.specs.Receiving.{receive_in, with_live, entering_in, enter, hear}
 use Rattle.rdm_sound.specs.Premises.{AreOnce, IsOrderly}
 use Rattle.rdm_sound.specs.Steps.{times, settle_one, land_one, post_one, enter_one}
@@ -70,10 +70,11 @@ pub record StepsStayHeard (v : Kept) : Type 0 where
   pub posts : (r : PostedRecv) → IsHeardEarly (post_one r v)
   pub hears : (source : Life) (number : ℕ) (e : EarlyMessage) → (v.peers source).heard number ≡ false → IsHeardEarly (hear source number e v)
   pub enters : (source : Life) → is_next_heard source v ≡ true → IsHeardEarly (enter_one source v)
-  pub loses_receives : (number : ℕ) → IsHeardEarly (lose_receive (receive_numbered v number) v)
-  pub loses_sends : (number : ℕ) → IsHeardEarly (lose_send (send_numbered v number) v)
+  pub loses_receives : (r : Option LiveReceive) → IsHeardEarly (lose_receive r v)
+  pub loses_sends : (s : Option LiveSend) → IsHeardEarly (lose_send s v)
   pub loses : (life : Life) → IsHeardEarly (lose_life life v)
 
+-- By each of them, where it was so.
 abbrev pub StaysHeardInSteps : Type 0
 StaysHeardInSteps = (v : Kept) → IsHeardEarly v → StepsStayHeard v
 

@@ -54,6 +54,7 @@ pub record StepsStayOrderly (v : Kept) : Type 0 where
   pub hears : (source : Life) (number : ℕ) (e : EarlyMessage) → IsOrderly (hear source number e v)
   pub enters : (source : Life) → IsOrderly (enter_one source v)
 
+-- By each of them, where it was orderly.
 abbrev pub StaysOrderlyInSteps : Type 0
 StaysOrderlyInSteps = (v : Kept) → IsOrderly v → StepsStayOrderly v
 
