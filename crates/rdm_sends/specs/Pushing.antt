@@ -75,6 +75,10 @@ is_sent_by _ = true
 abbrev pub is_sent : EpLimits → SendingView → (bytes : List ℕ) → Bool
 is_sent limits x bytes = is_opened limits x bytes && is_sent_by x.protocol
 
+-- that is so of each message of that length
+abbrev pub IsSent : EpLimits → SendingView → Bool → Type 0
+IsSent limits x b = (bytes : List ℕ) → length bytes ≡ x.total → b ≡ is_sent limits x bytes
+
 -- a send that neither its receiver ends nor a receipt is over once it was pushed
 abbrev pub ends_by_push : EpLimits → SendingView → (bytes : List ℕ) → Bool
 ends_by_push limits x bytes = not (is_read x.message.kind) && not x.message.confirm && is_sent limits x bytes

@@ -2,15 +2,16 @@
 ghost use Rattle.std.specs.Prelude.{◌≡◌, ◌≤◌, ◌<◌, ◌+◌, ◌↔◌, length, IsTrue, IfOk, IfSome, OnOk, OnErr};
 ghost use Rattle.rdm_num.specs.Lives.{same_life};
 ghost use Rattle.rdm_model.specs.Dues as Dues;
+ghost use Rattle.rdm_model.specs.Targets.{is_long};
 ghost use Rattle.rdm_tx.specs.Asks as Asks;
 ghost use Rattle.rdm_sends.specs.Beginning.{new_sending};
-ghost use Rattle.rdm_sends.specs.Pushing.{IsSpanNext, HasNext, IsLengthNext, IsPacketNext, IsPushed, EndsByPush};
+ghost use Rattle.rdm_sends.specs.Pushing.{IsSpanNext, HasNext, IsLengthNext, IsPacketNext, IsPushed, IsSent, EndsByPush};
 ghost use Rattle.rdm_sends.specs.Coming as Coming;
 
 use crate::begin::{Own, Place, count_bytes, message_for, protocol_for};
 use crate::protocol::Protocol;
 use rdm_num::{Connid, EpLimits, Life, MsgNo, NoMemory, OpId, Parts, SendReq, is_same_life};
-use rdm_pkt::Packet;
+use rdm_pkt::{Kind, Packet};
 use rdm_tx::{Cursor, Message, Span};
 use rdm_wire::ReadAsk;
 use std::alloc::Global;
@@ -119,10 +120,16 @@ impl Sending {
         requires mtu { 256 ≤ limits.now.mtu }
         ensures { EndsByPush limits.now self.now result }
     {
-        !self.protocol.is_read()
-            && !self.message.confirm
-            && self.cursor.is_done(limits, &self.message, self.total)
-            && self.protocol.is_sent()
+        !self.protocol.is_read() && !self.message.confirm && self.is_sent(limits)
+    }
+
+    /// Whether all of it was pushed. Of a send that its receiver reads, only the packets that open it
+    /// are.
+    pub fn is_sent(&self, limits: &EpLimits) -> bool
+        requires mtu { 256 ≤ limits.now.mtu }
+        ensures { IsSent limits.now self.now result }
+    {
+        self.cursor.is_done(limits, &self.message, self.total) && self.protocol.is_sent()
     }
 
     /// Whether the receive may grant so many bytes more. What comes from another life is tested so
@@ -203,6 +210,14 @@ impl Sending {
         ensures { result ≡ Dues.is_read self.now.message.kind }
     {
         self.protocol.is_read()
+    }
+
+    /// Whether its receiver grants what a first part did not bring.
+    #[tactic(auto, unfolding(rdm_model::specs::Targets::is_long))]
+    pub fn is_granted(&self) -> bool
+        ensures { result ≡ is_long self.now.message.kind }
+    {
+        matches!(self.message.kind, Kind::LongCts)
     }
 
     /// Whether a receipt ends it.
