@@ -132,6 +132,7 @@ fn each_kind_opens_by_its_packets(rt: HostRuntime) -> Result<(), Fail> {
         assert!(rt; sending.message_number() == MsgNo(3));
         assert!(rt; sending.is_confirmed() == confirm);
         opens(&rt, &mut sending, spans, ends);
+        assert!(rt; !confirm || sending.is_sent(&LIMITS));
     }
     Ok(())
 }
@@ -266,9 +267,10 @@ fn each_takes_what_its_protocol_has(rt: HostRuntime) -> Result<(), Fail> {
     let alloc = rt.alloc();
     let whole = sending(alloc, 100, 0, Some(0), false)?;
     assert!(rt; !whole.may_ask(&ask_for(0, 10)) && !whole.may_grant(OpId(1), 0));
-    assert!(rt; !whole.is_early_end() && !whole.is_read());
+    assert!(rt; !whole.is_early_end() && !whole.is_read() && !whole.is_granted());
     let granted = sending(alloc, 700, 0, Some(0), false)?;
     assert!(rt; !granted.may_ask(&ask_for(0, 10)) && granted.may_grant(OpId(1), 0));
+    assert!(rt; granted.is_granted() && !granted.is_sent(&LIMITS));
     let read = sending(alloc, 2_000, 1, Some(1), false)?;
     assert!(rt; read.may_ask(&ask_for(0, 10)) && !read.may_grant(OpId(1), 0));
     Ok(())
