@@ -34,3 +34,5 @@ mod Several
 mod Gravest
 -- what the holds and leases of others leave as it was
 mod Survive
+-- a range that goes out and comes back with its bytes
+mod Undone

@@ -1,5 +1,5 @@
 -- Holds of several ranges, one after another.
-use Rattle.std.proofs.Common.{◌≡◌, refl, sym, ap, ◌∙◌, ℕ, zero, suc, ◌+◌, ◌<◌, ◌≤◌, inl, inr, Bool, true, false, cond, List, [], ◌∷◌, length, get_or, take, Option, Some, None, Result, Ok, Err, arith}
+use Rattle.std.proofs.Common.{◌≡◌, refl, sym, ap, ◌∙◌, ℕ, zero, suc, ◌+◌, ◌<◌, ◌≤◌, inl, inr, Bool, true, false, cond, List, [], ◌∷◌, length, get_or, take, Some, None, Result, Ok, Err, arith}
 use Rattle.std.specs.Prelude.{slice_get}
 use Rattle.std.proofs.lemmas.Bool.{cases_lt}
 use Rattle.std.specs.declared.cmp.Ordering.{Ordering}
@@ -10,7 +10,7 @@ use Rattle.std.proofs.lemmas.Map.Views.{tells_apart}
 use Rattle.rdm_num.specs.declared.parts.Span.{Span}
 use Rattle.rdm_regions.specs.declared.key.HoldKey.{HoldKey}
 use Rattle.rdm_regions.specs.declared.refused.RegionRefused.{RegionRefused}
-use Rattle.rdm_regions.specs.Ranges.{HeldRanges, hold_key, key_cmp}
+use Rattle.rdm_regions.specs.Ranges.{HeldRanges, hold_key}
 use Rattle.rdm_regions.specs.Registry.{Registry, with_hold}
 use Rattle.rdm_regions.specs.Holds.{HoldsNone, with_all, with_holds, without_all, without_holds, after_hold_all, EachIsHeld, NoneIsHeld}
 use Rattle.rdm_regions.proofs.Entries.{Exact, by_key}
@@ -30,10 +30,10 @@ module _ {K : Type 0} {R : K → K → Ordering} (o : Exact R) where
   get_without m k q ne = finite.get-remove o.total m k q ∙ ap (λ b. cond b None (finite.get m q)) (not_tied q k ne)
 
   -- the key that is put in, and the one that is taken out
-  get_put : (m : finite.FinMap R Span) (k : K) (x : Span) → finite.get (finite.insert m k x) k ≡ Some x
+  pub get_put : (m : finite.FinMap R Span) (k : K) (x : Span) → finite.get (finite.insert m k x) k ≡ Some x
   get_put m k x = finite.get-insert o.total m k x k ∙ ap (λ b. cond b (Some x) (finite.get m k)) (tied_is k)
 
-  get_gone : (m : finite.FinMap R Span) (k : K) → finite.get (finite.remove m k) k ≡ None
+  pub get_gone : (m : finite.FinMap R Span) (k : K) → finite.get (finite.remove m k) k ≡ None
   get_gone m k = finite.get-remove o.total m k k ∙ ap (λ b. cond b None (finite.get m k)) (tied_is k)
 
   -- to take out what was put in under a new key is to do nothing

@@ -54,7 +54,7 @@ module _ (regions : List Region) where
       ]
 
 -- a part of a range meets what the range meets
-meets_within : (x y z : Span) → IsWithin y x → meets x z ≡ false → meets y z ≡ false
+pub meets_within : (x y z : Span) → IsWithin y x → meets x z ≡ false → meets y z ≡ false
 unfolding meets overlaps
 meets_within x y z (same, low, high) h = grind (arith, nat_tests)
 

@@ -1,5 +1,5 @@
 -- What the holds and leases of others leave as it was.
-use Rattle.std.proofs.Common.{◌≡◌, refl, sym, ap, subst, ◌∙◌, ℕ, zero, suc, ◌+◌, ◌-◌, ◌<◌, ◌≤◌, ◌⊎◌, inl, inr, Bool, true, false, List, [], ◌∷◌, ◌++◌, length, get_or, take, drop, map as each, replicate, Option, Some, None, arith}
+use Rattle.std.proofs.Common.{◌≡◌, refl, sym, ap, subst, ◌∙◌, ℕ, zero, suc, ◌+◌, ◌<◌, ◌≤◌, ◌⊎◌, inl, inr, Bool, true, false, List, [], ◌∷◌, ◌++◌, length, get_or, take, drop, map as each, replicate, Option, Some, None, arith}
 use Rattle.std.specs.Prelude.{slice_get, ◌||◌, nat_lt, if◌then◌else◌}
 use Rattle.std.specs.List.{All, filter_map}
 use Rattle.std.specs.declared.cmp.Ordering.{Ordering}
@@ -42,7 +42,7 @@ slice_push [] b i a is = cc
 slice_push (c ∷ areas) b zero a is = is
 slice_push (c ∷ areas) b (suc i) a is = slice_push areas b i a is
 
-cells_of_area : (areas : List Area) (i : ℕ) (a : Area) → slice_get areas i ≡ Some a → cells_at i areas ≡ a.cells
+pub cells_of_area : (areas : List Area) (i : ℕ) (a : Area) → slice_get areas i ≡ Some a → cells_at i areas ≡ a.cells
 cells_of_area [] i a is = cc
 cells_of_area (c ∷ areas) zero a is = let same : c ≡ a = some_same is in ap (λ (x : Area). x.cells) same
   where
@@ -159,7 +159,7 @@ get_has : {K : Type 0} {R : K → K → Ordering} (o : Exact R) (P : Span → Ty
 get_has o P m q y all is = found_has o P (finite.entries m) q y all (sym (find_is_lookup o (finite.entries m) q) ∙ sym (finite.get-entries m q) ∙ is)
 
 -- a range that is not refused lies in its region, and overlaps nothing that it must not
-not_refused : (o : Option Area) (x : Span) (busy : Bool) → refusal_in o x busy ≡ None → (a : Area) × (o ≡ Some a) × (x.at + x.len ≤ length a.cells) × (busy ≡ false)
+pub not_refused : (o : Option Area) (x : Span) (busy : Bool) → refusal_in o x busy ≡ None → (a : Area) × (o ≡ Some a) × (x.at + x.len ≤ length a.cells) × (busy ≡ false)
 unfolding refusal_in
 not_refused None x busy none = cc
 not_refused (Some a) x busy none = by (nat_lt (length a.cells) (x.at + x.len)) refl busy none

@@ -61,3 +61,8 @@ StayLeased = (r : Registry) (recv : ℕ) (x : Span) → IsSound r → map.get r.
 abbrev pub StayReturned : Type 0
 StayReturned =
     (r : Registry) (recv : ℕ) (part : Piece) → IsSound r → IsLeaseOf r recv part → ((send : ℕ) → HoldStays r (after_lease_back r recv part) send) × ((other : ℕ) → (other ≡ recv → ⊥) → LeaseStays r (after_lease_back r recv part) other)
+
+-- where a range goes out for a receive and comes back with the bytes that it had, all is as it was
+abbrev pub BackUndoesLease : Type 0
+BackUndoesLease =
+    (r : Registry) (recv : ℕ) (x : Span) (part : Piece) → IsSound r → map.get r.leased recv ≡ None → lease_refusal r x ≡ None → part.bytes ≡ bytes_at r x → after_lease_back (with_lease r recv x) recv part ≡ r
