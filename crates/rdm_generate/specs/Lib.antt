@@ -1,0 +1,3 @@
+-- The text of a generated job.
+pub mod Draws
+pub mod Instructions

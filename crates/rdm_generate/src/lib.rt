@@ -1,0 +1,7 @@
+//! Writes the script of a job that is made from a seed.
+#![tactic(auto)]
+
+mod draws;
+mod instructions;
+
+pub use draws::{Message, messages};
