@@ -1,2 +1,3 @@
 -- Lemmas on the definitions.
 pub mod Taken
+pub mod EachPort

@@ -1,3 +1,4 @@
 -- The text of a generated job.
 pub mod Draws
 pub mod Instructions
+pub mod Programs

@@ -3,5 +3,6 @@
 
 mod draws;
 mod instructions;
+mod program;
 
 pub use draws::{Message, messages};
