@@ -37,7 +37,7 @@ pub fn zero(alloc: Global, len: u64) -> Result<Value, AllocError>
 }
 
 /// A receive of an empty message from one port.
-pub fn empty_recv(alloc: Global, from: u32, tag: u32) -> Result<Value, AllocError>
+pub fn empty_recv(alloc: Global, from: u32, tag: u64) -> Result<Value, AllocError>
     ensures { IfOk result (λ v. view v ≡ empty_recv_json from tag) }
 {
     json!(in alloc; {
@@ -51,7 +51,7 @@ pub fn empty_recv(alloc: Global, from: u32, tag: u32) -> Result<Value, AllocErro
 }
 
 /// A receive from any port.
-pub fn recv(alloc: Global, at: u64, len: u32, tag: u32) -> Result<Value, AllocError>
+pub fn recv(alloc: Global, at: u64, len: u32, tag: u64) -> Result<Value, AllocError>
     ensures { IfOk result (λ v. view v ≡ recv_json at len tag) }
 {
     json!(in alloc; {
@@ -63,7 +63,7 @@ pub fn recv(alloc: Global, at: u64, len: u32, tag: u32) -> Result<Value, AllocEr
     })
 }
 
-pub fn send(alloc: Global, to: u32, at: u64, len: u32, tag: u32) -> Result<Value, AllocError>
+pub fn send(alloc: Global, to: u32, at: u64, len: u32, tag: u64) -> Result<Value, AllocError>
     ensures { IfOk result (λ v. view v ≡ send_json to at len tag) }
 {
     json!(in alloc; {
