@@ -1,7 +1,6 @@
 -- The instructions of a generated job, as JSON values.
-use Rattle.std.specs.Prelude.{ℕ, ◌+◌, ◌*◌, List, [], ◌∷◌, codes}
-use Rattle.serde_json.specs.Data.{Data, number, unsigned, string, array, object, Items, no_items, item, Members, no_members, member}
-use Rattle.rdm_generate.specs.declared.draws.Message.{Message}
+use Rattle.std.specs.Prelude.{ℕ, List, codes}
+use Rattle.serde_json.specs.Data.{Data, number, unsigned, string, array, object, no_items, item, no_members, member}
 
 -- a whole number
 abbrev pub whole : ℕ → Data

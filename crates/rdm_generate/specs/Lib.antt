@@ -2,3 +2,4 @@
 pub mod Draws
 pub mod Instructions
 pub mod Programs
+pub mod Script

@@ -1,10 +1,9 @@
 -- The programs of a generated job, as lists of JSON values.
-use Rattle.std.specs.Prelude.{ℕ, ◌+◌, ◌%◌, ◌==◌, Bool, List, [], ◌∷◌, ◌++◌, length, map, filter, sum_by, codes, if◌then◌else◌}
+use Rattle.std.specs.Prelude.{ℕ, ◌+◌, ◌%◌, List, [], ◌∷◌, ◌++◌, length, map, sum_by}
 use Rattle.std.specs.List.{range_with_len}
-use Rattle.serde_json.specs.Data.{Data, array, object, member, no_members}
-use Rattle.serde_json.specs.View.{items_of}
+use Rattle.serde_json.specs.Data.{Data}
 use Rattle.rdm_generate.specs.declared.draws.Message.{Message}
-use Rattle.rdm_generate.specs.Instructions.{whole, open_json, insert_json, fill_json, zero_json, empty_recv_json, recv_json, send_json, wait_json}
+use Rattle.rdm_generate.specs.Instructions.{open_json, insert_json, fill_json, zero_json, empty_recv_json, recv_json, send_json, wait_json}
 
 -- the ports, one for each rank
 unfoldable pub ports : List ℕ

@@ -4,5 +4,6 @@
 mod draws;
 mod instructions;
 mod program;
+mod script;
 
-pub use draws::{Message, messages};
+pub use script::script_of;

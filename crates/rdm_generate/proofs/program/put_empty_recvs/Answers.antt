@@ -1,7 +1,6 @@
-use Rattle.std.proofs.Common.{map, ◌+◌, ap, ◌∙◌, arith}
+use Rattle.std.proofs.Common.{map, arith}
 use Rattle.serde_json.specs.View.{view}
 use Rattle.rdm_generate.specs.Instructions.{empty_recv_json}
-use Rattle.rdm_generate.specs.Programs.{connid_of}
 use Rattle.rdm_generate.proofs.EachPort.{next_port, all_ports}
 use Rattle.rdm_generate.proofs.program.put_empty_recvs.Goals as goal
 

@@ -1,4 +1,4 @@
-use Rattle.std.proofs.Common.{map, ◌+◌, ap, ◌∙◌, arith}
+use Rattle.std.proofs.Common.{map, ap, ◌∙◌, arith}
 use Rattle.serde_json.specs.View.{view}
 use Rattle.rdm_generate.specs.Instructions.{insert_json}
 use Rattle.rdm_generate.specs.Programs.{connid_of}

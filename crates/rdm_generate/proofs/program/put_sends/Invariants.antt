@@ -1,4 +1,4 @@
-use Rattle.std.proofs.Common.{◌≡◌, ◌<◌, ◌^◌, ◌+◌, ◌++◌, map, drop}
+use Rattle.std.proofs.Common.{◌≡◌, ◌+◌, ◌++◌, map, drop}
 use Rattle.serde_json.specs.View.{view}
 use Rattle.rdm_generate.specs.Programs.{sends_from, total_of}
 use Rattle.rdm_generate.proofs.program.put_sends.Given as goal
