@@ -1,0 +1,2 @@
+-- Which receive took which message.
+pub mod Matches
