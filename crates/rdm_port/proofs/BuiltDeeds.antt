@@ -1,6 +1,6 @@
 -- What built deeds say of the lives of a port.
 use Rattle.std.proofs.Common.{◌≡◌, ◌≤◌, ◌+◌, Bool, true, false, cond, List, [], ◌∷◌, Option, Some, None, refl, ap, subst, arith}
-use Rattle.std.specs.Prelude.{not, ◌&&◌, nat_le, is_some}
+use Rattle.std.specs.Prelude.{not, nat_le, is_some}
 use Rattle.std.specs.List.{list_any}
 use Rattle.std.proofs.lemmas.Bool.{eqb-true, eq-eqb, leb-true, le-leb, or_parts, and_parts, not-true}
 use Rattle.rdm_num.specs.declared.numbers.Connid.{Connid}

@@ -10,7 +10,7 @@ use Rattle.rdm_model.specs.Deeds.{Deed, open_life, is_connid, of_life}
 use Rattle.rdm_model.specs.Beginnings.{Own}
 use Rattle.rdm_model.specs.Scenes.{Scene, scene}
 use Rattle.rdm_model.specs.Local.{own_scene}
-use Rattle.rdm_model.specs.Classes.{item_class, body_class, class_of, item_class_by}
+use Rattle.rdm_model.specs.Classes.{body_class, class_of, item_class_by}
 use Rattle.rdm_model.specs.Takes.{taken_answer, class_answer, handled_answer, body_needs_place, is_again_early}
 use Rattle.rdm_ep.specs.View.{EndpointView}
 use Rattle.rdm_ep.specs.Handling.{body_answer}

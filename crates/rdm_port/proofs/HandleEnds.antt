@@ -56,7 +56,7 @@ found v stash slice pick count d s sl n h is =
     ap (slice_get v.stash) (place_is v stash pick count s n h) ∙ slice_get-get_or v.stash (pick % count) d within ∙ ap Some (sym here)
 
 -- no count passes the end of the clock
-few : (v : PortView) (k : Kept) (d : Datagram) → IsKept v k → max k.clock d.stamp.0 < 9223372036854775807 → (k.to_other ≤ 9223372036854775807) × (k.from_other ≤ 9223372036854775807)
+pub few : (v : PortView) (k : Kept) (d : Datagram) → IsKept v k → max k.clock d.stamp.0 < 9223372036854775807 → (k.to_other ≤ 9223372036854775807) × (k.from_other ≤ 9223372036854775807)
 few v k d h m = let a = h.few_to_other in let b = h.few_from_other in (omega arith, omega arith)
 
 -- the answer is no entry

@@ -34,3 +34,5 @@ pub mod HandleKept
 pub mod HandleCases
 pub mod HandleDoes
 pub mod HandleEnds
+-- What each step does with datagrams:
+pub mod Moves

@@ -9,3 +9,5 @@ pub mod Nexts
 pub mod Pushes
 pub mod Handles
 pub mod Polls
+-- What each does with datagrams:
+pub mod Movings

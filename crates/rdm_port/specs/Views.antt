@@ -54,9 +54,11 @@ new_port job n =
       stash = [];
     }
 
--- the same port of the same number of ports
+-- the same port: all but its log and its stash is as it was
 abbrev pub IsSamePort : PortView → PortView → Type 0
-IsSamePort old new = (new.number ≡ old.number) × (new.ports ≡ old.ports) × (new.inbox ≡ old.inbox)
+IsSamePort old new =
+    (new.number ≡ old.number) × (new.ports ≡ old.ports) × (new.inbox ≡ old.inbox)
+    × (new.start ≡ old.start) × (new.limits ≡ old.limits) × (new.rank ≡ old.rank)
 
 -- the port with these datagrams in its stash too
 abbrev pub stashed : PortView → List Datagram → PortView

@@ -9,6 +9,7 @@ ghost use Rattle.rdm_port.specs.Nexts.{DoesNext, NextTakesNone, EndsAs};
 ghost use Rattle.rdm_port.specs.Pushes.{DoesPush, PushesOn, FullRose, IsKeptWire};
 ghost use Rattle.rdm_port.specs.Handles.{DoesHandle};
 ghost use Rattle.rdm_port.specs.Polls.{DoesPoll};
+ghost use Rattle.rdm_port.specs.Movings.{LogsNone, PushMoves, HandleMoves};
 
 use crate::effects::Owner;
 use crate::fetch::fetch_into;
@@ -142,6 +143,7 @@ impl Port {
         ensures does { DoesNext self.old self.new result }
         ensures spared { NextTakesNone self.old → result ≢ NextKind.Memory }
         ensures same { IsSamePort self.old self.new }
+        ensures moves { LogsNone self.old.log self.new.log × (self.new.stash ≡ self.old.stash) }
     {
         let owner = Owner {
             number: PortNo(self.number),
@@ -167,6 +169,8 @@ impl Port {
         ensures full { FullRose (W.fulls wire.old) (W.fulls wire.new) result }
         ensures same { IsSamePort self.old self.new }
         ensures kept { IsKeptWire W.ports W.serves wire.old wire.new }
+        ensures queues { (W.tables wire.new ≡ W.tables wire.old) × (W.empties wire.new ≡ W.empties wire.old) }
+        ensures moves { PushMoves self.old.log self.new.log result (W.account wire.old) (W.account wire.new) × (self.new.stash ≡ self.old.stash) }
     {
         do_push(
             alloc,
@@ -186,6 +190,8 @@ impl Port {
         ensures does { DoesHandle (W.in_order wire.old) self.old self.new pick result (W.held wire.old) (W.held wire.new) }
         ensures same { IsSamePort self.old self.new }
         ensures kept { IsKeptWire W.ports W.serves wire.old wire.new }
+        ensures queues { (W.tables wire.new ≡ W.tables wire.old) × (W.fulls wire.new ≡ W.fulls wire.old) }
+        ensures moves { HandleMoves self.old self.new result (W.account wire.old) (W.account wire.new) (W.empties wire.old) (W.empties wire.new) }
     {
         let Ok(()) = self.stash.reserve(self.inbox as usize) else {
             return Handled::Memory;
@@ -206,6 +212,7 @@ impl Port {
     pub fn poll(&mut self) -> Polled
         ensures does { DoesPoll self.old self.new result }
         ensures same { IsSamePort self.old self.new }
+        ensures moves { LogsNone self.old.log self.new.log × (self.new.stash ≡ self.old.stash) }
     {
         do_poll(PortNo(self.number), &mut self.state, &mut self.log)
     }

@@ -10,6 +10,7 @@ ghost use Rattle.rdm_port.specs.Nexts.{DoesNext, NextTakesNone};
 ghost use Rattle.rdm_port.specs.Pushes.{DoesPush, PushesOn, FullRose, IsKeptWire};
 ghost use Rattle.rdm_port.specs.Handles as Handles;
 ghost use Rattle.rdm_port.specs.Polls.{DoesPoll};
+ghost use Rattle.rdm_port.specs.Movings.{LogsNone, PushMoves, AnswerMoves};
 
 use crate::effects::Owner;
 use crate::kept::State;
@@ -85,6 +86,7 @@ pub fn do_next(
     ensures does { (v : PortView) → IsOwnedBy v owner.now → v.rank.ops ≡ ops.now → v.log ≡ log.old.list → IsKept v state.old → IsKept (with_log v log.new.list) state.new × DoesNext v (with_log v log.new.list) result }
     ensures room { HasRoom (length ops.now) log.new.room state.new }
     ensures spared { (v : PortView) → v.rank.ops ≡ ops.now → IsKept v state.old → NextTakesNone v → result ≢ NextKind.Memory }
+    ensures moves { LogsNone log.old.list log.new.list }
 {
     let Some(instr) = ops.as_slice().get(state.done as usize) else {
         return Next::Ended;
@@ -132,6 +134,8 @@ pub fn do_push<W: Wire>(
     ensures wire { PushesOn (W.in_order wire.old) log.new.list result (W.held wire.old) (W.held wire.new) }
     ensures full { FullRose (W.fulls wire.old) (W.fulls wire.new) result }
     ensures kept { IsKeptWire W.ports W.serves wire.old wire.new }
+    ensures queues { (W.tables wire.new ≡ W.tables wire.old) × (W.empties wire.new ≡ W.empties wire.old) }
+    ensures moves { PushMoves log.old.list log.new.list result (W.account wire.old) (W.account wire.new) }
 {
     let Ok(departing) = state.departing(alloc) else {
         return Push::Memory;
@@ -189,6 +193,7 @@ pub fn do_handle(
     log: &mut Entries,
 ) -> Handled
     ensures does { (v : PortView) → v.number ≡ number.0 → v.log ≡ log.old.list → v.stash ≡ stash.old.list → IsKept v state.old → IsKept (with_stash v log.new.list stash.new.list) state.new × Handles.Answers v (with_stash v log.new.list stash.new.list) pick result }
+    ensures moves { (v : PortView) → v.number ≡ number.0 → v.log ≡ log.old.list → v.stash ≡ stash.old.list → IsKept v state.old → AnswerMoves log.old.list log.new.list stash.old.list stash.new.list result }
     ensures room { HasRoom all log.old.room state.old → HasRoom all log.new.room state.new }
 {
     let count = stash.len() as u64;
@@ -230,6 +235,7 @@ pub fn do_handle(
 pub fn do_poll(number: PortNo, state: &mut State, log: &mut Entries) -> Polled
     requires room { places_of state.old.endpoint ≤ log.old.room }
     ensures does { (v : PortView) → v.number ≡ number.0 → v.log ≡ log.old.list → IsKept v state.old → IsKept (with_log v log.new.list) state.new × DoesPoll v (with_log v log.new.list) result }
+    ensures moves { LogsNone log.old.list log.new.list }
     ensures room { (all : ℕ) → HasRoom all log.old.room state.old → HasRoom all log.new.room state.new }
 {
     if !state.has_completion() {

@@ -1,8 +1,9 @@
-use Rattle.std.proofs.Common.{◌≡◌, sym, ◌∙◌, ap, arith, subst}
+use Rattle.std.proofs.Common.{◌≡◌, refl, sym, ◌∙◌, ap, arith, subst}
 use Rattle.std.specs.Prelude.{◌%◌}
 use Rattle.rdm_port.specs.Kept.{Kept, places_of}
 use Rattle.rdm_port.proofs.HandleDoes.{handle_wants, handle_empty, handle_early, handle_worn}
 use Rattle.rdm_port.proofs.HandleEnds.{as_it_stands, empty_is, place_is, found, end_stays, end_goes, KeepsTo}
+use Rattle.rdm_port.proofs.Moves.{logs_one, stay_moves, go_moves}
 use Rattle.rdm_port.proofs.steps.do_handle.Goals as goal
 
 pub returns-then-count-eq0-clause-does : goal.returns-then-count-eq0-clause-does
@@ -71,3 +72,40 @@ returns-clause-room c = λ h.
     let s = c.in-Some.ensures in
     let t = c.push.ensures.room in
     omega arith
+
+pub returns-then-count-eq0-clause-moves : goal.returns-then-count-eq0-clause-moves
+returns-then-count-eq0-clause-moves c = λ v n l s h. (refl, refl, empty_is c.args.stash.now.list (sym c.len-count.ensures ∙ c.if-count-eq0.true))
+
+pub returns-in_default-clause-moves : goal.returns-in_default-clause-moves
+returns-in_default-clause-moves c = λ v n l s h. (refl, refl)
+
+pub returns-in_default-reserve-clause-moves : goal.returns-in_default-reserve-clause-moves
+returns-in_default-reserve-clause-moves c = λ v n l s h. (c.reserve.ensures.list, refl)
+
+pub returns-in-Ok-true-clause-moves : goal.returns-in-Ok-true-clause-moves
+returns-in-Ok-true-clause-moves c = λ v n l s h. (c.reserve.ensures.list, refl)
+
+pub returns-in-Ok-false-clause-moves : goal.returns-in-Ok-false-clause-moves
+returns-in-Ok-false-clause-moves c = λ v n l s h. (c.reserve.ensures.list, refl)
+
+pub returns-in-Err-clause-moves : goal.returns-in-Err-clause-moves
+returns-in-Err-clause-moves c = λ v n l s h. (c.reserve.ensures.list, refl)
+
+pub returns-then-not-is_handling-clause-moves : goal.returns-then-not-is_handling-clause-moves
+returns-then-not-is_handling-clause-moves c = λ v n l s h.
+    let k : c.state.inside.clock ≡ c.args.state.now.clock = ap (λ (x : Kept). x.clock) c.state.view_is in
+    let m = c.max-late.ensures in
+    let w = c.if-late-ge-STAMP_MAX.false in
+    stay_moves v c.args.state.now c.handle-answer.new.self c.args.log.now.list c.reserve.new.self.list c.args.stash.now.list c.index-as_slice-at.result c.handle-answer.result h (omega arith)
+    c.handle-answer.ensures.handles (sym c.is_handling.ensures ∙ c.if-not-is_handling.true) c.reserve.ensures.list
+
+pub returns-clause-moves : goal.returns-clause-moves
+returns-clause-moves c = λ v n l s h.
+    go_moves c.args.log.now.list c.push.new.self.list c.args.stash.now.list c.remove-datagram.new.self.list c.handle-answer.result (sym c.is_handling.ensures ∙ c.if-not-is_handling.false)
+    (record {
+      datagram = c.remove-datagram.result;
+      place = c.args.pick % c.len-count.result;
+      there = c.remove-datagram.ensures.item;
+      left_is = c.remove-datagram.ensures.list;
+      logged = logs_one _ c.args.log.now.list c.reserve.new.self.list c.push.new.self.list c.reserve.ensures.list c.push.ensures.list;
+    })

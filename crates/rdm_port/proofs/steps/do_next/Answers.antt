@@ -1,4 +1,4 @@
-use Rattle.std.proofs.Common.{◌≡◌, List, length, true, Some, refl, ap, ◌∙◌, sym, arith}
+use Rattle.std.proofs.Common.{◌≡◌, List, length, true, Some, refl, ap, ◌∙◌, sym, arith, inl}
 use Rattle.std.specs.Prelude.{slice_get}
 use Rattle.rdm_model.specs.declared.job.Instr.{Instr}
 use Rattle.rdm_model.specs.Answers.{is_entry}
@@ -8,6 +8,7 @@ use Rattle.rdm_port.specs.Nexts.{NextTakesNone}
 use Rattle.rdm_port.proofs.NextRoom.{entry_places}
 use Rattle.rdm_port.proofs.NextSpares.{Spared, spared_next, unless_not, entry_is, entry_not}
 use Rattle.rdm_port.proofs.NextSteps.{ended_as, stays_as, wants_as, goes_as, counted_as, entry_as, entry_counts, reads, reads_none, owned}
+use Rattle.rdm_port.proofs.Moves.{logs_none}
 use Rattle.rdm_port.proofs.steps.do_next.Goals as goal
 use Rattle.rdm_port.proofs.steps.do_next.Goals.{In-Some}
 
@@ -93,3 +94,18 @@ returns-in_default-follow-clause-spared c = λ v ops k t.
 
 pub returns-clause-spared : goal.returns-clause-spared
 returns-clause-spared c = λ v ops k t. entry_not c.answer_now-answer.result (sym c.if-not-is_entry.ensures)
+
+pub returns-in_default-clause-moves : goal.returns-in_default-clause-moves
+returns-in_default-clause-moves c = inl refl
+
+pub returns-then-not-is_entry-clause-moves : goal.returns-then-not-is_entry-clause-moves
+returns-then-not-is_entry-clause-moves c = inl refl
+
+pub returns-in_default-take_room-clause-moves : goal.returns-in_default-take_room-clause-moves
+returns-in_default-take_room-clause-moves c = inl c.in_default-take_room.ensures.list
+
+pub returns-in_default-follow-clause-moves : goal.returns-in_default-follow-clause-moves
+returns-in_default-follow-clause-moves c = inl c.in-Ok.ensures.list
+
+pub returns-clause-moves : goal.returns-clause-moves
+returns-clause-moves c = logs_none _ c.args.log.now.list c.take_room.new.log.list c.push.new.self.list c.in-Ok.ensures.list c.push.ensures.list tt

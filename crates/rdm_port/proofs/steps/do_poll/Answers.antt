@@ -1,9 +1,10 @@
-use Rattle.std.proofs.Common.{◌<◌, refl, sym, ap, ◌∙◌, arith}
+use Rattle.std.proofs.Common.{◌<◌, inl, refl, sym, ap, ◌∙◌, arith}
 use Rattle.rdm_port.specs.Kept.{Kept, places_of}
 use Rattle.rdm_port.specs.contracts.kept.State.{the_view}
 use Rattle.rdm_port.proofs.Polled.{poll_none, poll_worn}
 use Rattle.rdm_port.proofs.Rooms.{polled_places}
 use Rattle.rdm_port.proofs.StepEnds.{next_stamp, poll_stays, none_waits, one_waits, polled_view, poll_ends}
+use Rattle.rdm_port.proofs.Moves.{logs_none}
 use Rattle.rdm_port.proofs.steps.do_poll.Goals as goal
 
 pub returns-then-not-has_completion-clause-does : goal.returns-then-not-has_completion-clause-does
@@ -37,3 +38,12 @@ returns-clause-room c = λ all had.
     let some = c.if-not-has_completion.ensures.place refl in
     let left = c.push.ensures.room in
     omega arith
+
+pub returns-then-not-has_completion-clause-moves : goal.returns-then-not-has_completion-clause-moves
+returns-then-not-has_completion-clause-moves c = inl refl
+
+pub returns-then-state-ge-STAMP_MAX-clause-moves : goal.returns-then-state-ge-STAMP_MAX-clause-moves
+returns-then-state-ge-STAMP_MAX-clause-moves c = inl refl
+
+pub returns-clause-moves : goal.returns-clause-moves
+returns-clause-moves c = logs_none _ c.args.log.now.list c.args.log.now.list c.push.new.self.list refl c.push.ensures.list tt

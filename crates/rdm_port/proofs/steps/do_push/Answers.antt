@@ -1,11 +1,13 @@
-use Rattle.std.proofs.Common.{rules, ◌≡◌, ◌<◌, ◌≤◌, ◌+◌, ◌-◌, Some, sym, subst, ap, ◌∙◌, refl, arith}
+use Rattle.std.proofs.Common.{rules, option_map, ◌≡◌, ◌<◌, ◌≤◌, ◌+◌, ◌-◌, Some, sym, subst, ap, ◌∙◌, refl, arith}
 use Rattle.rdm_port.specs.Kept.{Kept, IsKept, places_of}
 use Rattle.rdm_wire.specs.declared.Datagram.{Datagram}
+use Rattle.rdm_wire.specs.Accounts.{after_push}
 use Rattle.rdm_port.specs.Machine.{departing, after_went}
 use Rattle.rdm_port.specs.contracts.kept.State.{the_view}
 use Rattle.rdm_port.proofs.PushDoes.{push_idle, push_worn, push_full}
 use Rattle.rdm_port.proofs.Rooms.{went_places, went_done, room_left}
 use Rattle.rdm_port.proofs.StepEnds.{next_stamp, push_stays, pushed_view, push_ends}
+use Rattle.rdm_port.proofs.Moves.{logs_one}
 use Rattle.rdm_port.proofs.steps.do_push.Goals as goal
 
 pub returns-in_default-departing-clause-does : goal.returns-in_default-departing-clause-does
@@ -51,3 +53,23 @@ returns-clause-room g c had =
     let room : c.in-Some-entries_and_one.places ≤ c.reserve.new.self.room = c.in-Ok-reserve.ensures.ok in
     let left : c.push-2.new.self.room + 1 ≡ c.reserve.new.self.room = c.push-2.ensures.room in
     room_left c.args.all (places_of k.endpoint) (places_of c.state-2.inside.endpoint) k.done c.state-2.inside.done c.reserve.new.self.room c.push-2.new.self.room same done (omega arith) left
+
+pub returns-in_default-push-clause-queues : goal.returns-in_default-push-clause-queues
+returns-in_default-push-clause-queues g c = (c.push.ensures.kept.2, c.push.ensures.counts.1)
+
+pub returns-in_default-push-clause-moves : goal.returns-in_default-push-clause-moves
+returns-in_default-push-clause-moves g c = (c.in-Ok-reserve.ensures.list, c.in_default-push.ensures.same.0)
+
+pub returns-clause-queues : goal.returns-clause-queues
+returns-clause-queues g c = (c.push.ensures.kept.2, c.push.ensures.counts.1)
+
+pub returns-clause-moves : goal.returns-clause-moves
+returns-clause-moves g c =
+    let k : Kept = the_view c.state.inside in
+    let o = c.in-Some.departure in
+    let d : Datagram = record { src = c.args.number; number = record { 0 = k.pushed }; stamp = record { 0 = c.saturating_add.result }; dst = o.dst; body = o.body } in
+    let copy : c.in-Ok-clone.copy ≡ d = (let cases = c.in-Ok-clone.ensures.cases in search rules) in (
+      c.in-Ok-clone.copy,
+      logs_one _ c.args.log.now.list c.reserve.new.self.list c.push-2.new.self.list c.in-Ok-reserve.ensures.list c.push-2.ensures.list,
+      subst (λ (x : Datagram). g.W.Wire.account c.push.new.self ≡ option_map (after_push x) (g.W.Wire.account c.args.wire.now)) (sym copy) c.in-Ok-push.ensures.account,
+    )
