@@ -29,7 +29,7 @@ mod Emptied
 -- what is true of the regions at all times, as a clause sees them
 pub mod Sound
 -- holds of several ranges, one after another
-mod Several
+pub mod Several
 -- the gravest refusal of several ranges
 mod Gravest
 -- what the holds and leases of others leave as it was
