@@ -1,7 +1,7 @@
 -- Lives that are forgotten, in a matcher and by the record.
 use Rattle.std.proofs.Common.{◌≡◌, refl, ap, ◌∙◌, Bool, true, false, List, [], ◌∷◌, Option, Some, None, map}
 use Rattle.std.specs.Prelude.{not, ◌&&◌, ◌||◌, filter}
-use Rattle.rdm_lists.proofs.Filters.{filter_both}
+use Rattle.rdm_lists.proofs.Filters.{filter_all, filter_both}
 use Rattle.rdm_lists.proofs.Same.{filter_same}
 use Rattle.rdm_num.specs.Lives.{same_life, is_life}
 use Rattle.rdm_num.specs.declared.numbers.Life.{Life}
@@ -35,11 +35,6 @@ among_apart : (life : Life) (lives : List Life) (other : Life) → not (is_among
 unfolding is_among
 among_apart life lives other = not_or (same_life other life) (is_among lives other)
 
--- all pass
-passes_all : {A : Type 0} (xs : List A) → filter (λ (x : A). true) xs ≡ xs
-passes_all [] = refl
-passes_all (x ∷ xs) = ap (λ ys. x ∷ ys) (passes_all xs)
-
 -- no life is named
 none_named : (o : Option Life) → not (names_one [] o) ≡ true
 unfolding names_one is_among
@@ -51,8 +46,8 @@ without_each : (lives : List Life) (w : Waiting) → without lives w ≡ waiting
 unfolding waiting_after_all waiting_after waiting_in with_pairs after is_among
 without_each [] w =
     λ i. record {
-      posted = (filter_same (λ (r : PostedRecv). not (names_one [] r.from)) (λ r. true) w.posted (λ r. none_named r.from) ∙ passes_all w.posted) i;
-      arrived = passes_all w.arrived i;
+      posted = filter_all (λ (r : PostedRecv). not (names_one [] r.from)) w.posted (λ r m. none_named r.from) i;
+      arrived = filter_all (λ (a : Arrived). not (is_among [] a.life)) w.arrived (λ a m. refl) i;
     }
 without_each (life ∷ lives) w =
     (λ i. record {
