@@ -1,5 +1,5 @@
 -- Lives that are forgotten, in a matcher and by the record.
-use Rattle.std.proofs.Common.{◌≡◌, refl, ap, ◌∙◌, Bool, true, false, List, [], ◌∷◌, Option, Some, None, map}
+use Rattle.std.proofs.Common.{◌≡◌, refl, ◌∙◌, Bool, true, false, List, [], ◌∷◌, Option, Some, None, map}
 use Rattle.std.specs.Prelude.{not, ◌&&◌, ◌||◌, filter}
 use Rattle.rdm_lists.proofs.Filters.{filter_all, filter_both}
 use Rattle.rdm_lists.proofs.Same.{filter_same}
