@@ -1,9 +1,10 @@
 -- Asks for bytes of a live send are asks of the record's, and so are its answers.
-use Rattle.std.proofs.Common.{◌≡◌, ℕ, ◌+◌, ◌-◌, ◌<◌, ◌≤◌, ◌⊎◌, inl, inr, Bool, true, false, List, [], ◌∷◌, length, get_or, take, drop, Some, refl, sym, ap, ◌∙◌, arith}
+use Rattle.std.proofs.Common.{◌≡◌, ℕ, ◌+◌, ◌-◌, ◌<◌, ◌≤◌, ◌⊎◌, inl, inr, true, false, List, [], ◌∷◌, length, get_or, take, drop, Some, sym, ap, ◌∙◌, arith}
 use Rattle.std.specs.Prelude.{nat_lt, nat_le, not, ◌&&◌, ◌||◌}
-use Rattle.std.proofs.lemmas.Bool.{true≢false, and_parts, and_from, and_right, or_cases, lt-ltb, le-ltb, le-leb, lt-leb, ltb-true, leb-true}
+use Rattle.std.proofs.lemmas.Bool.{true≢false, and_parts, and_from, and_right, or_cases, not-true, not-false, lt-ltb, le-ltb, le-leb, lt-leb, ltb-true, leb-true}
 use Rattle.rdm_lists.specs.Lists.{each_below}
 use Rattle.rdm_lists.proofs.Below.{each_below_at, each_below_from}
+use Rattle.rdm_lists.proofs.Bools.{or_true}
 use Rattle.rdm_lists.proofs.Sums.{sum_total}
 use Rattle.rdm_num.specs.declared.lists.IovEntry.{IovEntry}
 use Rattle.rdm_num.specs.declared.parts.Span.{Span as Range}
@@ -21,6 +22,7 @@ use Rattle.rdm_law.proofs.Fits.Spans.{read_list_total}
 use Rattle.rdm_law.proofs.Replies.Asks.{iov_bytes}
 use Rattle.rdm_tx.specs.Asks as A
 use Rattle.rdm_tx.specs.Asks.{Asks, MayAsk}
+use Rattle.rdm_life.proofs.Tests.{or_none}
 use Rattle.rdm_life.specs.Kept.{LiveSend}
 use Rattle.rdm_life.specs.Facts.{may_be_asked_by}
 use Rattle.rdm_life.specs.Sending as life
@@ -80,11 +82,7 @@ module _ (a : Asks) (s : LiveSend) (i : AreAsks a s) (ask : ReadAsk) (from : a.f
       let at : ask.at - a.from + j ≡ k = omega arith in
       let free : not (s.was_asked (ask.at + j)) ≡ true = each_below_at (λ k. not (s.was_asked (ask.at + k))) ask.length j e (omega arith) in
       let is : not (not (get_or a.unasked.places (ask.at - a.from + j) false)) ≡ true = ap (λ b. not b) (sym (place_is j (omega arith))) ∙ free in
-      sym (ap (λ n. get_or a.unasked.places n false) at) ∙ twice (get_or a.unasked.places (ask.at - a.from + j) false) is)
-    where
-      twice : (b : Bool) → not (not b) ≡ true → b ≡ true
-      twice true h = refl
-      twice false h = cc
+      sym (ap (λ n. get_or a.unasked.places n false) at) ∙ not-false (get_or a.unasked.places (ask.at - a.from + j) false) (not-true (not (get_or a.unasked.places (ask.at - a.from + j) false)) is))
 
 -- the parts of the record's test
 may_parts : (ask : ReadAsk) (s : LiveSend) → may_be_asked_by ask s ≡ true
@@ -139,15 +137,6 @@ room_by (Read a) s i = (i.0, record { from = i.1.from; iov = i.1.iov; long = i.1
 pub room_is_kept : RoomIsKept
 room_is_kept x s i = record { to = i.to; message = i.message; parts = i.parts; total = i.total; ranges = i.ranges; given = i.given; protocol = room_by x.protocol s i.protocol }
 
--- a place of an ask, and another
-or_some : (b : Bool) → (b || true) ≡ true
-or_some true = refl
-or_some false = refl
-
-or_none : (b : Bool) → (b || false) ≡ b
-or_none true = refl
-or_none false = refl
-
 -- a place was asked for
 asks_place : (ask : ReadAsk) (place : ℕ) → ask.at ≤ place → place < ask.at + ask.length → is_asked ask place ≡ true
 unfolding is_asked
@@ -168,7 +157,7 @@ asked_more a s ask i m k lt =
     by_range off ask.length k
     (λ p q.
     ap (λ b. s.was_asked (a.from + k) || b) (asks_place ask (a.from + k) (omega arith) (omega arith))
-    ∙ or_some (s.was_asked (a.from + k))
+    ∙ or_true (s.was_asked (a.from + k))
     ∙ sym (ap (λ b. not b) (set_in false off ask.length a.unasked.places m.2.0 k p q)))
     (λ o.
     ap (λ b. s.was_asked (a.from + k) || b) (spares_place ask (a.from + k) (aside from o))

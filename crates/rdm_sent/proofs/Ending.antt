@@ -1,7 +1,6 @@
 -- Whether all of a live send was asked for and answered, and what it tells.
 use Rattle.std.proofs.Common.{◌≡◌, ℕ, zero, suc, ◌+◌, ◌-◌, ◌<◌, inl, inr, Bool, true, false, cond, List, [], ◌∷◌, length, get_or, refl, sym, ap, ◌∙◌, arith}
 use Rattle.std.specs.Prelude.{nat_lt, not, ◌&&◌, ◌||◌}
-use Rattle.std.specs.List.{count_by}
 use Rattle.std.proofs.lemmas.Bool.{true≢false, cases_lt, lt-ltb, le-ltb, or_right, or_left, or_from}
 use Rattle.std.proofs.lemmas.List.Sums.{sum_by-cons}
 use Rattle.rdm_lists.specs.Lists.{each_below}
@@ -12,6 +11,7 @@ use Rattle.rdm_num.specs.declared.numbers.MsgNo.{MsgNo}
 use Rattle.rdm_pkt.specs.declared.Kind.{Kind}
 use Rattle.rdm_model.specs.Dues.{is_read}
 use Rattle.rdm_model.specs.Targets.{is_long, read_from}
+use Rattle.rdm_tx.proofs.Counts.{count}
 use Rattle.rdm_tx.specs.Asks.{Asks}
 use Rattle.rdm_life.specs.Kept.{LiveSend}
 use Rattle.rdm_life.specs.Facts.{ends_early}
@@ -23,10 +23,7 @@ use Rattle.rdm_sent.specs.Laws.{FactsAreKept}
 use Rattle.rdm_sent.proofs.Openers.{long_not_read}
 use Rattle.rdm_sent.proofs.Going.{sent_whole}
 
--- how many tests hold
-abbrev count : List Bool → ℕ
-count tests = count_by (λ b. b) tests
-
+-- how many tests hold, with one more
 count_cons : (b : Bool) (bs : List Bool) → count (b ∷ bs) ≡ cond b 1 0 + count bs
 count_cons b bs = sum_by-cons (λ b. cond b 1 0) b bs
 
