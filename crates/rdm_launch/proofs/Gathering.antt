@@ -1,0 +1,148 @@
+-- What ports in their places left, with the inboxes that were closed.
+use Rattle.std.proofs.Common.{◌≡◌, ℕ, ◌<◌, List, ◌++◌, length, Option, Some, None, refl, sym, ◌∙◌, subst, eq-eqb}
+use Rattle.std.specs.Prelude.{◌==◌, IsTrue, slice_get}
+use Rattle.std.proofs.lemmas.List.Elements.{filter-append}
+use Rattle.std.proofs.lemmas.Option.{slice_get_within}
+use Rattle.rdm_lists.specs.Lists.{Member}
+use Rattle.rdm_lists.proofs.Members.{member-append_left, filter-member}
+use Rattle.rdm_wire.specs.declared.Datagram.{Datagram}
+use Rattle.rdm_wire.specs.Queues.{IsFor}
+use Rattle.rdm_inbox.specs.Passes.{InboxState}
+use Rattle.rdm_inbox.specs.Queues.{PassesState, InboxesState, sent_to, taken_by, flights_to}
+use Rattle.rdm_inbox.specs.Senders.{from_port, list_at}
+use Rattle.rdm_model.specs.declared.job.Job.{Job}
+use Rattle.rdm_model.specs.Jobs.{is_fair, law_ops}
+use Rattle.rdm_model.specs.Local.{Local}
+use Rattle.rdm_model.specs.Wire.{PushedIn}
+use Rattle.rdm_law.specs.Worlds.{TookOnce}
+use Rattle.rdm_law.proofs.Played.Apart.{AreApart}
+use Rattle.rdm_law.proofs.Played.Logs.{logs_are_delivered}
+use Rattle.rdm_law.proofs.Settled.Delivered.{numbered}
+use Rattle.rdm_port.specs.Views.{PortView, IsPortOf, IsSamePort}
+use Rattle.rdm_launch.specs.Logs.{pushed_to, handled_in, log_or_none, logs_of}
+use Rattle.rdm_launch.specs.Reordered.{IsReordered}
+use Rattle.rdm_launch.specs.Fitting.{HandledBuilt, IsAtPlace}
+use Rattle.rdm_launch.specs.Packing.{AllFit}
+use Rattle.rdm_launch.specs.Launched.{ArePortsOf, AllBuilt, AreLawful, IsLaunched}
+use Rattle.rdm_launch.proofs.Reorders.{reordered_more, reordered_filter, reordered_member, reordered_apart, apart_first}
+use Rattle.rdm_launch.proofs.Placing.{still_of}
+use Rattle.rdm_launch.proofs.Wholes.{element_at, pushed_in, pushed_apart, apart_by_source, WerePushed, took_once}
+
+one_port : (p q : PortView) → Some p ≡ Some q → p ≡ q
+one_port p q e = cc
+
+-- the same port, the other way round
+same_back : (p q : PortView) → IsSamePort p q → IsSamePort q p
+same_back p q h = (sym h.0, sym h.1, sym h.2, sym h.3, sym h.4, sym h.5)
+
+-- what inboxes that were closed have left of what was sent
+abbrev pub HaveLeft : InboxesState → List PassesState → Type 0
+HaveLeft w all =
+    (port from : ℕ) (v u : PassesState) → slice_get all port ≡ Some v → slice_get all from ≡ Some u → from_port from (taken_by v) ++ list_at (flights_to w port) from ≡ sent_to u port
+
+-- the ports in their places with their passes, and the inboxes that were closed
+pub record AreDone (tables : List InboxState) (starts ports : List PortView) (all : List PassesState) (w : InboxesState) : Type 0 where
+  pub fits : AllFit tables starts ports all
+  pub count : length ports ≡ length tables
+  pub passes : length all ≡ length tables
+  pub left : HaveLeft w all
+
+module _ (tables : List InboxState) (starts ports : List PortView) (all : List PassesState) (w : InboxesState) (done : AreDone tables starts ports all w) where
+  -- the passes of a port
+  abbrev At : ℕ → PortView → Type 0
+  At i p = (v : PassesState) × (slice_get all i ≡ Some v) × IsAtPlace tables starts p v i
+
+  at : (i : ℕ) (p : PortView) → slice_get ports i ≡ Some p → At i p
+  at i p is =
+      let within : i < length ports = slice_get_within ports i p is in
+      let low : i < length all = subst (λ (n : ℕ). i < n) (done.count ∙ sym done.passes) within in
+      let found = element_at all i low in
+      (found.0, found.1, (done.fits i p found.0 is found.1).0)
+
+  -- the datagrams from one port to another
+  all_moved : (to from : ℕ) (p q : PortView) → slice_get ports to ≡ Some p → slice_get ports from ≡ Some q
+      → IsReordered (from_port from (handled_in p.log ++ p.stash) ++ list_at (flights_to w to) from) (pushed_to to q.log)
+  all_moved to from p q is are =
+      let a = at to p is in
+      let b = at from q are in
+      let mine : IsReordered (from_port from (handled_in p.log ++ p.stash)) (from_port from (taken_by a.0)) =
+      reordered_filter (λ (d : Datagram). d.src.0 == from) (handled_in p.log ++ p.stash) (taken_by a.0) a.2.taken in
+      subst (λ (l : List Datagram). IsReordered (from_port from (handled_in p.log ++ p.stash) ++ list_at (flights_to w to) from) l) (done.left to from a.0 b.0 a.1 b.1 ∙ sym (b.2.pushed to))
+      (reordered_more (from_port from (handled_in p.log ++ p.stash)) (from_port from (taken_by a.0)) (list_at (flights_to w to) from) mine)
+
+  -- what a port handled comes from one of the ports, and was pushed to it
+  source_low : (port : ℕ) (p : PortView) → slice_get ports port ≡ Some p → (d : Datagram) → Member d (handled_in p.log) → d.src.0 < length ports
+  source_low port p is d m =
+      let a = at port p is in
+      let taken : Member d (taken_by a.0) = reordered_member (handled_in p.log ++ p.stash) (taken_by a.0) d a.2.taken (member-append_left d (handled_in p.log) p.stash m) in
+      let for_it : IsFor port (length tables) d = a.2.came d taken in
+      subst (λ (n : ℕ). d.src.0 < n) (sym done.count) for_it.1
+
+  were_pushed : (port : ℕ) (p : PortView) → slice_get ports port ≡ Some p → WerePushed (logs_of ports) port (handled_in p.log)
+  unfolding log_or_none
+  were_pushed port p is d m =
+      let found = element_at ports d.src.0 (source_low port p is d m) in
+      let mine : Member d (from_port d.src.0 (handled_in p.log ++ p.stash)) =
+      filter-member (λ (x : Datagram). x.src.0 == d.src.0) d (handled_in p.log ++ p.stash) (member-append_left d (handled_in p.log) p.stash m) (eq-eqb d.src.0 d.src.0 refl) in
+      let there : Member d (pushed_to port found.0.log) =
+      reordered_member (from_port d.src.0 (handled_in p.log ++ p.stash) ++ list_at (flights_to w port) d.src.0) (pushed_to port found.0.log) d (all_moved port d.src.0 p found.0 is found.1)
+      (member-append_left d (from_port d.src.0 (handled_in p.log ++ p.stash)) (list_at (flights_to w port) d.src.0) mine) in
+      let r = pushed_in port found.0.log d there in
+      (r.1, subst (λ (o : Option PortView). PushedIn d (log_or_none o)) (sym found.1) r.0)
+
+  -- the log of a port of a fair job is right by itself
+  own_local : (job : Job) → IsTrue (is_fair law_ops job) → ArePortsOf job starts → AllBuilt job (logs_of ports) → (port : ℕ) (p : PortView) → slice_get ports port ≡ Some p → Local job port p.log
+  unfolding log_or_none
+  own_local job fair are built port p is =
+      let a = (at port p is).2 in
+      let of_it : IsPortOf job p = still_of job p a.start (same_back a.start p a.same) (are.1 port a.start a.started) in
+      let mine : HandledBuilt job port p.log = subst (λ (o : Option PortView). HandledBuilt job port (log_or_none o)) is (built port) in
+      subst (λ (n : ℕ). Local job n p.log) a.number (a.right job fair of_it (subst (λ (n : ℕ). HandledBuilt job n p.log) (sym a.number) mine))
+
+  each_local : (job : Job) → IsTrue (is_fair law_ops job) → ArePortsOf job starts → AllBuilt job (logs_of ports) → (port : ℕ) → Local job port (logs_of ports port)
+  unfolding log_or_none
+  each_local job fair are built port =
+      (elim (slice_get ports port) as (λ o. slice_get ports port ≡ o → Local job port (log_or_none o)) [
+        | None ↦ λ e. tt
+        | Some p ↦ λ e. own_local job fair are built port p e
+      ]) refl
+
+  -- no two of the datagrams that it handled have the same source and number
+  handled_apart : (job : Job) → ((port : ℕ) (p : PortView) → slice_get ports port ≡ Some p → Local job port p.log) → (port : ℕ) (p : PortView) → slice_get ports port ≡ Some p
+      → AreApart (handled_in p.log)
+  handled_apart job local port p is =
+      apart_by_source (length ports) (handled_in p.log) (source_low port p is)
+      (λ from lt.
+      let found = element_at ports from lt in
+      let pushes : AreApart (pushed_to port found.0.log) = pushed_apart from port found.0.log (numbered job from found.0.log (local from found.0 found.1)) in
+      let both : AreApart (from_port from (handled_in p.log ++ p.stash)) =
+      apart_first (from_port from (handled_in p.log ++ p.stash)) (list_at (flights_to w port) from)
+      (reordered_apart (from_port from (handled_in p.log ++ p.stash) ++ list_at (flights_to w port) from) (pushed_to port found.0.log) (all_moved port from p found.0 is found.1) pushes) in
+      apart_first (from_port from (handled_in p.log)) (from_port from p.stash)
+      (subst AreApart (filter-append (λ (d : Datagram). d.src.0 == from) (handled_in p.log) p.stash) both))
+
+  each_once : (job : Job) → ((port : ℕ) (p : PortView) → slice_get ports port ≡ Some p → Local job port p.log) → (port : ℕ) → TookOnce (logs_of ports) port (logs_of ports port)
+  unfolding log_or_none
+  each_once job local port =
+      (elim (slice_get ports port) as (λ o. slice_get ports port ≡ o → TookOnce (logs_of ports) port (log_or_none o)) [
+        | None ↦ λ e. tt
+        | Some p ↦ λ e. took_once (logs_of ports) port p.log (were_pushed port p e) (handled_apart job local port p e)
+      ]) refl
+
+  all_lawful : (job : Job) → IsTrue (is_fair law_ops job) → ArePortsOf job starts → AllBuilt job (logs_of ports) → AreLawful job (logs_of ports)
+  all_lawful job fair are built =
+      let local = each_local job fair are built in
+      let once = each_once job (own_local job fair are built) in
+      record { local = local; once = once; joint = λ history joint. logs_are_delivered job (logs_of ports) history fair joint local once }
+
+  -- the launch
+  pub launched : length ports ≡ length starts → length w.flights ≡ length tables → IsLaunched starts ports w
+  launched same flights = record {
+    count = same;
+    inboxes = flights ∙ sym done.count;
+    same = λ i p q is are.
+        let a = (at i q are).2 in
+        subst (λ (x : PortView). IsSamePort x q) (one_port a.start p (sym a.started ∙ is)) a.same;
+    moved = all_moved;
+    lawful = all_lawful;
+  }

@@ -1,0 +1,78 @@
+-- Fresh ports with the passes of new inboxes fit their places.
+use Rattle.std.proofs.Common.{◌≡◌, ℕ, zero, suc, ◌<◌, List, [], ◌++◌, length, replicate, refl, ap, sym, ◌∙◌, subst}
+use Rattle.std.specs.Prelude.{slice_index_or}
+use Rattle.std.proofs.lemmas.Option.{slice_get_within}
+use Rattle.rdm_lists.specs.Lists.{Member}
+use Rattle.rdm_wire.specs.declared.Datagram.{Datagram}
+use Rattle.rdm_inbox.specs.Senders.{list_at}
+use Rattle.rdm_inbox.specs.Passes.{InboxState}
+use Rattle.rdm_inbox.specs.Queues.{PassesState, QueuesState, InboxesState, AreAllPasses, taken_by, flights_to}
+use Rattle.rdm_inbox.specs.Sharing.{AreOpened}
+use Rattle.rdm_model.specs.declared.entry.Entry.{Entry}
+use Rattle.rdm_model.specs.Local.{Local}
+use Rattle.rdm_port.specs.Views.{PortView}
+use Rattle.rdm_launch.specs.Logs.{pushed_to, handled_in}
+use Rattle.rdm_launch.specs.Reordered.{IsReordered}
+use Rattle.rdm_launch.specs.Packing.{AllFit}
+use Rattle.rdm_launch.specs.Launched.{CanLaunch}
+use Rattle.rdm_launch.proofs.Wholes.{element_at}
+
+-- lists that are all empty have nothing at any place
+nothing_at : (n i : ℕ) → list_at (replicate n []) i ≡ []
+nothing_at zero i = refl
+nothing_at (suc n) zero = refl
+nothing_at (suc n) (suc i) = nothing_at n i
+
+nothing_in : (n m to i : ℕ) → list_at (slice_index_or (replicate n (replicate m [])) to []) i ≡ []
+nothing_in zero m to i = refl
+nothing_in (suc n) m zero i = nothing_at m i
+nothing_in (suc n) m (suc to) i = nothing_in n m to i
+
+-- as many tables as ports
+pub tables_count : (starts : List PortView) (w : InboxesState) (queues : QueuesState) (all : List PassesState) → CanLaunch starts w → AreOpened w queues all
+    → length queues.tables ≡ length starts
+tables_count starts w queues all can opened = ap (λ (q : QueuesState). length q.tables) opened.same ∙ can.inboxes.count
+
+-- a port that did nothing has pushed and handled nothing
+none_pushed : (to : ℕ) (log : List Entry) → log ≡ [] → pushed_to to log ≡ []
+unfolding pushed_to
+none_pushed to log e = ap (pushed_to to) e
+
+none_handled : (log : List Entry) → log ≡ [] → handled_in log ≡ []
+unfolding handled_in
+none_handled log e = ap handled_in e
+
+pub fresh_fits : (starts : List PortView) (w : InboxesState) (queues : QueuesState) (all : List PassesState) → CanLaunch starts w → AreOpened w queues all
+    → AllFit queues.tables starts starts all
+fresh_fits starts w queues all can opened i p v is are =
+    let f = can.fresh i p is in
+    let mine = opened.passes.each i v are in
+    let flights : (to : ℕ) → list_at (flights_to w to) i ≡ [] =
+    λ to. ap (λ (ls : List (List (List Datagram))). list_at (slice_index_or ls to []) i) can.inboxes.nothing ∙ nothing_in (length starts) (length starts) to i in
+    let empty : handled_in p.log ++ p.stash ≡ [] = ap (λ (l : List Datagram). l ++ p.stash) (none_handled p.log f.no_log) ∙ f.no_stash in (
+      record {
+        start = p;
+        started = is;
+        same = (refl, refl, refl, refl, refl, refl);
+        number = f.number;
+        ports = f.ports ∙ sym (tables_count starts w queues all can opened);
+        own = mine.1;
+        pushed = λ to. none_pushed to p.log f.no_log ∙ sym (opened.sent i to v are ∙ flights to);
+        taken = subst (λ (l : List Datagram). IsReordered l (taken_by v)) (sym empty) (opened.taken i v are);
+        came = λ d m. elim (subst (λ (l : List Datagram). Member d l) (opened.taken i v are) m) [ ];
+        right = λ job fair of' built. subst (λ (log : List Entry). Local job p.number log) (sym f.no_log) tt;
+      },
+      mine.0,
+    )
+
+-- the passes of ports in their places are all passes
+pub all_passes : (tables : List InboxState) (starts ports : List PortView) (all : List PassesState) → AllFit tables starts ports all → length all ≡ length ports → length ports ≡ length tables
+    → AreAllPasses tables all
+all_passes tables starts ports all fits same count = record {
+  each = λ i v is.
+      let within : i < length all = slice_get_within all i v is in
+      let p = element_at ports i (subst (λ (n : ℕ). i < n) same within) in
+      let f = fits i p.0 v p.1 is in
+      (f.1, f.0.own);
+  count = same ∙ count;
+}

@@ -1,0 +1,12 @@
+//! Ports that step at the same time, each in turns that several threads take.
+#![tactic(auto)]
+
+mod crews;
+mod gate;
+mod launching;
+mod packing;
+mod stations;
+mod turns;
+
+pub use gate::{Gate, OpenGate, Who};
+pub use launching::launch;
