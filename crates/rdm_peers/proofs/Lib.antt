@@ -9,4 +9,4 @@ mod Keys
 -- that the table shows the record
 mod Shows
 -- and the laws of that
-mod ShownLaws
+pub mod ShownLaws

@@ -5,10 +5,10 @@ mod Laying
 -- which places have come
 mod Coming
 -- a receive that is new, met or filled shows what the record makes of it
-mod Showing
+pub mod Showing
 -- what has come, and what that makes owed
-mod Fullness
+pub mod Fullness
 -- what comes back
-mod Backs
+pub mod Backs
 -- loans
-mod Lent
+pub mod Lent
