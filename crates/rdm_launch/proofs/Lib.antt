@@ -7,4 +7,5 @@ pub mod Packings
 pub mod Starting
 -- What ports in their places left, all together.
 pub mod Wholes
+pub mod Waiting
 pub mod Gathering

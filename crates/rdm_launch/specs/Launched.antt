@@ -1,6 +1,6 @@
 -- What a launch is begun with, and what it makes of it.
 use Rattle.std.specs.Prelude.{◌≡◌, ℕ, ◌<◌, ◌≤◌, IsTrue, List, [], ◌++◌, length, Some, slice_get}
-use Rattle.rdm_inbox.specs.Senders.{from_port, list_at}
+use Rattle.rdm_inbox.specs.Senders.{from_port, list_at, joined}
 use Rattle.rdm_inbox.specs.Queues.{InboxesState, AreNew, flights_to}
 use Rattle.rdm_model.specs.declared.job.Job.{Job}
 use Rattle.rdm_model.specs.declared.entry.Entry.{Entry}
@@ -9,7 +9,7 @@ use Rattle.rdm_model.specs.Jobs.{is_fair, law_ops}
 use Rattle.rdm_model.specs.Local.{Local}
 use Rattle.rdm_model.specs.Joint.{IsJoint, IsDelivered}
 use Rattle.rdm_model.specs.Lawful.{Lawful}
-use Rattle.rdm_law.specs.Worlds.{TookOnce}
+use Rattle.rdm_law.specs.Worlds.{TookOnce, HasWaiting}
 use Rattle.rdm_port.specs.Views.{PortView, IsPortOf, IsSamePort}
 use Rattle.rdm_launch.specs.Logs.{pushed_to, handled_in, logs_of}
 use Rattle.rdm_launch.specs.Reordered.{IsReordered}
@@ -45,7 +45,8 @@ pub record AreLawful (job : Job) (logs : ℕ → List Entry) : Type 0 where
   pub joint : (history : List Entry) → IsJoint logs history → IsDelivered logs history × Lawful job history
 
 -- the ports are those that were there, each in its place with a log and a stash. To each port from each, what was handled, what is in the stash and what is in flight
--- are the datagrams that were pushed, each as often. In each fair job whose ports they are, all logs are lawful
+-- are the datagrams that were pushed, each as often. In each fair job whose ports they are, all logs are lawful, and a port's stash with what is in flight to it
+-- has just what was pushed to it and not handled, each datagram once
 pub record IsLaunched (starts ports : List PortView) (w : InboxesState) : Type 0 where
   pub count : length ports ≡ length starts
   pub inboxes : length w.flights ≡ length ports
@@ -53,3 +54,5 @@ pub record IsLaunched (starts ports : List PortView) (w : InboxesState) : Type 0
   pub moved : (to from : ℕ) (p q : PortView) → slice_get ports to ≡ Some p → slice_get ports from ≡ Some q
       → IsReordered (from_port from (handled_in p.log ++ p.stash) ++ list_at (flights_to w to) from) (pushed_to to q.log)
   pub lawful : (job : Job) → IsTrue (is_fair law_ops job) → ArePortsOf job starts → AllBuilt job (logs_of ports) → AreLawful job (logs_of ports)
+  pub waiting : (job : Job) → IsTrue (is_fair law_ops job) → ArePortsOf job starts → AllBuilt job (logs_of ports)
+      → (port : ℕ) (p : PortView) → slice_get ports port ≡ Some p → HasWaiting (logs_of ports) port (p.stash ++ joined (flights_to w port))

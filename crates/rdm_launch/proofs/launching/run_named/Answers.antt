@@ -1,4 +1,4 @@
-use Rattle.std.proofs.Common.{List, length, arith, sym, ◌∙◌, ap, subst}
+use Rattle.std.proofs.Common.{ℕ, ◌<◌, List, length, arith, sym, ◌∙◌, ap, subst}
 use Rattle.rdm_inbox.specs.Passes.{InboxState}
 use Rattle.rdm_port.specs.Views.{PortView}
 use Rattle.rdm_launch.specs.Packing.{AllFit}
@@ -33,4 +33,4 @@ returns-in-Ok g c =
     let tables = ap (λ (t : List InboxState). length t) c.requires.named in
     let starts = ap (λ (ps : List PortView). length ps) c.requires.starts in
     launched g.J.Naming.tables g.J.Naming.starts c.run.new.ports.items c.run.new.all.items c.close.result
-    (record { fits = c.in-Ok.ensures.fits; count = omega arith; passes = omega arith; left = w.left }) (omega arith) (w.count ∙ tables)
+    (record { fits = c.in-Ok.ensures.fits; count = omega arith; passes = omega arith; left = w.left; senders = λ port near. w.senders port (subst (λ (n : ℕ). port < n) (sym tables) near) ∙ tables }) (omega arith) (w.count ∙ tables)
