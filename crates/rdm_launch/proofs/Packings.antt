@@ -12,7 +12,7 @@ use Rattle.rdm_launch.specs.Fitting.{FitsPlace}
 use Rattle.rdm_launch.specs.Packing.{AllFit}
 
 -- what stands at a place of a list with one element more
-snoc_at : {A : Type 0} (xs : List A) (y : A) (k : ℕ) (x : A) → slice_get (xs ++ y ∷ []) k ≡ Some x → (slice_get xs k ≡ Some x) ⊎ ((k ≡ length xs) × (y ≡ x))
+pub snoc_at : {A : Type 0} (xs : List A) (y : A) (k : ℕ) (x : A) → slice_get (xs ++ y ∷ []) k ≡ Some x → (slice_get xs k ≡ Some x) ⊎ ((k ≡ length xs) × (y ≡ x))
 snoc_at [] y zero x h = inr (refl, cc)
 snoc_at [] y (suc k) x h = absurd (cc)
 snoc_at (z ∷ xs) y zero x h = inl h

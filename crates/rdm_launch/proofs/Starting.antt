@@ -1,6 +1,6 @@
 -- Fresh ports with the passes of new inboxes fit their places.
-use Rattle.std.proofs.Common.{◌≡◌, ℕ, zero, suc, ◌<◌, List, [], ◌++◌, length, replicate, refl, ap, sym, ◌∙◌, subst}
-use Rattle.std.specs.Prelude.{slice_index_or}
+use Rattle.std.proofs.Common.{◌≡◌, ℕ, zero, suc, ◌<◌, List, [], ◌++◌, length, replicate, Some, refl, ap, sym, ◌∙◌, subst, inl, inr, arith, ◌∷◌}
+use Rattle.std.specs.Prelude.{slice_get, slice_index_or}
 use Rattle.std.proofs.lemmas.Option.{slice_get_within}
 use Rattle.rdm_lists.specs.Lists.{Member}
 use Rattle.rdm_wire.specs.declared.Datagram.{Datagram}
@@ -10,11 +10,14 @@ use Rattle.rdm_inbox.specs.Queues.{PassesState, QueuesState, InboxesState, AreAl
 use Rattle.rdm_inbox.specs.Sharing.{AreOpened}
 use Rattle.rdm_model.specs.declared.entry.Entry.{Entry}
 use Rattle.rdm_model.specs.Local.{Local}
-use Rattle.rdm_port.specs.Views.{PortView}
+use Rattle.rdm_model.specs.declared.job.Job.{Job}
+use Rattle.rdm_model.specs.Beginnings.{port_count}
+use Rattle.rdm_port.specs.Views.{PortView, IsPortOf, new_port}
 use Rattle.rdm_launch.specs.Logs.{pushed_to, handled_in}
 use Rattle.rdm_launch.specs.Reordered.{IsReordered}
 use Rattle.rdm_launch.specs.Packing.{AllFit}
-use Rattle.rdm_launch.specs.Launched.{CanLaunch}
+use Rattle.rdm_launch.specs.Launched.{CanLaunch, ArePortsOf, IsFresh, AreFresh}
+use Rattle.rdm_launch.proofs.Packings.{snoc_at}
 use Rattle.rdm_launch.proofs.Wholes.{element_at}
 
 -- lists that are all empty have nothing at any place
@@ -76,3 +79,31 @@ all_passes tables starts ports all fits same count = record {
       (f.1, f.0.own);
   count = same ∙ count;
 }
+
+-- each is the new port of its place
+abbrev pub AreNewPorts : Job → List PortView → Type 0
+AreNewPorts job ports = (i : ℕ) (p : PortView) → slice_get ports i ≡ Some p → p ≡ new_port job i
+
+pub none_new : (job : Job) (ports : List PortView) → length ports ≡ 0 → AreNewPorts job ports
+none_new job [] none i p is = absurd (cc)
+none_new job (q ∷ ports) none i p is = absurd (omega arith)
+
+pub one_more_new : (job : Job) (ports longer : List PortView) (q : PortView) (n : ℕ) → longer ≡ ports ++ q ∷ [] → n ≡ length ports → q ≡ new_port job n → AreNewPorts job ports
+    → AreNewPorts job longer
+one_more_new job ports longer q n long count new all i p is =
+    elim (snoc_at ports q i p (sym (ap (λ (l : List PortView). slice_get l i) long) ∙ is)) [
+      | inl a ↦ all i p a
+      | inr a ↦ sym a.1 ∙ new ∙ ap (new_port job) (count ∙ sym a.0)
+    ]
+
+-- so they are the job's, and fresh
+pub are_fresh : (job : Job) (ports : List PortView) → length ports ≡ port_count job → AreNewPorts job ports → ArePortsOf job ports × AreFresh ports
+are_fresh job ports count new = (
+  (
+    count,
+    λ i p is.
+        let within : i < port_count job = subst (λ (n : ℕ). i < n) count (slice_get_within ports i p is) in
+        subst (IsPortOf job) (sym (new i p is)) (record { within = within; ports_are = refl; inbox_is = refl; start_is = refl; limits_are = refl; rank_is = refl }),
+  ),
+  λ i p is. subst (IsFresh (length ports) i) (sym (new i p is)) (record { number = refl; ports = sym count; no_log = refl; no_stash = refl }),
+)

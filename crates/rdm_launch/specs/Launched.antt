@@ -22,11 +22,15 @@ pub record IsFresh (count i : ℕ) (p : PortView) : Type 0 where
   pub no_log : p.log ≡ []
   pub no_stash : p.stash ≡ []
 
+-- fresh ports in order
+abbrev pub AreFresh : List PortView → Type 0
+AreFresh ports = (i : ℕ) (p : PortView) → slice_get ports i ≡ Some p → IsFresh (length ports) i p
+
 -- fresh ports in order, at most sixteen, and new inboxes for them
 pub record CanLaunch (starts : List PortView) (w : InboxesState) : Type 0 where
   pub some : 0 < length starts
   pub few : length starts ≤ 16
-  pub fresh : (i : ℕ) (p : PortView) → slice_get starts i ≡ Some p → IsFresh (length starts) i p
+  pub fresh : AreFresh starts
   pub inboxes : AreNew (length starts) w.queues.size w
 
 -- these are ports of that job

@@ -5,6 +5,7 @@ ghost use Rattle.rdm_launch.specs.Packing.{AllFit};
 ghost use Rattle.rdm_launch.specs.Launched.{CanLaunch, IsLaunched};
 
 use crate::crews::crew;
+use crate::fresh::end_all;
 use crate::gate::Gate;
 use crate::packing::{pack, unpack};
 use crate::stations::Naming;
@@ -16,14 +17,6 @@ use std::alloc::{AllocError, Global};
 use std::marker::Brand;
 use std::sync::Wait;
 use std::thread::Threads;
-
-/// Ends each port.
-fn end_all(mut ports: Vec<Port>) {
-    while let Some(port) = ports.pop() {
-        port.end();
-    }
-    ports.destroy_empty();
-}
 
 /// Runs ports with their passes, by a poster and so many progress threads for each.
 fn run<J: Naming + Send + Sync, R: Threads + Wait + Sync, G: Gate + Sync>(

@@ -2,11 +2,13 @@
 #![tactic(auto)]
 
 mod crews;
+mod fresh;
 mod gate;
 mod launching;
 mod packing;
 mod stations;
 mod turns;
 
+pub use fresh::ports_of;
 pub use gate::{Gate, OpenGate, Who};
 pub use launching::launch;
