@@ -1,12 +1,12 @@
 -- Fresh ports with the passes of new inboxes fit their places.
-use Rattle.std.proofs.Common.{◌≡◌, ℕ, zero, suc, ◌<◌, List, [], ◌++◌, length, replicate, Some, refl, ap, sym, ◌∙◌, subst, inl, inr, arith, ◌∷◌}
+use Rattle.std.proofs.Common.{◌≡◌, ℕ, zero, suc, ◌<◌, ◌≤◌, List, [], ◌++◌, length, replicate, Some, refl, ap, sym, ◌∙◌, subst, inl, inr, arith, ◌∷◌}
 use Rattle.std.specs.Prelude.{slice_get, slice_index_or}
 use Rattle.std.proofs.lemmas.Option.{slice_get_within}
 use Rattle.rdm_lists.specs.Lists.{Member}
 use Rattle.rdm_wire.specs.declared.Datagram.{Datagram}
 use Rattle.rdm_inbox.specs.Senders.{list_at}
 use Rattle.rdm_inbox.specs.Passes.{InboxState}
-use Rattle.rdm_inbox.specs.Queues.{PassesState, QueuesState, InboxesState, AreAllPasses, taken_by, flights_to}
+use Rattle.rdm_inbox.specs.Queues.{PassesState, QueuesState, InboxesState, AreAllPasses, AreNew, taken_by, flights_to}
 use Rattle.rdm_inbox.specs.Sharing.{AreOpened}
 use Rattle.rdm_model.specs.declared.entry.Entry.{Entry}
 use Rattle.rdm_model.specs.Local.{Local}
@@ -107,3 +107,14 @@ are_fresh job ports count new = (
   ),
   λ i p is. subst (IsFresh (length ports) i) (sym (new i p is)) (record { number = refl; ports = sym count; no_log = refl; no_stash = refl }),
 )
+
+-- fresh ports of a job and new inboxes for so many can be launched
+pub can_launch : (job : Job) (ports : List PortView) (w : InboxesState) (n size : ℕ) → port_count job ≡ n → 0 < n → n ≤ 16 → ArePortsOf job ports × AreFresh ports → AreNew n size w → CanLaunch ports w
+can_launch job ports w n size count some few fresh new =
+    let long : length ports ≡ n = fresh.0.0 ∙ count in
+    record {
+      some = omega arith;
+      few = omega arith;
+      fresh = fresh.1;
+      inboxes = subst (λ (k : ℕ). AreNew k w.queues.size w) (sym long) (subst (λ (k : ℕ). AreNew n k w) (sym new.places) new);
+    }

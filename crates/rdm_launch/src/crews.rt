@@ -10,7 +10,7 @@ use rdm_inbox::Queues;
 use rdm_turn::{TurnSeat, Turns};
 use std::alloc::Global;
 use std::sync::Wait;
-use std::thread::{Threads, join};
+use std::thread::{Threads, join, yield_now};
 
 /// After so many turns in a row that made no entry a thread ends.
 const MOST_IDLE: u32 = 1000;
@@ -78,6 +78,9 @@ fn work<J: Naming, R: Wait, G: Gate>(
         match idle_after(idle, outcome) {
             Some(more) => idle = more,
             None => break,
+        }
+        if idle > 0 {
+            yield_now();
         }
         count = count.wrapping_add(1);
     }

@@ -7,6 +7,8 @@ mod gate;
 mod launching;
 mod packing;
 mod stations;
+#[cfg(test)]
+mod tests;
 mod turns;
 
 pub use fresh::ports_of;
