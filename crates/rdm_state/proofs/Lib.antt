@@ -1,0 +1,10 @@
+-- The proof that the parts of an endpoint show its record.
+
+-- before any deed, and what leaves the live operations as they are
+pub mod Begins
+-- receives among others
+pub mod Among
+-- a receive that is changed
+pub mod Changed
+-- a receive that is over
+pub mod Over

@@ -1,0 +1,10 @@
+-- The parts of an endpoint together, and what they show.
+
+-- what they are together
+pub mod State
+-- that they show an endpoint's record
+pub mod Shows
+-- what each step makes of them
+pub mod Steps
+-- that it is what the record's step makes of it
+pub mod Laws

@@ -1,0 +1,45 @@
+-- What each step makes of the parts of an endpoint.
+use Rattle.std.specs.Prelude.{ℕ, ◌+◌, ◌-◌, ◌==◌, not, if◌then◌else◌, Bool, List, [], ◌∷◌, ◌++◌, map, filter}
+use denote.RawPtr.{Ptr}
+use Rattle.rdm_num.specs.declared.numbers.OpId.{OpId}
+use Rattle.rdm_num.specs.declared.numbers.Life.{Life}
+use Rattle.rdm_num.specs.declared.completion.Completion.{Completion}
+use Rattle.rdm_num.specs.declared.completion.Completion.TheVariants.{Recv}
+use Rattle.rdm_num.specs.declared.completion.Outcome.{Outcome}
+use Rattle.rdm_mr.specs.Part.{Piece}
+use Rattle.rdm_match.specs.Kept as Matcher
+use Rattle.rdm_match.specs.Matcher.{Cancel}
+use Rattle.rdm_regions.specs.Registry as Regions
+use Rattle.rdm_receives.specs.View.{ReceiveView, filled}
+use Rattle.rdm_receives.specs.Answers.{after_grant}
+use Rattle.rdm_cq.specs.Queue as Cq
+use Rattle.rdm_state.specs.State.{State}
+
+-- the receive has that number
+abbrev pub has_number : (number : ℕ) → ReceiveView → Bool
+has_number number r = r.number.0 == number
+
+-- a region is registered
+abbrev pub registered : Ptr → List ℕ → State → State
+registered block bytes e = record e { regions = Regions.with_region e.regions block bytes }
+
+-- the first completion is polled
+abbrev pub polled : State → State
+polled e = record e { completions = Cq.polled e.completions; polled = e.polled + 1 }
+
+-- the receive of a number is changed so
+abbrev pub with_receive : (number : ℕ) → (ReceiveView → ReceiveView) → State → State
+with_receive number change e = record e { receives = record (e.receives) { list = map (λ r. if has_number number r then change r else r) e.receives.list } }
+
+-- the receive of a number is over: its part is back, and it completes so
+abbrev pub without_receive : (number : ℕ) → Piece → Outcome → State → State
+without_receive number piece outcome e =
+    record e {
+      regions = Regions.after_lease_back e.regions number piece;
+      receives = record (e.receives) { list = filter (λ r. not (has_number number r)) e.receives.list };
+      completions = Cq.written e.completions (Recv (record { 0 = number }) outcome);
+    }
+
+-- one that waits is taken back
+abbrev pub cancelled : (number : ℕ) → Piece → Outcome → State → State
+cancelled number piece outcome e = record (without_receive number piece outcome e) { matcher = Matcher.kept_after e.matcher (Cancel number) }

@@ -1,0 +1,22 @@
+//! That the parts of an endpoint, each changed as its calls change it, show what an endpoint's record makes of the same step.
+#![tactic(auto)]
+
+ghost use Rattle.rdm_state.specs.Laws.{Cancels, Ends, Fills, Grants, Loses, Polls, Registers, Starts};
+
+/// The parts of a new endpoint show a record of which nothing is kept, and show what is kept once a region is registered and
+/// once a completion is polled.
+pub fn state_law()
+    ensures starts { Starts }
+    ensures registers { Registers }
+    ensures polls { Polls }
+{}
+
+/// A receive that is granted a window or comes to have bytes shows what the record makes of it. So do the parts once a receive is
+/// over, whether it took its message, was taken back or is lost.
+pub fn receives_law()
+    ensures grants { Grants }
+    ensures fills { Fills }
+    ensures ends { Ends }
+    ensures cancels { Cancels }
+    ensures loses { Loses }
+{}
