@@ -8,3 +8,5 @@ pub mod Among
 pub mod Changed
 -- a receive that is over
 pub mod Over
+-- live sends
+pub mod Sends

@@ -8,3 +8,5 @@ pub mod Shows
 pub mod Steps
 -- that it is what the record's step makes of it
 pub mod Laws
+-- the same of live sends
+pub mod SendLaws

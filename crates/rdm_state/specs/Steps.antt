@@ -4,14 +4,18 @@ use denote.RawPtr.{Ptr}
 use Rattle.rdm_num.specs.declared.numbers.OpId.{OpId}
 use Rattle.rdm_num.specs.declared.numbers.Life.{Life}
 use Rattle.rdm_num.specs.declared.completion.Completion.{Completion}
-use Rattle.rdm_num.specs.declared.completion.Completion.TheVariants.{Recv}
+use Rattle.rdm_num.specs.declared.completion.Completion.TheVariants.{Send, Recv}
 use Rattle.rdm_num.specs.declared.completion.Outcome.{Outcome}
 use Rattle.rdm_mr.specs.Part.{Piece}
 use Rattle.rdm_match.specs.Kept as Matcher
 use Rattle.rdm_match.specs.Matcher.{Cancel}
 use Rattle.rdm_regions.specs.Registry as Regions
-use Rattle.rdm_receives.specs.View.{ReceiveView, filled}
-use Rattle.rdm_receives.specs.Answers.{after_grant}
+use Rattle.rdm_regions.specs.Holds as Holds
+use Rattle.rdm_pool.specs.Numbered as Pool
+use Rattle.rdm_sends.specs.Sending.{SendingView}
+use Rattle.rdm_receives.specs.View.{ReceiveView}
+use Rattle.rdm_owed.specs.Owing as Owed
+use Rattle.rdm_answers.specs.declared.answer.Answer.{Answer}
 use Rattle.rdm_cq.specs.Queue as Cq
 use Rattle.rdm_state.specs.State.{State}
 
@@ -43,3 +47,22 @@ without_receive number piece outcome e =
 -- one that waits is taken back
 abbrev pub cancelled : (number : ℕ) → Piece → Outcome → State → State
 cancelled number piece outcome e = record (without_receive number piece outcome e) { matcher = Matcher.kept_after e.matcher (Cancel number) }
+
+-- ---- sends
+
+-- the send of a number is as it is now
+abbrev pub with_send : (number : ℕ) → SendingView → State → State
+with_send number x e = record e { sends = Pool.after_write e.sends (record { 0 = number }) x }
+
+-- the send of a number is over: it holds nothing, and completes so
+abbrev pub without_send : (number : ℕ) → (gone : Bool) → State → State
+without_send number gone e =
+    record e {
+      regions = Holds.without_holds e.regions number 4;
+      sends = Pool.after_take e.sends (record { 0 = number });
+      completions = Cq.written e.completions (Send (record { 0 = number }) gone);
+    }
+
+-- other answers are owed
+abbrev pub owing : Owed.Owing Answer → State → State
+owing owed e = record e { owed = owed }

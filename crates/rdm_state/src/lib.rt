@@ -1,6 +1,7 @@
 //! That the parts of an endpoint, each changed as its calls change it, show what an endpoint's record makes of the same step.
 #![tactic(auto)]
 
+ghost use Rattle.rdm_state.specs.SendLaws.{AnswersGo, AsksCome, GrantsCome, SendsEnd, SendsLost};
 ghost use Rattle.rdm_state.specs.Laws.{Cancels, Ends, Fills, Grants, Loses, Polls, Registers, Starts};
 
 /// The parts of a new endpoint show a record of which nothing is kept, and show what is kept once a region is registered and
@@ -19,4 +20,14 @@ pub fn receives_law()
     ensures ends { Ends }
     ensures cancels { Cancels }
     ensures loses { Loses }
+{}
+
+/// A send that is granted or asked for, or of which an answer went out, shows what the record makes of it. So do the parts once a
+/// send is over, whether its receiver ended it or its life is lost.
+pub fn sends_law()
+    ensures grants { GrantsCome }
+    ensures asks { AsksCome }
+    ensures answers { AnswersGo }
+    ensures ends { SendsEnd }
+    ensures lost { SendsLost }
 {}
