@@ -69,7 +69,7 @@ both number f g r (x ∷ xs) (y ∷ ys) shows only like =
     ] refl, both number f g r xs ys shows (λ z m is. only z (inr m) is) like.1)
 
 -- a receive that is changed alike on both sides
-changed : (e : State) (v : Kept) (number : ℕ) (f : ReceiveView → ReceiveView) (g : LiveReceive → LiveReceive) (r : ReceiveView)
+pub changed : (e : State) (v : Kept) (number : ℕ) (f : ReceiveView → ReceiveView) (g : LiveReceive → LiveReceive) (r : ReceiveView)
     → Shows e v → IsOrderly v → find (has_number number) e.receives.list ≡ Some r → IsReceive (f r)
     → ((l : LiveReceive) → (g l).receive ≡ l.receive) → ((l : LiveReceive) → Receive.Shows r l → Receive.Shows (f r) (g l))
     → Shows (with_receive number f e) (record v { receives = change_where (is_receive number) g v.receives })

@@ -10,3 +10,5 @@ pub mod Changed
 pub mod Over
 -- live sends
 pub mod Sends
+-- messages
+pub mod Messages

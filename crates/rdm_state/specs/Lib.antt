@@ -10,3 +10,5 @@ pub mod Steps
 pub mod Laws
 -- the same of live sends
 pub mod SendLaws
+-- and of messages
+pub mod MessageLaws

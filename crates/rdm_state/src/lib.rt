@@ -1,6 +1,7 @@
 //! That the parts of an endpoint, each changed as its calls change it, show what an endpoint's record makes of the same step.
 #![tactic(auto)]
 
+ghost use Rattle.rdm_state.specs.MessageLaws.{Arrives, IsTaken, Meets, Owes, Posts, Takes};
 ghost use Rattle.rdm_state.specs.SendLaws.{AnswersGo, AsksCome, GrantsCome, SendsEnd, SendsLost};
 ghost use Rattle.rdm_state.specs.Laws.{Cancels, Ends, Fills, Grants, Loses, Polls, Registers, Starts};
 
@@ -30,4 +31,15 @@ pub fn sends_law()
     ensures answers { AnswersGo }
     ensures ends { SendsEnd }
     ensures lost { SendsLost }
+{}
+
+/// A receive that is posted and a message that arrives wait, or one takes the other, as the matcher answers; and the receive that
+/// takes an early message, and what it makes owed, show what the record makes of the match.
+pub fn messages_law()
+    ensures posts { Posts }
+    ensures takes { Takes }
+    ensures arrives { Arrives }
+    ensures is_taken { IsTaken }
+    ensures meets { Meets }
+    ensures owes { Owes }
 {}
