@@ -12,3 +12,5 @@ pub mod Over
 pub mod Sends
 -- messages
 pub mod Messages
+-- operations that are accepted, and lives that are met
+pub mod Accepted

@@ -12,3 +12,5 @@ pub mod Laws
 pub mod SendLaws
 -- and of messages
 pub mod MessageLaws
+-- and of operations that are accepted, and of lives
+pub mod LifeLaws

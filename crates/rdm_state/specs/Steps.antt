@@ -2,7 +2,7 @@
 use Rattle.std.specs.Prelude.{ℕ, ◌+◌, ◌-◌, ◌==◌, not, if◌then◌else◌, Bool, List, [], ◌∷◌, ◌++◌, map, filter}
 use denote.RawPtr.{Ptr}
 use Rattle.rdm_num.specs.declared.numbers.OpId.{OpId}
-use Rattle.rdm_num.specs.declared.numbers.Life.{Life}
+use Rattle.rdm_num.specs.declared.parts.Span.{Span}
 use Rattle.rdm_num.specs.declared.completion.Completion.{Completion}
 use Rattle.rdm_num.specs.declared.completion.Completion.TheVariants.{Send, Recv}
 use Rattle.rdm_num.specs.declared.completion.Outcome.{Outcome}
@@ -12,6 +12,7 @@ use Rattle.rdm_match.specs.Matcher.{Cancel}
 use Rattle.rdm_regions.specs.Registry as Regions
 use Rattle.rdm_regions.specs.Holds as Holds
 use Rattle.rdm_pool.specs.Numbered as Pool
+use Rattle.rdm_peers.specs.Table as Peers
 use Rattle.rdm_sends.specs.Sending.{SendingView}
 use Rattle.rdm_receives.specs.View.{ReceiveView}
 use Rattle.rdm_owed.specs.Owing as Owed
@@ -66,3 +67,28 @@ without_send number gone e =
 -- other answers are owed
 abbrev pub owing : Owed.Owing Answer → State → State
 owing owed e = record e { owed = owed }
+
+-- ---- operations that are accepted
+
+-- a receive is accepted: its range goes out with it, and it has a place for its completion
+abbrev pub accepted : ReceiveView → Span → State → State
+accepted r x e =
+    record e {
+      regions = Regions.with_lease e.regions r.number.0 x;
+      receives = record { list = e.receives.list ++ r ∷ []; made = e.receives.made + 1 };
+      completions = record (e.completions) { reserved = e.completions.reserved + 1 };
+    }
+
+-- a send is accepted: it holds its ranges, has the next number of its life, and a place for its completion
+abbrev pub begun : SendingView → Peers.Known → State → State
+begun x peers e =
+    record e {
+      regions = Holds.with_holds e.regions e.sends.made x.parts;
+      peers = peers;
+      sends = record (e.sends) { list = e.sends.list ++ (e.sends.made, x) ∷ []; made = e.sends.made + 1 };
+      completions = record (e.completions) { reserved = e.completions.reserved + 1 };
+    }
+
+-- more is known of lives
+abbrev pub knowing : Peers.Known → State → State
+knowing peers e = record e { peers = peers }

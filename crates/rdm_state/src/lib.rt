@@ -1,6 +1,7 @@
 //! That the parts of an endpoint, each changed as its calls change it, show what an endpoint's record makes of the same step.
 #![tactic(auto)]
 
+ghost use Rattle.rdm_state.specs.LifeLaws.{Accepts, Begins, Greets, Knows, Learns, Passes};
 ghost use Rattle.rdm_state.specs.MessageLaws.{Arrives, IsTaken, Meets, Owes, Posts, Takes};
 ghost use Rattle.rdm_state.specs.SendLaws.{AnswersGo, AsksCome, GrantsCome, SendsEnd, SendsLost};
 ghost use Rattle.rdm_state.specs.Laws.{Cancels, Ends, Fills, Grants, Loses, Polls, Registers, Starts};
@@ -42,4 +43,15 @@ pub fn messages_law()
     ensures is_taken { IsTaken }
     ensures meets { Meets }
     ensures owes { Owes }
+{}
+
+/// A receive and a send that are accepted show what the record makes of them; so does what is known of a life that is met,
+/// greeted, or tells of its features.
+pub fn lives_law()
+    ensures accepts { Accepts }
+    ensures begins { Begins }
+    ensures knows { Knows }
+    ensures greets { Greets }
+    ensures passes { Passes }
+    ensures learns { Learns }
 {}
