@@ -1,24 +1,22 @@
 -- Operations that are accepted, and lives that are met.
-use Rattle.std.proofs.Common.{◌≡◌, ℕ, ◌+◌, ◌-◌, ◌<◌, ◌≤◌, Bool, true, false, not, cond, List, [], ◌∷◌, ◌++◌, length, filter, find, map, get_or, Option, Some, None, refl, sym, ap, ◌∙◌, subst, ◌⊎◌, inl, inr, arith}
-use Rattle.std.specs.Prelude.{◌==◌, ◌&&◌, IsSome}
+use Rattle.std.proofs.Common.{◌≡◌, ℕ, ◌+◌, ◌<◌, true, false, not, cond, List, [], ◌∷◌, ◌++◌, find, Option, Some, None, refl, sym, ap, ◌∙◌, subst, inl, inr, arith}
+use Rattle.std.specs.Prelude.{◌==◌}
 use Rattle.std.proofs.lemmas.List.{length-append, append-nil, append_cancel_left}
 use Rattle.rdm_lists.specs.Lists.{Member}
-use Rattle.rdm_lists.proofs.Members.{find_member, member-append_cases}
+use Rattle.rdm_lists.proofs.Members.{member-append_cases}
 use Rattle.rdm_num.specs.Lives.{same_life}
 use Rattle.rdm_num.proofs.Lives.{same_life-true}
 use Rattle.rdm_num.specs.declared.numbers.Life.{Life}
-use Rattle.rdm_model.specs.Matches.{Receive as Posted}
-use Rattle.rdm_model.specs.Replies.{Reply, reply, greeting}
+use Rattle.rdm_model.specs.Replies.{reply, greeting}
 use Rattle.rdm_model.specs.Sends.{new_sent}
-use Rattle.rdm_answers.specs.Owing.{owed_in}
 use Rattle.rdm_answers.proofs.Given.{only_given_bytes_count}
 use Rattle.rdm_answers.proofs.Received.{greetings_greet}
-use Rattle.rdm_life.specs.Kept.{Kept, Peer, LiveSend, LiveReceive, is_send, is_receive, receive_numbered, send_numbered}
+use Rattle.rdm_life.specs.Kept.{LiveSend, LiveReceive, is_send, send_numbered}
 use Rattle.rdm_life.specs.Handling.{after_item}
 use Rattle.rdm_life.specs.Lives.{greet}
 use Rattle.rdm_life.specs.Memory.{part_of}
-use Rattle.rdm_life.specs.Receiving.{receive_in, with_live, named_in}
-use Rattle.rdm_life.specs.Sending.{after_send, send_to, sent_in, begun as begun_send}
+use Rattle.rdm_life.specs.Receiving.{receive_in, named_in}
+use Rattle.rdm_life.specs.Sending.{send_to, sent_in, begun as begun_send}
 use Rattle.rdm_peers.specs.Accounts.{Acquaintance}
 use Rattle.rdm_peers.specs.Table.{Known, put_back}
 use Rattle.rdm_peers.specs.Accounts.{numbered}
@@ -40,12 +38,9 @@ use Rattle.rdm_shown.proofs.Grounds.{hold_shows}
 use Rattle.rdm_shown.proofs.HomeBytes.{part_is_out}
 use Rattle.rdm_shown.proofs.Leases.{lease_shows}
 use Rattle.rdm_shown.proofs.Tables.{like_put, rise_last}
-use Rattle.rdm_sound.specs.Premises.{IsOrderly}
 use Rattle.rdm_state.specs.Shows.{Shows, number_of, bytes_of, bytes_of_found}
-use Rattle.rdm_state.specs.State.{State}
 use Rattle.rdm_state.specs.Steps.{begun}
 use Rattle.rdm_state.specs.LifeLaws.{Accepts, Begins, Greets, Knows, Learns, Passes}
-use Rattle.rdm_state.specs.SendLaws.{GivesNone}
 
 -- no live operation has a number that was not given
 not_given : {A : Type 0} (number : A → ℕ) (count : ℕ) (xs : List A) → ((x : A) → Member x xs → number x < count) → find (λ x. number x == count) xs ≡ None
@@ -176,48 +171,50 @@ greets e v life raw owed s there new becomes =
 -- a life that was met, or is not to be met: nothing changes but how its account is written
 pub passes : Passes
 unfolding greet
-passes e v life raw s =
-    (λ met. record {
-      own = s.own;
-      regions = s.regions;
-      leases = s.leases;
-      holds = s.holds;
-      lives = s.lives;
-      peers = λ other. met_already other met;
-      first = s.first;
-      posted = s.posted;
-      arrived = s.arrived;
-      early = s.early;
-      sends = s.sends;
-      sends_made = s.sends_made;
-      receives = s.receives;
-      each_receive = s.each_receive;
-      receives_made = s.receives_made;
-      owed = s.owed ∙ sym (append-nil v.owed) ∙ ap (λ b. v.owed ++ cond (not b) (reply life (greeting v.own raw) ∷ []) []) (sym met);
-      completed = s.completed;
-      reserved = s.reserved;
-      polled = s.polled;
-    }, record {
-      own = s.own;
-      regions = s.regions;
-      leases = s.leases;
-      holds = s.holds;
-      lives = s.lives;
-      peers = passing_shows e.peers life raw v s.peers;
-      first = s.first;
-      posted = s.posted;
-      arrived = s.arrived;
-      early = s.early;
-      sends = s.sends;
-      sends_made = s.sends_made;
-      receives = s.receives;
-      each_receive = s.each_receive;
-      receives_made = s.receives_made;
-      owed = s.owed ∙ sym (append-nil v.owed);
-      completed = s.completed;
-      reserved = s.reserved;
-      polled = s.polled;
-    })
+passes e v life raw s = (
+  λ met. record {
+    own = s.own;
+    regions = s.regions;
+    leases = s.leases;
+    holds = s.holds;
+    lives = s.lives;
+    peers = λ other. met_already other met;
+    first = s.first;
+    posted = s.posted;
+    arrived = s.arrived;
+    early = s.early;
+    sends = s.sends;
+    sends_made = s.sends_made;
+    receives = s.receives;
+    each_receive = s.each_receive;
+    receives_made = s.receives_made;
+    owed = s.owed ∙ sym (append-nil v.owed) ∙ ap (λ b. v.owed ++ cond (not b) (reply life (greeting v.own raw) ∷ []) []) (sym met);
+    completed = s.completed;
+    reserved = s.reserved;
+    polled = s.polled;
+  },
+  record {
+    own = s.own;
+    regions = s.regions;
+    leases = s.leases;
+    holds = s.holds;
+    lives = s.lives;
+    peers = passing_shows e.peers life raw v s.peers;
+    first = s.first;
+    posted = s.posted;
+    arrived = s.arrived;
+    early = s.early;
+    sends = s.sends;
+    sends_made = s.sends_made;
+    receives = s.receives;
+    each_receive = s.each_receive;
+    receives_made = s.receives_made;
+    owed = s.owed ∙ sym (append-nil v.owed);
+    completed = s.completed;
+    reserved = s.reserved;
+    polled = s.polled;
+  },
+)
   where
     met_already : (other : Life) → (v.peers life).met ≡ true → ShowsPeer e.peers.first (account_of e.peers other) (cond (same_life other life) (record (v.peers other) { met = true }) (v.peers other))
     met_already other met =

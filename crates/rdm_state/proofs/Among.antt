@@ -1,8 +1,8 @@
 -- One receive among others, by its number.
-use Rattle.std.proofs.Common.{◌≡◌, ℕ, suc, ◌+◌, ◌-◌, Bool, true, false, not, cond, List, [], ◌∷◌, length, filter, find, map, Option, Some, None, refl, sym, ap, ◌∙◌, subst, ◌⊎◌, inl, inr, arith}
+use Rattle.std.proofs.Common.{◌≡◌, ℕ, ◌+◌, Bool, true, false, not, cond, List, [], ◌∷◌, length, filter, find, map, Some, None, refl, sym, ap, ◌∙◌, subst, inl, inr, arith}
 use Rattle.std.specs.Prelude.{◌==◌}
 use Rattle.rdm_lists.specs.Lists.{Member}
-use Rattle.rdm_lists.proofs.Members.{find_member, map-member}
+use Rattle.rdm_lists.proofs.Members.{map-member}
 use Rattle.rdm_life.specs.Kept.{change_where}
 use Rattle.rdm_sound.specs.Premises.{AreOnce}
 

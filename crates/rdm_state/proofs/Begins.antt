@@ -1,5 +1,5 @@
 -- The parts before any deed, and as a region is registered and a completion is polled.
-use Rattle.std.proofs.Common.{◌≡◌, ℕ, ◌+◌, refl, ap}
+use Rattle.std.proofs.Common.{◌+◌, refl, ap}
 use Rattle.std.specs.Prelude.{drop}
 use Rattle.rdm_held.proofs.Calls.{none_is_held}
 use Rattle.rdm_peers.proofs.ShownLaws.{nobody_shows}

@@ -1,22 +1,18 @@
 -- A receive that is changed.
-use Rattle.std.proofs.Common.{◌≡◌, ℕ, ◌+◌, Bool, true, false, not, cond, List, [], ◌∷◌, length, filter, find, map, Option, Some, None, refl, sym, ap, ◌∙◌, subst, ◌⊎◌, inl, inr, arith}
+use Rattle.std.proofs.Common.{◌≡◌, ℕ, true, false, cond, List, [], ◌∷◌, find, map, Some, refl, sym, ap, ◌∙◌, subst, inl, inr, arith}
 use Rattle.std.specs.Prelude.{◌==◌}
 use Rattle.rdm_lists.specs.Lists.{Member}
 use Rattle.rdm_lists.proofs.Members.{find_member, member-map}
-use Rattle.rdm_num.specs.Pieces.{Piece}
-use Rattle.rdm_gaps.specs.Places.{AreMissing}
-use Rattle.rdm_life.specs.Kept.{Kept, LiveReceive, is_receive, receive_numbered, change_where}
+use Rattle.rdm_life.specs.Kept.{Kept, LiveReceive, is_receive, change_where}
 use Rattle.rdm_life.specs.Landing.{with_piece, with_window}
 use Rattle.rdm_receives.specs.View.{ReceiveView, IsReceive, filled}
 use Rattle.rdm_receives.specs.Shows as Receive
 use Rattle.rdm_receives.specs.Answers.{after_grant}
 use Rattle.rdm_receives.proofs.Fullness.{grant_shows}
 use Rattle.rdm_receives.proofs.Showing.{fill_shows}
-use Rattle.rdm_shown.specs.Tables.{AreLike, IsLike}
+use Rattle.rdm_shown.specs.Tables.{AreLike}
 use Rattle.rdm_shown.proofs.Grounds.{names_count}
-use Rattle.rdm_shown.proofs.Tables.{like_change, like_find, like_left}
 use Rattle.rdm_sound.specs.Premises.{IsOrderly, AreOnce, receive_numbers}
-use Rattle.rdm_sound.specs.Steps.{with_next_window}
 use Rattle.rdm_state.specs.State.{State}
 use Rattle.rdm_state.specs.Shows.{Shows}
 use Rattle.rdm_state.specs.Steps.{with_receive, has_number}
@@ -57,16 +53,18 @@ unfolding change_where
 both number f g r [] [] shows only like = tt
 both number f g r [] (y ∷ ys) shows only like = absurd like
 both number f g r (x ∷ xs) [] shows only like = absurd like
-both number f g r (x ∷ xs) (y ∷ ys) shows only like =
-    (elim (x.number.0 == number) as (λ b. (x.number.0 == number) ≡ b → Receive.Shows (cond (has_number number x) (f x) x) (cond (is_receive number y) (g y) y)) [
-      | true ↦ λ is.
-          let same = only x (inl refl) (number_is x.number.0 number is) in
-          let there : is_receive number y ≡ true = ap (λ n. n == number) (sym like.0.number) ∙ is in
-          rw is (rw there (rw same (shows y (subst (λ (q : ReceiveView). Receive.Shows q y) same like.0))))
-      | false ↦ λ is.
-          let aside : is_receive number y ≡ false = ap (λ n. n == number) (sym like.0.number) ∙ is in
-          rw is (rw aside like.0)
-    ] refl, both number f g r xs ys shows (λ z m is. only z (inr m) is) like.1)
+both number f g r (x ∷ xs) (y ∷ ys) shows only like = (
+  elim (x.number.0 == number) as (λ b. (x.number.0 == number) ≡ b → Receive.Shows (cond (has_number number x) (f x) x) (cond (is_receive number y) (g y) y)) [
+    | true ↦ λ is.
+        let same = only x (inl refl) (number_is x.number.0 number is) in
+        let there : is_receive number y ≡ true = ap (λ n. n == number) (sym like.0.number) ∙ is in
+        rw is (rw there (rw same (shows y (subst (λ (q : ReceiveView). Receive.Shows q y) same like.0))))
+    | false ↦ λ is.
+        let aside : is_receive number y ≡ false = ap (λ n. n == number) (sym like.0.number) ∙ is in
+        rw is (rw aside like.0)
+  ] refl,
+  both number f g r xs ys shows (λ z m is. only z (inr m) is) like.1,
+)
 
 -- a receive that is changed alike on both sides
 pub changed : (e : State) (v : Kept) (number : ℕ) (f : ReceiveView → ReceiveView) (g : LiveReceive → LiveReceive) (r : ReceiveView)

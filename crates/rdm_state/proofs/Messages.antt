@@ -1,11 +1,10 @@
 -- Messages that come to the matcher, are taken, and make something owed.
-use Rattle.std.proofs.Common.{◌≡◌, ℕ, ◌+◌, ◌-◌, Bool, true, false, not, cond, List, [], ◌∷◌, ◌++◌, length, filter, find, Option, Some, None, refl, sym, ap, ◌∙◌, subst, arith}
-use Rattle.std.specs.Prelude.{◌==◌, ◌&&◌, ◌||◌, slice_get, unwrap_or, get_or, IsSome}
+use Rattle.std.proofs.Common.{◌≡◌, ℕ, ◌+◌, ◌-◌, Bool, true, false, cond, List, [], ◌∷◌, ◌++◌, length, Option, Some, None, refl, sym, ap, ◌∙◌, subst, arith}
+use Rattle.std.specs.Prelude.{◌==◌, ◌&&◌, ◌||◌, slice_get, IsSome}
 use Rattle.std.proofs.lemmas.Option.{unwrap_or-slice_get}
 use Rattle.rdm_lists.specs.Lists.{without_first}
 use Rattle.rdm_lists.proofs.Members.{find_member}
 use Rattle.rdm_num.specs.Lives.{same_life}
-use Rattle.rdm_num.specs.declared.numbers.Life.{Life}
 use Rattle.rdm_match.specs.declared.PostedRecv.{PostedRecv}
 use Rattle.rdm_match.specs.declared.Arrived.{Arrived}
 use Rattle.rdm_match.specs.Matcher.{Pair, accepts, after, after_post, after_arrive}
@@ -14,13 +13,12 @@ use Rattle.rdm_match.specs.Waiting.{waiting_after, waiting_in, with_pairs, taken
 use Rattle.rdm_model.specs.Completions.{is_matched}
 use Rattle.rdm_window.specs.Message.{Message}
 use Rattle.rdm_window.specs.Early.{Held, message_at, without_message}
-use Rattle.rdm_held.specs.Held.{IsEarly, AreEarly, IsHeldAs, IsHeldIn}
+use Rattle.rdm_held.specs.Held.{IsEarly, AreEarly, IsHeldIn}
 use Rattle.rdm_held.proofs.Leaving.{meets as held_meets}
-use Rattle.rdm_life.specs.Kept.{Kept, EarlyMessage, LiveReceive, Matched, is_receive, receive_numbered, change_where}
+use Rattle.rdm_life.specs.Kept.{Kept, EarlyMessage, is_receive, change_where}
 use Rattle.rdm_life.specs.Landing.{with_message, meet, settle, replies_by, replies_of}
 use Rattle.rdm_receives.specs.Shows as Receive
 use Rattle.rdm_receives.proofs.Showing.{message_shows}
-use Rattle.rdm_answers.specs.Owing.{owed_in}
 use Rattle.rdm_answers.proofs.Received.{dues_are_owed}
 use Rattle.rdm_sound.specs.Steps.{post_found, arrive_found, without_early}
 use Rattle.rdm_shown.specs.Grounds.{ShowsLeases}
@@ -123,7 +121,7 @@ meets e v p r m s o live none there new =
     let held = both_by e.early v p m _ refl (subst (λ q. AreEarly q (v.early p.message.life p.message.no.0)) there (s.early.messages p.message.life p.message.no)) in
     let is = s.each_receive r (find_member _ r e.receives.list live).0 in
     let early : Receive.IsEarly m.head m.gaps.places m.bytes m.first_part held.early =
-        record { head_is = sym held.same.head; came = λ k. held.same.came k ∙ ap (λ b. cond b None (slice_get m.bytes k)) (unwrap_or-slice_get m.gaps.places k true); first_is = sym held.same.first_part } in
+    record { head_is = sym held.same.head; came = λ k. held.same.came k ∙ ap (λ b. cond b None (slice_get m.bytes k)) (unwrap_or-slice_get m.gaps.places k true); first_is = sym held.same.first_part } in
     let step = changed e v p.recv.id.0 _ (with_message p (Some held.early)) r s o live new (λ l. refl) (λ l shows. message_shows r l p m.head m.gaps m.bytes m.first_part held.early is none shows held.same.whole early) in
     let fewer = left e.early v p s.early (subst IsSome (sym there) (is_there m)) in
     record {
@@ -172,7 +170,7 @@ owes e v is_new number l m dues owed s found matched are becomes =
       receives_made = s.receives_made;
       owed = becomes v.own (bytes_of v.sends)
           ∙ (let more = dues_are_owed v.own (bytes_of v.sends) is_new (record { 0 = number }) m dues are
-              ∙ (λ i. replies_of v.own is_new (record { 0 = sym named i }) (sym matched i)) in λ i. s.owed i ++ more i);
+          ∙ (λ i. replies_of v.own is_new (record { 0 = sym named i }) (sym matched i)) in λ i. s.owed i ++ more i);
       completed = s.completed;
       reserved = s.reserved;
       polled = s.polled;

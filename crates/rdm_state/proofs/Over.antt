@@ -1,10 +1,9 @@
 -- A receive that is over.
-use Rattle.std.proofs.Common.{◌≡◌, ℕ, zero, suc, ◌+◌, ◌-◌, ◌<◌, Bool, true, false, not, cond, List, [], ◌∷◌, ◌++◌, length, filter, find, map, get_or, Option, Some, None, refl, sym, ap, ◌∙◌, subst, ◌⊎◌, inl, inr, arith}
+use Rattle.std.proofs.Common.{◌≡◌, ℕ, zero, suc, ◌+◌, ◌-◌, ◌<◌, true, false, not, List, [], ◌∷◌, ◌++◌, length, filter, find, map, get_or, Option, Some, None, refl, sym, ap, ◌∙◌, subst, inl, inr, arith}
 use Rattle.std.specs.Prelude.{◌==◌, replicate, min, IfSome}
 use Rattle.std.proofs.lemmas.List.{length-replicate}
-use Rattle.rdm_lists.specs.Lists.{Member, below, without_first}
+use Rattle.rdm_lists.specs.Lists.{below, without_first}
 use Rattle.rdm_lists.proofs.Members.{find_member, member-filter}
-use Rattle.rdm_num.specs.declared.completion.Completion.{Completion}
 use Rattle.rdm_num.specs.declared.completion.Completion.TheVariants.{Recv}
 use Rattle.rdm_num.specs.declared.completion.Outcome.{Outcome}
 use Rattle.rdm_num.specs.declared.completion.Outcome.TheVariants.{Took, Cancelled, Gone}
@@ -32,11 +31,10 @@ use Rattle.rdm_shown.proofs.Leases.{back_shows}
 use Rattle.rdm_shown.proofs.Tables.{like_find, like_left}
 use Rattle.rdm_sound.specs.Premises.{IsOrderly}
 use Rattle.rdm_sound.specs.Forgets.{lose_receive}
-use Rattle.rdm_sound.specs.Steps.{with_end}
 use Rattle.rdm_state.specs.State.{State}
 use Rattle.rdm_state.specs.Shows.{Shows}
-use Rattle.rdm_state.specs.Steps.{without_receive, cancelled, has_number}
-use Rattle.rdm_state.specs.Laws.{Cancels, Loses, Ends, Completes}
+use Rattle.rdm_state.specs.Steps.{without_receive, has_number}
+use Rattle.rdm_state.specs.Laws.{Cancels, Loses, Ends}
 use Rattle.rdm_state.proofs.Among.{filter_one, one_fewer}
 
 number_is : (a b : ℕ) → (a == b) ≡ true → a ≡ b
@@ -74,7 +72,7 @@ over : (e : State) (v : Kept) (number : ℕ) (r : ReceiveView) (live back : Live
 over e v number r live back piece outcome s sound o found same named long bytes =
     let there : receive_numbered v back.receive.number ≡ Some live = ap (receive_numbered v) named ∙ found in
     let ground = subst (λ n. IsGround (after_lease_back e.regions n piece) (back_home back v)) named
-        (back_shows e.regions v live back piece sound (record { regions = s.regions; leases = s.leases; holds = s.holds }) there same long bytes) in
+    (back_shows e.regions v live back piece sound (record { regions = s.regions; leases = s.leases; holds = s.holds }) there same long bytes) in
     let fewer = one_fewer (λ (l : LiveReceive). l.receive.number) back.receive.number v.receives live o.once there in
     record {
       own = s.own;
@@ -187,7 +185,7 @@ ends e v number r l piece bytes outcome s sound o live found full all with_bytes
     let same = bytes_show r l m.0 bytes is shows m.1 m.2 with_bytes.0 with_bytes.1 in
     let what = outcome_is r l m.0 bytes outcome r.message (subst (λ x. Receive.ShowMatch r.landed r.message x) m.1 shows.matched) with_bytes.2 same (excess_shows r l m.0 is shows m.1) in
     let done : Recv (record { 0 = number }) outcome ∷ [] ≡ completion_of l l.matched =
-        (let back = sym named in λ i. Recv (record { 0 = back i }) (what i) ∷ []) ∙ sym (ap (completion_of l) m.1 ∙ completes l m.0 m.2) in
+    (let back = sym named in λ i. Recv (record { 0 = back i }) (what i) ∷ []) ∙ sym (ap (completion_of l) m.1 ∙ completes l m.0 m.2) in
     record {
       own = step.own;
       regions = step.regions;

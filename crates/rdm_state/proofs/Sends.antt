@@ -1,18 +1,16 @@
 -- A live send that is changed, and one that is over.
-use Rattle.std.proofs.Common.{◌≡◌, ℕ, zero, suc, ◌+◌, ◌-◌, ◌<◌, ◌≤◌, Bool, true, false, not, cond, List, [], ◌∷◌, ◌++◌, length, filter, find, map, drop, Option, Some, None, refl, sym, ap, ◌∙◌, subst, ◌⊎◌, inl, inr, arith}
+use Rattle.std.proofs.Common.{◌≡◌, ℕ, ◌≤◌, Bool, true, false, not, List, [], ◌∷◌, ◌++◌, length, filter, find, map, drop, Option, Some, None, refl, sym, ap, ◌∙◌, subst, arith}
 use Rattle.std.proofs.Math.Path.{fun_ext}
 use Rattle.std.specs.Prelude.{◌==◌, option_map}
 use Rattle.rdm_lists.specs.Lists.{Member}
 use Rattle.rdm_lists.proofs.Members.{find_member}
-use Rattle.rdm_num.specs.declared.completion.Completion.{Completion}
 use Rattle.rdm_num.specs.declared.completion.Completion.TheVariants.{Send}
-use Rattle.rdm_model.specs.Replies.{Reply, given_of}
+use Rattle.rdm_model.specs.Replies.{given_of}
 use Rattle.rdm_tx.specs.Asks.{with_answer as with_answer_of}
-use Rattle.rdm_pool.specs.Numbered.{value_at, after_write}
-use Rattle.rdm_owed.specs.Owing.{Owing}
+use Rattle.rdm_pool.specs.Numbered.{value_at}
 use Rattle.rdm_answers.specs.declared.answer.Answer.TheVariants.{Given}
 use Rattle.rdm_answers.specs.Answers.{replies_for}
-use Rattle.rdm_answers.specs.Owing.{owed_in, Becomes}
+use Rattle.rdm_answers.specs.Owing.{owed_in}
 use Rattle.rdm_answers.proofs.Given.{only_given_bytes_count}
 use Rattle.rdm_answers.proofs.Received.{givens_give}
 use Rattle.rdm_life.specs.Kept.{Kept, LiveSend, is_send, send_numbered, change_where}
@@ -22,7 +20,7 @@ use Rattle.rdm_sends.specs.Coming.{with_asks}
 use Rattle.rdm_sent.specs.Shows.{IsSend}
 use Rattle.rdm_sent.proofs.Granting.{grants_as_kept}
 use Rattle.rdm_sent.proofs.Asking.{asks_as_kept, answers_as_kept}
-use Rattle.rdm_shown.specs.Tables.{IsLike, AreEntries}
+use Rattle.rdm_shown.specs.Tables.{IsLike}
 use Rattle.rdm_shown.specs.GroundLaws.{one_send_fewer}
 use Rattle.rdm_shown.proofs.Finding.{find_named, find_left}
 use Rattle.rdm_shown.proofs.Grounds.{names_count, drop_shows}
@@ -95,8 +93,8 @@ changed_send e v number x g live s o found same new =
       early = s.early;
       sends = record {
         like = entries_write number_of IsSend e.sends.list v.sends 0 number x g s.sends.like s.sends.rise (λ y m is.
-          let only = found_only number_of number v.sends live y o.sends_once found m is in
-          (rw (same y) is, subst (λ (q : LiveSend). IsSend x (g q)) (sym only) new));
+            let only = found_only number_of number v.sends live y o.sends_once found m is in
+            (rw (same y) is, subst (λ (q : LiveSend). IsSend x (g q)) (sym only) new));
         rise = rise_changed number_of (is_send number) g 0 v.sends (λ y m. rw (same y) refl) s.sends.rise;
       };
       sends_made = s.sends_made;
@@ -191,8 +189,8 @@ asks_come e v from ask x owed s o live takes becomes =
     let step = changed_send e v number _ (with_ask ask) l.live s o l.found (λ q. refl) (asks_as_kept x l.live ask l.shows takes) in
     let b = bytes_of (change_where (is_send number) (with_ask ask) v.sends) in
     let given : replies_for v.own b from (Given ask) ≡ given_of from ask (option_map (λ (q : LiveSend). q.sent) (send_numbered v number)) =
-        givens_give v.own b from ask l.live.sent l.number_is (bytes_there v number (with_ask ask) l.live l.found l.number_is (λ q. refl))
-        ∙ sym (ap (λ q. given_of from ask (option_map (λ (z : LiveSend). z.sent) q)) l.found) in
+    givens_give v.own b from ask l.live.sent l.number_is (bytes_there v number (with_ask ask) l.live l.found l.number_is (λ q. refl))
+    ∙ sym (ap (λ q. given_of from ask (option_map (λ (z : LiveSend). z.sent) q)) l.found) in
     record {
       own = step.own;
       regions = step.regions;

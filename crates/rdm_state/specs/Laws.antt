@@ -1,5 +1,5 @@
 -- Each step of the parts shows the record's step.
-use Rattle.std.specs.Prelude.{◌≡◌, ◌<◌, ◌≤◌, ℕ, ◌+◌, true, false, min, List, [], ◌∷◌, ◌++◌, length, get_or, take, find, Option, Some, None, IfSome}
+use Rattle.std.specs.Prelude.{◌≡◌, ℕ, true, min, List, length, find, Some, None, IfSome}
 use denote.RawPtr.{Ptr}
 use Rattle.rdm_num.specs.declared.completion.Outcome.{Outcome}
 use Rattle.rdm_num.specs.declared.completion.Outcome.TheVariants.{Took, Cancelled, Gone}
@@ -8,8 +8,8 @@ use Rattle.rdm_mr.specs.Tiles.{IsAll, AreBytes}
 use Rattle.rdm_gaps.specs.Places.{AreMissing}
 use Rattle.rdm_model.specs.Beginnings.{Own}
 use Rattle.rdm_regions.specs.Survival.{IsSound}
-use Rattle.rdm_life.specs.Kept.{Kept, LiveReceive, Matched, nothing_kept, receive_numbered, change_where, is_receive}
-use Rattle.rdm_life.specs.Landing.{is_full, with_piece, with_window}
+use Rattle.rdm_life.specs.Kept.{Kept, LiveReceive, nothing_kept, receive_numbered, change_where, is_receive}
+use Rattle.rdm_life.specs.Landing.{is_full, with_piece}
 use Rattle.rdm_life.specs.Memory.{after_reg}
 use Rattle.rdm_life.specs.Handling.{after_poll}
 use Rattle.rdm_life.specs.Receiving.{after_cancel}
@@ -17,7 +17,6 @@ use Rattle.rdm_receives.specs.View.{ReceiveView, IsReceive, filled}
 use Rattle.rdm_receives.specs.Answers.{after_grant, excess, AreZeros}
 use Rattle.rdm_sound.specs.Premises.{IsOrderly}
 use Rattle.rdm_sound.specs.Forgets.{lose_receive}
-use Rattle.rdm_sound.specs.Waiting.{AreWaiting}
 use Rattle.rdm_sound.specs.Steps.{with_end, with_next_window}
 use Rattle.rdm_state.specs.State.{State, started}
 use Rattle.rdm_state.specs.Shows.{Shows}

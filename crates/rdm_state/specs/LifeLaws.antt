@@ -1,6 +1,5 @@
 -- Each step of the parts in which an operation is accepted or a life is met shows the record's step.
-use Rattle.std.specs.Prelude.{◌≡◌, ◌<◌, ◌≤◌, ◌++◌, ◌∷◌, [], ℕ, true, false, List, Option, Some, None, IsSome, is_some}
-use Rattle.rdm_lists.specs.Lists.{Member}
+use Rattle.std.specs.Prelude.{◌≡◌, ◌++◌, ℕ, true, false, List, Option, Some, None, IsSome, is_some}
 use Rattle.rdm_num.specs.declared.numbers.Life.{Life}
 use Rattle.rdm_num.specs.declared.numbers.Connid.{Connid}
 use Rattle.rdm_num.specs.declared.numbers.PortNo.{PortNo}

@@ -57,9 +57,9 @@ Meets =
     → message_at e.early p.message.life p.message.no ≡ Some m
     → IsReceive (met r p.message.life p.message.no m.head m.gaps m.bytes m.first_part)
     → Shows (taken p.recv.id.0 p m e)
-      (record (without_early p.message.life p.message.no.0 v) {
-        receives = change_where (is_receive p.recv.id.0) (with_message p (v.early p.message.life p.message.no.0)) v.receives;
-      })
+    (record (without_early p.message.life p.message.no.0 v) {
+      receives = change_where (is_receive p.recv.id.0) (with_message p (v.early p.message.life p.message.no.0)) v.receives;
+    })
 
 -- What a receive makes owed is owed.
 abbrev pub Owes : Type 0

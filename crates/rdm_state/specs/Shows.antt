@@ -1,8 +1,5 @@
 -- That the parts of an endpoint show its record.
-use Rattle.std.specs.Prelude.{◌≡◌, ◌≤◌, ℕ, ◌+◌, ◌*◌, List, [], length, find, Option, Some, None}
-use Rattle.rdm_num.specs.declared.numbers.Life.{Life}
-use Rattle.rdm_model.specs.Beginnings.{Own}
-use Rattle.rdm_model.specs.Replies.{Reply}
+use Rattle.std.specs.Prelude.{◌≡◌, ℕ, ◌+◌, List, [], length, find, Option, Some, None}
 use Rattle.rdm_life.specs.Kept.{Kept, LiveSend, is_send}
 use Rattle.rdm_answers.specs.Answers.{BytesOf}
 use Rattle.rdm_answers.specs.Owing.{owed_in}

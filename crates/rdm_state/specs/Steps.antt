@@ -1,9 +1,7 @@
 -- What each step makes of the parts of an endpoint.
-use Rattle.std.specs.Prelude.{ℕ, ◌+◌, ◌-◌, ◌==◌, not, if◌then◌else◌, Bool, List, [], ◌∷◌, ◌++◌, map, filter}
+use Rattle.std.specs.Prelude.{ℕ, ◌+◌, ◌==◌, not, if◌then◌else◌, Bool, List, [], ◌∷◌, ◌++◌, map, filter}
 use denote.RawPtr.{Ptr}
-use Rattle.rdm_num.specs.declared.numbers.OpId.{OpId}
 use Rattle.rdm_num.specs.declared.parts.Span.{Span}
-use Rattle.rdm_num.specs.declared.completion.Completion.{Completion}
 use Rattle.rdm_num.specs.declared.completion.Completion.TheVariants.{Send, Recv}
 use Rattle.rdm_num.specs.declared.completion.Outcome.{Outcome}
 use Rattle.rdm_mr.specs.Part.{Piece}
