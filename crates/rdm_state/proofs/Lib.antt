@@ -14,3 +14,7 @@ pub mod Sends
 pub mod Messages
 -- operations that are accepted, and lives that are met
 pub mod Accepted
+-- what goes out
+pub mod Pushed
+-- lives that are inserted
+pub mod Inserted

@@ -1,5 +1,5 @@
 -- Each step of the parts in which an operation is accepted or a life is met shows the record's step.
-use Rattle.std.specs.Prelude.{◌≡◌, ◌++◌, ℕ, true, false, List, Option, Some, None, IsSome, is_some}
+use Rattle.std.specs.Prelude.{◌≡◌, ◌++◌, ℕ, true, false, List, find, Option, Some, None, IsSome, is_some, [], ◌∷◌}
 use Rattle.rdm_num.specs.declared.numbers.Life.{Life}
 use Rattle.rdm_num.specs.declared.numbers.Connid.{Connid}
 use Rattle.rdm_num.specs.declared.numbers.PortNo.{PortNo}
@@ -18,9 +18,14 @@ use Rattle.rdm_answers.specs.Answers.{replies_for}
 use Rattle.rdm_answers.specs.Owing.{Becomes}
 use Rattle.rdm_regions.specs.Registry.{lease_refusal, IsLeased}
 use Rattle.rdm_regions.specs.Survival.{IsSound}
-use Rattle.rdm_life.specs.Kept.{Kept}
+use Rattle.rdm_life.specs.Kept.{Kept, LiveSend}
+use Rattle.rdm_life.specs.Forgetting.{concerns, forget}
 use Rattle.rdm_life.specs.Handling.{after_item}
-use Rattle.rdm_life.specs.Lives.{greet}
+use Rattle.rdm_life.specs.Lives.{greet, with_current}
+use Rattle.rdm_av.specs.Lives.{is_superseded, with_spent, after_insert, reserved_answer}
+use Rattle.rdm_model.specs.Currents.{other_life}
+use Rattle.rdm_model.specs.Replies.{without_lives}
+use Rattle.rdm_num.specs.Lives.{same_life}
 use Rattle.rdm_life.specs.Receiving.{receive_in, with_live, named_in}
 use Rattle.rdm_life.specs.Sending.{after_send}
 use Rattle.rdm_receives.specs.View.{IsReceive, posted}
@@ -30,7 +35,7 @@ use Rattle.rdm_shown.specs.Grounds.{range_of}
 use Rattle.rdm_sound.specs.Premises.{IsOrderly}
 use Rattle.rdm_state.specs.State.{State}
 use Rattle.rdm_state.specs.Shows.{Shows}
-use Rattle.rdm_state.specs.Steps.{accepted, begun, knowing, owing}
+use Rattle.rdm_state.specs.Steps.{accepted, begun, knowing, owing, inserted}
 use Rattle.rdm_state.specs.SendLaws.{GivesNone}
 
 -- A receive is accepted whose range may go out, with the part that is its range.
@@ -75,3 +80,19 @@ Learns =
     (e : State) (v : Kept) (life : Life) (words : List ℕ) (connid : Connid) (raw : Option PortNo)
     → Shows e v → IsSome (account_at e.peers life)
     → Shows (knowing (changed e.peers life (told words)) e) (after_item life (Spelled (Handshake words connid raw)) v)
+
+-- The first life of a port is inserted, or the current one once more.
+abbrev pub Inserts : Type 0
+Inserts =
+    (e : State) (v : Kept) (life : Life)
+    → Shows e v → is_superseded e.lives life ≡ false → other_life life (v.current life.port.0) ≡ []
+    → Shows (record e { lives = with_spent (after_insert e.lives life (reserved_answer e.lives life)) }) (with_current life v)
+
+-- A life takes the place of another one, which no live operation concerns any more.
+abbrev pub Supersedes : Type 0
+Supersedes =
+    (e : State) (v : Kept) (life old : Life) (owed : Owing Answer)
+    → Shows e v → IsOrderly v → is_superseded e.lives life ≡ false → other_life life (v.current life.port.0) ≡ old ∷ []
+    → find (concerns (old ∷ [])) v.receives ≡ None → find (λ (s : LiveSend). same_life s.sent.to old) v.sends ≡ None
+    → Becomes e.owed.owed owed.owed (λ _ _ before. without_lives (old ∷ []) before)
+    → Shows (inserted life old (with_spent (after_insert e.lives life (reserved_answer e.lives life))) owed e) (with_current life (forget (old ∷ []) v))

@@ -1,5 +1,5 @@
 -- Each step of the parts that changes a live send shows the record's step.
-use Rattle.std.specs.Prelude.{◌≡◌, ◌≤◌, ℕ, true, false, IsTrue, ◌++◌, length, drop, Some}
+use Rattle.std.specs.Prelude.{◌≡◌, ◌≤◌, ℕ, true, false, IsTrue, ◌++◌, length, drop, Some, None}
 use Rattle.rdm_lists.specs.Lists.{Member}
 use Rattle.rdm_num.specs.declared.numbers.Life.{Life}
 use Rattle.rdm_wire.specs.declared.ReadAsk.{ReadAsk}
@@ -11,9 +11,10 @@ use Rattle.rdm_answers.specs.declared.answer.Answer.TheVariants as A
 use Rattle.rdm_answers.specs.Answers.{replies_for}
 use Rattle.rdm_answers.specs.Owing.{Becomes}
 use Rattle.rdm_life.specs.Kept.{Kept, LiveSend, is_send, send_numbered}
-use Rattle.rdm_life.specs.Sending.{after_grant, after_ask, end_sends, push_first}
+use Rattle.rdm_life.specs.Sending.{after_grant, after_ask, end_sends, push_send, push_first}
 use Rattle.rdm_pool.specs.Numbered.{value_at}
 use Rattle.rdm_sends.specs.Sending.{SendingView}
+use Rattle.rdm_sends.specs.Pushing.{IsPushed, EndsByPush}
 use Rattle.rdm_sends.specs.Coming.{may_grant, with_grant, TakesAsk, OwesAnswer, with_asks}
 use Rattle.rdm_sound.specs.Premises.{IsOrderly}
 use Rattle.rdm_sound.specs.Forgets.{lose_send}
@@ -65,3 +66,18 @@ SendsLost =
     (e : State) (v : Kept) (number : ℕ) (s : LiveSend)
     → Shows e v → IsOrderly v → send_numbered v number ≡ Some s → length s.sent.req.parts ≤ 4 → GivesNone v number
     → Shows (without_send number true e) (lose_send (send_numbered v number) v)
+
+-- A packet of the first send that has something to push goes out: it has come further, or it is over.
+abbrev pub PacketsGo : Type 0
+PacketsGo =
+    (e : State) (v : Kept) (number : ℕ) (x y : SendingView) (s : LiveSend)
+    → Shows e v → IsOrderly v → IsLiveSend e number x → send_numbered v number ≡ Some s → IsPushed v.own.limits x y
+    → (EndsByPush v.own.limits y false → Shows (with_send number y e) (push_send (Some s) v))
+    × (EndsByPush v.own.limits y true → length s.sent.req.parts ≤ 4 → GivesNone v number → Shows (without_send number false e) (push_send (Some s) v))
+
+-- The first of what is owed goes out, which gives bytes of no send.
+abbrev pub RepliesGo : Type 0
+RepliesGo =
+    (e : State) (v : Kept) (r : Reply) (owed : Owing Answer)
+    → Shows e v → r.gives ≡ None → Becomes e.owed.owed owed.owed (λ _ _ before. drop 1 before)
+    → Shows (owing owed e) (push_first (Some r) v)

@@ -1,12 +1,15 @@
 -- What each step makes of the parts of an endpoint.
 use Rattle.std.specs.Prelude.{ℕ, ◌+◌, ◌==◌, not, if◌then◌else◌, Bool, List, [], ◌∷◌, ◌++◌, map, filter}
 use denote.RawPtr.{Ptr}
+use Rattle.rdm_num.specs.declared.numbers.Life.{Life}
 use Rattle.rdm_num.specs.declared.parts.Span.{Span}
 use Rattle.rdm_num.specs.declared.completion.Completion.TheVariants.{Send, Recv}
 use Rattle.rdm_num.specs.declared.completion.Outcome.{Outcome}
 use Rattle.rdm_mr.specs.Part.{Piece}
 use Rattle.rdm_match.specs.Kept as Matcher
-use Rattle.rdm_match.specs.Matcher.{Cancel}
+use Rattle.rdm_match.specs.Matcher.{Cancel, Forget}
+use Rattle.rdm_av.specs.Lives as Av
+use Rattle.rdm_window.specs.Early as Early
 use Rattle.rdm_regions.specs.Registry as Regions
 use Rattle.rdm_regions.specs.Holds as Holds
 use Rattle.rdm_pool.specs.Numbered as Pool
@@ -90,3 +93,15 @@ begun x peers e =
 -- more is known of lives
 abbrev pub knowing : Peers.Known → State → State
 knowing peers e = record e { peers = peers }
+
+-- a life takes the place of another one, which is forgotten: nothing is known of it, no message of it is early or waits, no receive
+-- that names it waits, and what is owed is so without it
+abbrev pub inserted : (life old : Life) → Av.Lives → Owed.Owing Answer → State → State
+inserted life old lives owed e =
+    record e {
+      lives = lives;
+      peers = Peers.without_account e.peers old;
+      matcher = Matcher.kept_after e.matcher (Forget old);
+      early = Early.without_life e.early old;
+      owed = owed;
+    }

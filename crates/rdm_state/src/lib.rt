@@ -1,9 +1,9 @@
 //! That the parts of an endpoint, each changed as its calls change it, show what an endpoint's record makes of the same step.
 #![tactic(auto)]
 
-ghost use Rattle.rdm_state.specs.LifeLaws.{Accepts, Begins, Greets, Knows, Learns, Passes};
+ghost use Rattle.rdm_state.specs.LifeLaws.{Accepts, Begins, Greets, Inserts, Knows, Learns, Passes, Supersedes};
 ghost use Rattle.rdm_state.specs.MessageLaws.{Arrives, IsTaken, Meets, Owes, Posts, Takes};
-ghost use Rattle.rdm_state.specs.SendLaws.{AnswersGo, AsksCome, GrantsCome, SendsEnd, SendsLost};
+ghost use Rattle.rdm_state.specs.SendLaws.{AnswersGo, AsksCome, GrantsCome, PacketsGo, RepliesGo, SendsEnd, SendsLost};
 ghost use Rattle.rdm_state.specs.Laws.{Cancels, Ends, Fills, Grants, Loses, Polls, Registers, Starts};
 
 /// The parts of a new endpoint show a record of which nothing is kept, and show what is kept once a region is registered and
@@ -34,6 +34,12 @@ pub fn sends_law()
     ensures lost { SendsLost }
 {}
 
+/// What goes out, a packet of a send or an answer, leaves what the record says.
+pub fn pushes_law()
+    ensures packets { PacketsGo }
+    ensures replies { RepliesGo }
+{}
+
 /// A receive that is posted and a message that arrives wait, or one takes the other, as the matcher answers; and the receive that
 /// takes an early message, and what it makes owed, show what the record makes of the match.
 pub fn messages_law()
@@ -54,4 +60,10 @@ pub fn lives_law()
     ensures greets { Greets }
     ensures passes { Passes }
     ensures learns { Learns }
+{}
+
+/// A life that is inserted is current. The one whose place it takes is forgotten, once no live operation concerns it.
+pub fn inserts_law()
+    ensures inserts { Inserts }
+    ensures supersedes { Supersedes }
 {}
