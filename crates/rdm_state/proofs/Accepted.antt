@@ -54,7 +54,7 @@ not_given {A} number count (x ∷ xs) given =
     differs a b lt = grind (arith, lt)
 
 -- the first number stays
-first_stays : (known : Known) (life : Life) (o : Option Acquaintance) → (put_back known life o).first ≡ known.first
+pub first_stays : (known : Known) (life : Life) (o : Option Acquaintance) → (put_back known life o).first ≡ known.first
 unfolding put_back
 first_stays known life None = refl
 first_stays known life (Some a) = refl

@@ -18,3 +18,5 @@ pub mod Accepted
 pub mod Pushed
 -- lives that are inserted
 pub mod Inserted
+-- messages that are heard of
+pub mod Heard

@@ -1,12 +1,21 @@
 -- Each step of the parts in which a message comes, enters or is taken shows the record's step.
-use Rattle.std.specs.Prelude.{◌≡◌, ◌++◌, ℕ, Bool, Some, None}
+use Rattle.std.specs.Prelude.{◌≡◌, ◌++◌, ℕ, Bool, Some, None, ◌≤◌, length, IsSome}
 use Rattle.rdm_lists.specs.Lists.{without_first}
 use Rattle.rdm_match.specs.declared.PostedRecv.{PostedRecv}
 use Rattle.rdm_match.specs.declared.Arrived.{Arrived}
 use Rattle.rdm_match.specs.Matcher.{Pair, accepts}
 use Rattle.rdm_match.specs.Waiting.{taken_by, taker_of}
 use Rattle.rdm_match.specs.Kept.{kept_after_post, kept_after_arrive}
-use Rattle.rdm_window.specs.Message.{Message}
+use Rattle.std.specs.Option.{IsSomeAnd}
+use Rattle.rdm_num.specs.Pieces.{Piece}
+use Rattle.rdm_num.specs.declared.numbers.Life.{Life}
+use Rattle.rdm_num.specs.declared.numbers.MsgNo.{MsgNo}
+use Rattle.rdm_held.specs.Held.{IsEarly}
+use Rattle.rdm_peers.specs.Accounts.{with_heard}
+use Rattle.rdm_peers.specs.Table.{account_at, account_of, changed}
+use Rattle.rdm_window.specs.Window.{IsLeastMissing}
+use Rattle.rdm_window.specs.Early as Early
+use Rattle.rdm_window.specs.Message.{Message, Awaits, filled, with_spent}
 use Rattle.rdm_window.specs.Early.{message_at, without_message}
 use Rattle.rdm_owed.specs.Owing.{Owing}
 use Rattle.rdm_answers.specs.declared.answer.Answer.{Answer}
@@ -14,7 +23,9 @@ use Rattle.rdm_answers.specs.declared.answer.Dues.{Dues}
 use Rattle.rdm_answers.specs.Answers.{replies_of_dues}
 use Rattle.rdm_answers.specs.Laws.{AreDues}
 use Rattle.rdm_answers.specs.Owing.{Becomes}
-use Rattle.rdm_life.specs.Kept.{Kept, LiveReceive, Matched, is_receive, receive_numbered, change_where}
+use Rattle.rdm_life.specs.Handling.{with_more}
+use Rattle.rdm_life.specs.Receiving.{hear, enter, entering_in, with_early}
+use Rattle.rdm_life.specs.Kept.{Kept, LiveReceive, Matched, is_receive, receive_numbered, change_where, EarlyMessage}
 use Rattle.rdm_life.specs.Landing.{with_message}
 use Rattle.rdm_receives.specs.View.{ReceiveView, IsReceive, met}
 use Rattle.rdm_sound.specs.Premises.{IsOrderly}
@@ -69,3 +80,22 @@ Owes =
     → AreDues v.own is_new (record { 0 = number }) m dues
     → Becomes e.owed.owed owed.owed (λ own bytes_of before. before ++ replies_of_dues own bytes_of m.source dues)
     → Shows (owing owed e) (with_replies is_new l v)
+
+-- A message is heard of: it is held, and the number of the next one to enter rises by as many as then enter, if no more enter than are
+-- early.
+abbrev pub Hears : Type 0
+Hears =
+    (e : State) (v : Kept) (source : Life) (number : MsgNo) (m : Message) (opened : EarlyMessage) (risen : ℕ)
+    → Shows e v → message_at e.early source number ≡ None → IsEarly m opened → IsSome (account_at e.peers source)
+    → IsLeastMissing (account_of (changed e.peers source (with_heard number.0 risen)) source).hearing
+    → risen ≤ (hear source number.0 opened v).early_count
+    → (risen ≡ entering_in (hear source number.0 opened v) source)
+    × Shows (record e { early = Early.with_message e.early source number m; peers = changed e.peers source (with_heard number.0 risen) })
+      (record (hear source number.0 opened v) { peers = (enter source (hear source number.0 opened v)).peers })
+
+-- More of an early message comes, in room that was made, where none of it came.
+abbrev pub Adds : Type 0
+Adds =
+    (e : State) (v : Kept) (source : Life) (number : MsgNo) (p : Piece)
+    → Shows e v → IsSomeAnd (message_at e.early source number) (Awaits p.offset (length p.bytes))
+    → Shows (record e { early = Early.changed e.early source number (λ m. with_spent (filled m p.offset p.bytes)) }) (with_early source number.0 (with_more (Some p)) v)
