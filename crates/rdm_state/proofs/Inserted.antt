@@ -1,13 +1,12 @@
 -- Lives that are inserted.
-use Rattle.std.proofs.Common.{◌≡◌, ℕ, ◌+◌, ◌-◌, Bool, true, false, not, cond, List, [], ◌∷◌, ◌++◌, length, filter, find, Option, Some, None, refl, sym, ap, ◌∙◌, subst}
+use Rattle.std.proofs.Common.{◌≡◌, Bool, true, false, not, List, [], ◌∷◌, refl, sym, ap, ◌∙◌, subst}
 use Rattle.std.specs.Prelude.{◌||◌}
-use Rattle.std.specs.List.{list_any}
 use Rattle.rdm_lists.proofs.Same.{filter_same}
 use Rattle.rdm_num.specs.Lives.{same_life}
 use Rattle.rdm_num.specs.declared.numbers.Life.{Life}
 use Rattle.rdm_av.specs.Lives.{is_superseded, with_spent, after_insert, reserved_answer}
 use Rattle.rdm_model.specs.Currents.{other_life}
-use Rattle.rdm_model.specs.Replies.{Reply, without_lives}
+use Rattle.rdm_model.specs.Replies.{without_lives}
 use Rattle.rdm_held.specs.Held.{IsHeldIn}
 use Rattle.rdm_held.proofs.Leaving.{forgets as held_forgets}
 use Rattle.rdm_life.specs.Kept.{Kept}
@@ -39,7 +38,7 @@ unfolding greet Record.after_insert
 lives_are e v life others s fresh is =
     let shows = (insert_shows e.lives life v s.lives fresh).2 in
     let same : ShowsLives (with_spent (after_insert e.lives life (reserved_answer e.lives life))) (with_current life (forget (other_life life (v.current life.port.0)) v)).current (with_current life (forget (other_life life (v.current life.port.0)) v)).superseded =
-        record { current_is = shows.current_is; superseded_is = shows.superseded_is } in
+    record { current_is = shows.current_is; superseded_is = shows.superseded_is } in
     subst (λ os. ShowsLives (with_spent (after_insert e.lives life (reserved_answer e.lives life))) (with_current life (forget os v)).current (with_current life (forget os v)).superseded) is same
 
 pub inserts : Inserts

@@ -1,21 +1,19 @@
 -- What goes out.
-use Rattle.std.proofs.Common.{◌≡◌, ℕ, ◌+◌, ◌-◌, ◌≤◌, Bool, true, false, not, cond, List, [], ◌∷◌, ◌++◌, length, filter, find, map, drop, Option, Some, None, refl, sym, ap, ◌∙◌, subst, ◌⊎◌, inl, inr, arith}
+use Rattle.std.proofs.Common.{◌≡◌, ℕ, ◌+◌, ◌-◌, Bool, true, false, not, cond, List, [], ◌∷◌, ◌++◌, filter, drop, Some, None, refl, sym, ap, ◌∙◌, subst, inl, inr, arith}
 use Rattle.std.specs.Prelude.{◌==◌, flat_map, min}
 use Rattle.std.proofs.lemmas.List.{append-nil}
 use Rattle.rdm_lists.specs.Lists.{Member}
 use Rattle.rdm_lists.proofs.Members.{find_member}
-use Rattle.rdm_num.specs.declared.completion.Completion.{Completion}
 use Rattle.rdm_num.specs.declared.completion.Completion.TheVariants.{Send}
 use Rattle.rdm_model.specs.Beginnings.{Own}
 use Rattle.rdm_model.specs.Grants.{data_room}
 use Rattle.rdm_model.specs.Sends.{Sent}
-use Rattle.rdm_life.specs.Kept.{Kept, LiveSend, is_send, send_numbered, change_where}
+use Rattle.rdm_life.specs.Kept.{LiveSend, is_send, change_where}
 use Rattle.rdm_life.specs.Sending.{after_packet, completion_of_send, push_send, push_first, pushed, is_opened, gives_of, with_answer}
 use Rattle.rdm_sends.specs.Sending.{SendingView}
 use Rattle.rdm_sent.specs.Shows.{IsSend}
 use Rattle.rdm_sent.proofs.Going.{pushes_as_kept}
 use Rattle.rdm_shown.specs.GroundLaws.{one_send_fewer}
-use Rattle.rdm_state.specs.State.{State}
 use Rattle.rdm_state.specs.Shows.{Shows, number_of, bytes_of}
 use Rattle.rdm_state.specs.Steps.{with_send, without_send, owing}
 use Rattle.rdm_state.specs.SendLaws.{PacketsGo, RepliesGo}
@@ -65,23 +63,24 @@ unfolding push_send
 packets_go e v number x y live s o there found is =
     let q = shown_send e v number x s there in
     let shows = subst (IsSend x) (some_same q.live live (sym q.found ∙ found)) q.shows in
-    let named : live.sent.number ≡ number = number_is live.sent.number number (find_member (is_send number) live v.sends found).1 in
-    (λ over.
-      let p = pushes_as_kept v.own x y live false shows is over in
-      let step = changed_send e v number y (pushed v.own) live s o found (sent_same v.own) p.0 in
-      let same = goes_on v.own number v.sends (λ t m at. subst (λ (u : LiveSend). after_packet v.own u ≡ pushed v.own u ∷ []) (sym (found_only number_of number v.sends live t o.sends_once found m at)) p.1) in
-      subst (λ n. Shows (with_send number y e) (record v { sends = flat_map (λ (t : LiveSend). cond (is_send n t) (after_packet v.own t) (t ∷ [])) v.sends; completions = v.completions ++ completion_of_send v.own live })) (sym named)
-      (subst (λ ss. Shows (with_send number y e) (record v { sends = ss; completions = v.completions ++ completion_of_send v.own live })) (sym same)
-      (subst (λ cs. Shows (with_send number y e) (record v { sends = change_where (is_send number) (pushed v.own) v.sends; completions = cs })) (sym (append-nil v.completions) ∙ ap (λ cs. v.completions ++ cs) (sym p.2)) step)),
+    let named : live.sent.number ≡ number = number_is live.sent.number number (find_member (is_send number) live v.sends found).1 in (
+      λ over.
+          let p = pushes_as_kept v.own x y live false shows is over in
+          let step = changed_send e v number y (pushed v.own) live s o found (sent_same v.own) p.0 in
+          let same = goes_on v.own number v.sends (λ t m at. subst (λ (u : LiveSend). after_packet v.own u ≡ pushed v.own u ∷ []) (sym (found_only number_of number v.sends live t o.sends_once found m at)) p.1) in
+          subst (λ n. Shows (with_send number y e) (record v { sends = flat_map (λ (t : LiveSend). cond (is_send n t) (after_packet v.own t) (t ∷ [])) v.sends; completions = v.completions ++ completion_of_send v.own live })) (sym named)
+          (subst (λ ss. Shows (with_send number y e) (record v { sends = ss; completions = v.completions ++ completion_of_send v.own live })) (sym same)
+          (subst (λ cs. Shows (with_send number y e) (record v { sends = change_where (is_send number) (pushed v.own) v.sends; completions = cs })) (sym (append-nil v.completions) ∙ ap (λ cs. v.completions ++ cs) (sym p.2)) step)),
       λ over few none.
-        let p = pushes_as_kept v.own x y live true shows is over in
-        let step = over_send e v number live false s o found few none in
-        let same = goes_out v.own number v.sends (λ t m at. subst (λ (u : LiveSend). after_packet v.own u ≡ []) (sym (found_only number_of number v.sends live t o.sends_once found m at)) p.1) in
-        let z = pushes_as_kept v.own x y live true shows is over in
-        let done : Send (record { 0 = number }) false ∷ [] ≡ completion_of_send v.own live = ap (λ (n : ℕ). Send (record { 0 = n }) false ∷ []) (sym named ∙ sym (number_of_pushed v.own y live z.0)) ∙ sym z.2 in
-        subst (λ n. Shows (without_send number false e) (record v { sends = flat_map (λ (t : LiveSend). cond (is_send n t) (after_packet v.own t) (t ∷ [])) v.sends; completions = v.completions ++ completion_of_send v.own live })) (sym named)
-        (subst (λ ss. Shows (without_send number false e) (record v { sends = ss; completions = v.completions ++ completion_of_send v.own live })) (sym same)
-        (subst (λ cs. Shows (without_send number false e) (record (one_send_fewer number v) { completions = v.completions ++ cs })) done step)))
+          let p = pushes_as_kept v.own x y live true shows is over in
+          let step = over_send e v number live false s o found few none in
+          let same = goes_out v.own number v.sends (λ t m at. subst (λ (u : LiveSend). after_packet v.own u ≡ []) (sym (found_only number_of number v.sends live t o.sends_once found m at)) p.1) in
+          let z = pushes_as_kept v.own x y live true shows is over in
+          let done : Send (record { 0 = number }) false ∷ [] ≡ completion_of_send v.own live = ap (λ (n : ℕ). Send (record { 0 = n }) false ∷ []) (sym named ∙ sym (number_of_pushed v.own y live z.0)) ∙ sym z.2 in
+          subst (λ n. Shows (without_send number false e) (record v { sends = flat_map (λ (t : LiveSend). cond (is_send n t) (after_packet v.own t) (t ∷ [])) v.sends; completions = v.completions ++ completion_of_send v.own live })) (sym named)
+          (subst (λ ss. Shows (without_send number false e) (record v { sends = ss; completions = v.completions ++ completion_of_send v.own live })) (sym same)
+          (subst (λ cs. Shows (without_send number false e) (record (one_send_fewer number v) { completions = v.completions ++ cs })) done step)),
+    )
   where
     number_of_pushed : (own : Own) (y : SendingView) (s : LiveSend) → IsSend y (pushed own s) → y.message.send_id.0 ≡ s.sent.number
     number_of_pushed own y s is = is.message.number ∙ ap (λ (t : Sent). t.number) (sent_same own s)

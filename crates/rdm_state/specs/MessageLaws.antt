@@ -25,11 +25,11 @@ use Rattle.rdm_answers.specs.Laws.{AreDues}
 use Rattle.rdm_answers.specs.Owing.{Becomes}
 use Rattle.rdm_life.specs.Handling.{with_more}
 use Rattle.rdm_life.specs.Receiving.{hear, enter, entering_in, with_early}
-use Rattle.rdm_life.specs.Kept.{Kept, LiveReceive, Matched, is_receive, receive_numbered, change_where, EarlyMessage}
+use Rattle.rdm_life.specs.Kept.{Kept, LiveReceive, Matched, is_receive, receive_numbered, change_where, EarlyMessage, Peer}
 use Rattle.rdm_life.specs.Landing.{with_message}
 use Rattle.rdm_receives.specs.View.{ReceiveView, IsReceive, met}
 use Rattle.rdm_sound.specs.Premises.{IsOrderly}
-use Rattle.rdm_sound.specs.Steps.{post_found, arrive_found, without_early, with_replies}
+use Rattle.rdm_sound.specs.Steps.{post_found, arrive_found, arrive_one, enter_one, next_of, without_early, with_replies}
 use Rattle.rdm_state.specs.State.{State}
 use Rattle.rdm_state.specs.Shows.{Shows}
 use Rattle.rdm_state.specs.Steps.{with_receive, owing}
@@ -91,7 +91,7 @@ Hears =
     → risen ≤ (hear source number.0 opened v).early_count
     → (risen ≡ entering_in (hear source number.0 opened v) source)
     × Shows (record e { early = Early.with_message e.early source number m; peers = changed e.peers source (with_heard number.0 risen) })
-      (record (hear source number.0 opened v) { peers = (enter source (hear source number.0 opened v)).peers })
+    (record (hear source number.0 opened v) { peers = (enter source (hear source number.0 opened v)).peers })
 
 -- More of an early message comes, in room that was made, where none of it came.
 abbrev pub Adds : Type 0
@@ -99,3 +99,10 @@ Adds =
     (e : State) (v : Kept) (source : Life) (number : MsgNo) (p : Piece)
     → Shows e v → IsSomeAnd (message_at e.early source number) (Awaits p.offset (length p.bytes))
     → Shows (record e { early = Early.changed e.early source number (λ m. with_spent (filled m p.offset p.bytes)) }) (with_early source number.0 (with_more (Some p)) v)
+
+-- A message that enters comes to the matcher as if nothing else of its life changed: so the number of the next one may rise before, by all
+-- that enter.
+abbrev pub EntersAside : Type 0
+EntersAside =
+    (source : Life) (v : Kept) (peers : Life → Peer)
+    → record (enter_one source v) { peers = peers } ≡ arrive_one (next_of v source) (record v { peers = peers })

@@ -2,7 +2,7 @@
 #![tactic(auto)]
 
 ghost use Rattle.rdm_state.specs.LifeLaws.{Accepts, Begins, Greets, Inserts, Knows, Learns, Passes, Supersedes};
-ghost use Rattle.rdm_state.specs.MessageLaws.{Adds, Arrives, Hears, IsTaken, Meets, Owes, Posts, Takes};
+ghost use Rattle.rdm_state.specs.MessageLaws.{Adds, Arrives, EntersAside, Hears, IsTaken, Meets, Owes, Posts, Takes};
 ghost use Rattle.rdm_state.specs.SendLaws.{AnswersGo, AsksCome, GrantsCome, PacketsGo, RepliesGo, SendsEnd, SendsLost};
 ghost use Rattle.rdm_state.specs.Laws.{Cancels, Ends, Fills, Grants, Loses, Polls, Registers, Starts};
 
@@ -51,6 +51,7 @@ pub fn messages_law()
     ensures owes { Owes }
     ensures hears { Hears }
     ensures adds { Adds }
+    ensures enters { EntersAside }
 {}
 
 /// A receive and a send that are accepted show what the record makes of them; so does what is known of a life that is met,
