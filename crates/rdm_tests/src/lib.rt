@@ -6,6 +6,8 @@ mod asks;
 #[cfg(test)]
 mod endpoint;
 #[cfg(test)]
+mod generate;
+#[cfg(test)]
 mod granted;
 #[cfg(test)]
 mod headers;
