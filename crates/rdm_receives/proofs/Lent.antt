@@ -25,7 +25,7 @@ use Rattle.rdm_life.specs.Landing.{with_piece}
 use Rattle.rdm_receives.specs.View.{ReceiveView, IsReceive}
 use Rattle.rdm_receives.specs.Answers.{unlent, landed}
 use Rattle.rdm_receives.specs.Shows.{Shows}
-use Rattle.rdm_receives.specs.Laws.{LendShows, UnlendShows, LandShows}
+use Rattle.rdm_receives.specs.Laws.{LendShows, UnlendShows, LandShows, FreeIsMissing}
 use Rattle.rdm_receives.proofs.Coming.{show_same}
 use Rattle.rdm_receives.proofs.Showing.{bytes_come}
 
@@ -141,3 +141,7 @@ land_shows r l at bytes part is s lent kept =
     let seen = agrees_unlent d.tiles d.missing d.lent {room = d.room} is.agrees d refl at len part lent in
     subst (λ (n : Landing). Shows (record r { landed = n }) (with_piece (record { offset = at; bytes = bytes }) l)) (sym same)
     (bytes_come (unlent r at len part) l at bytes (unlent_capacity d at len part is.agrees lent ∙ is.places) seen.taken back (unlent_missing d at len part is.agrees lent))
+
+-- a range that waits and of which nothing is lent
+pub free_is_missing : FreeIsMissing
+free_is_missing r at len m free = all_from_each true at len r.landed.missing m.1.0 (λ k p q. sym (ap (λ b. b || get_or r.landed.missing k false) (free k p q)) ∙ m.1.1 k p q)

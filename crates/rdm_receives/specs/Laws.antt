@@ -11,6 +11,7 @@ use Rattle.rdm_gaps.specs.Places.{Missing, AreMissing}
 use Rattle.rdm_mr.specs.Part.{Piece}
 use Rattle.rdm_mr.specs.Tiles.{AreBytes, IsAll}
 use Rattle.rdm_land.specs.Landed.{MayLend, IsPartOf, IsLent, capacity, with_lent}
+use Rattle.rdm_land.specs.Arrivals.{IsFree}
 use Rattle.rdm_match.specs.Matcher.{Pair}
 use Rattle.rdm_model.specs.Beginnings.{Own}
 use Rattle.rdm_model.specs.Deeds.{Asks}
@@ -107,6 +108,10 @@ ZerosShow =
     → (length p.bytes ≡ l.receive.req.len) × ((k : ℕ) → k < length p.bytes → (zeroed l).part k ≡ get_or p.bytes k 0)
 
 -- ---- loans
+
+-- a range of its message that waits, and of which nothing is lent, is missing, so it may be filled
+abbrev pub FreeIsMissing : Type 0
+FreeIsMissing = (r : ReceiveView) (at len : ℕ) → IsMissing r at len → IsFree r.landed at len → AreMissing at len r.landed.missing
 
 -- a loan changes nothing of the record
 abbrev pub LendShows : Type 0

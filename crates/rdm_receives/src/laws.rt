@@ -2,7 +2,7 @@
 ghost use Rattle.rdm_receives.specs.Laws.{NewShows, MessageShows, RoomShows, FillShows};
 ghost use Rattle.rdm_receives.specs.Laws.{MissingShows, FullShows, LandedShows, GrantShows, OwesShow};
 ghost use Rattle.rdm_receives.specs.Laws.{BytesShow, ExcessShows, PartShows, ZerosShow};
-ghost use Rattle.rdm_receives.specs.Laws.{LendShows, UnlendShows, LandShows};
+ghost use Rattle.rdm_receives.specs.Laws.{LendShows, UnlendShows, LandShows, FreeIsMissing};
 
 /// Each call makes of a receive that shows a live receive one that shows what the record makes of it.
 pub fn receives_law()
@@ -29,9 +29,11 @@ pub fn ends_law()
     ensures zeros { ZerosShow }
 {}
 
-/// A loan changes nothing of the record, and what lands is a piece that came.
+/// A loan changes nothing of the record, and what lands is a piece that came. A range that waits and of
+/// which nothing is lent may be filled.
 pub fn loans_law()
     ensures lend { LendShows }
     ensures unlend { UnlendShows }
     ensures land { LandShows }
+    ensures free { FreeIsMissing }
 {}

@@ -6,6 +6,8 @@ mod laws;
 mod loans;
 mod questions;
 mod receive;
+#[cfg(test)]
+mod tests;
 
 pub use laws::{answers_law, ends_law, loans_law, receives_law};
 pub use receive::Receive;

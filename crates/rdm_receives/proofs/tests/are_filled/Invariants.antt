@@ -1,0 +1,5 @@
+use Rattle.rdm_land.specs.Landed.{Keeps}
+use Rattle.rdm_receives.proofs.tests.are_filled.Given as goal
+
+abbrev pub invariant-loop-at : goal.invariant-loop-at
+invariant-loop-at l = Keeps l.fn.receive.landed l.receive.landed
