@@ -20,3 +20,5 @@ pub mod Pushed
 pub mod Inserted
 -- messages that are heard of
 pub mod Heard
+-- each operation is counted
+pub mod Counted

@@ -147,7 +147,7 @@ cancels e v number r piece s sound o live none all =
     }
 
 -- the message of a receive that has one
-with_one : (r : ReceiveView) (l : LiveReceive) (o : Option Matched) → l.matched ≡ o → is_full l.matched ≡ true → (m : Matched) × (l.matched ≡ Some m) × (has_all m ≡ true)
+pub with_one : (r : ReceiveView) (l : LiveReceive) (o : Option Matched) → l.matched ≡ o → is_full l.matched ≡ true → (m : Matched) × (l.matched ≡ Some m) × (has_all m ≡ true)
 unfolding is_full
 with_one r l None is full = absurd (clash (sym (ap is_full is) ∙ full))
   where
@@ -163,7 +163,7 @@ outcome_is : (r : ReceiveView) (l : LiveReceive) (m : Matched) (bytes : List ℕ
 outcome_is r l m bytes outcome None shows is same more = absurd shows
 outcome_is r l m bytes outcome (Some x) shows is same more = is ∙ (λ i. Took (shows.source i) (shows.head i).tag (shows.head i).cq_data (same i) (more i))
 
-completes : (l : LiveReceive) (m : Matched) → has_all m ≡ true
+pub completes : (l : LiveReceive) (m : Matched) → has_all m ≡ true
     → completion_of l (Some m) ≡ Recv (record { 0 = l.receive.number }) (Took m.source m.head.tag m.head.cq_data (map l.part (below (min l.receive.req.len m.head.length))) (m.head.length - l.receive.req.len)) ∷ []
 unfolding completion_of
 completes l m all = rw all refl

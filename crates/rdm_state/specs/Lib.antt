@@ -14,3 +14,5 @@ pub mod SendLaws
 pub mod MessageLaws
 -- and of operations that are accepted, and of lives
 pub mod LifeLaws
+-- that each operation is counted
+pub mod Counted

@@ -1,6 +1,7 @@
 //! That the parts of an endpoint, each changed as its calls change it, show what an endpoint's record makes of the same step.
 #![tactic(auto)]
 
+ghost use Rattle.rdm_state.specs.Counted.{BeginsCounted, StaysCounted, TellsCounts};
 ghost use Rattle.rdm_state.specs.LifeLaws.{Accepts, Begins, Greets, Inserts, Knows, Learns, Passes, Supersedes};
 ghost use Rattle.rdm_state.specs.MessageLaws.{Adds, Arrives, EntersAside, Hears, IsTaken, Meets, Owes, Posts, Takes};
 ghost use Rattle.rdm_state.specs.SendLaws.{AnswersGo, AsksCome, GrantsCome, PacketsGo, RepliesGo, SendsEnd, SendsLost};
@@ -69,4 +70,12 @@ pub fn lives_law()
 pub fn inserts_law()
     ensures inserts { Inserts }
     ensures supersedes { Supersedes }
+{}
+
+/// Each operation that was accepted is live, or its completion waits or was polled: before any deed, and after each deed that may be
+/// done. So the places of completions that are taken are those that the record's facts count.
+pub fn counted_law()
+    ensures begins { BeginsCounted }
+    ensures stays { StaysCounted }
+    ensures tells { TellsCounts }
 {}
