@@ -1,5 +1,5 @@
 -- Each operation is counted.
-use Rattle.std.proofs.Common.{◌≡◌, ℕ, zero, suc, ◌+◌, ◌-◌, ◌≤◌, Bool, true, false, not, cond, List, [], ◌∷◌, ◌++◌, length, filter, find, map, drop, Option, Some, None, refl, sym, ap, ◌∙◌, subst, ◌⊎◌, inl, inr, arith}
+use Rattle.std.proofs.Common.{◌≡◌, ℕ, ◌+◌, Bool, true, false, not, cond, List, [], ◌∷◌, ◌++◌, length, filter, find, map, drop, Option, Some, None, refl, sym, ap, ◌∙◌, subst, inl, inr, arith}
 use Rattle.std.specs.Prelude.{◌==◌, slice_get, is_some, IsSome, flat_map}
 use Rattle.std.proofs.lemmas.List.{length-append, length-map}
 use Rattle.rdm_lists.specs.Lists.{Member, without_first}
@@ -22,20 +22,20 @@ use Rattle.rdm_model.specs.declared.job.Instr.{Instr}
 use Rattle.rdm_model.specs.declared.job.Instr.TheVariants.{Insert, Reg, Send, Recv, Cancel}
 use Rattle.rdm_model.specs.Beginnings.{Own}
 use Rattle.rdm_model.specs.Currents.{other_life}
-use Rattle.rdm_model.specs.Deeds.{Deed, Did, Pushed, Took, Polled, Item, Spelled, Asks, Gives}
+use Rattle.rdm_model.specs.Deeds.{Did, Pushed, Took, Polled, Item, Spelled, Asks, Gives}
 use Rattle.rdm_model.specs.Replies.{Reply}
-use Rattle.rdm_life.specs.Facts.{facts_in, meets_receive_in}
+use Rattle.rdm_life.specs.Facts.{meets_receive_in}
 use Rattle.rdm_life.specs.Forgetting.{forget, concerns, is_among, gone_completions}
 use Rattle.rdm_life.specs.Handling.{opened_by, with_more, receive_of, land_found, add, after_rtm, after_item, after_take, after_instr, after}
-use Rattle.rdm_life.specs.Kept.{Kept, LiveSend, LiveReceive, Matched, nothing_kept, is_send, EarlyMessage, Peer, is_receive, receive_numbered, send_numbered, change_where, with_peer}
-use Rattle.rdm_life.specs.Landing.{land, with_window, with_piece, with_message, is_full, completion_of, has_all}
+use Rattle.rdm_life.specs.Kept.{Kept, LiveSend, LiveReceive, Matched, is_send, EarlyMessage, Peer, is_receive, receive_numbered, send_numbered, change_where, with_peer}
+use Rattle.rdm_life.specs.Landing.{land, with_window, with_piece, with_message, is_full, completion_of}
 use Rattle.rdm_life.specs.Lives.{greet, after_insert, with_source}
 use Rattle.rdm_life.specs.Receiving.{entering_in, enter, hear, with_early, after_cancel, after_recv, receive_in, with_live}
 use Rattle.rdm_life.specs.Memory.{part_of}
 use Rattle.rdm_life.specs.Sending.{push_send, push_first, send_next, after_grant, after_ask, end_sends, send_to, after_packet, completion_of_send, ends_by_push, pushed, is_send_of, begun, sent_in}
 use Rattle.rdm_sound.specs.Orders.{IsAllowed}
 use Rattle.rdm_sound.specs.Premises.{IsOrderly, AreOnce, receive_numbers, send_numbers}
-use Rattle.rdm_sound.specs.Steps.{times, settle_found, settle_one, land_one, meet_one, post_found, arrive_found, arrive_one, enter_one, with_replies, with_end, with_next_window, next_of}
+use Rattle.rdm_sound.specs.Steps.{settle_found, settle_one, land_one, meet_one, post_found, arrive_found, enter_one, with_replies, with_end, with_next_window, next_of}
 use Rattle.rdm_sound.proofs.Deeds.{heard_orderly, source_orderly, times_keep, accepted_orderly}
 use Rattle.rdm_sound.proofs.Enters.{enters_each}
 use Rattle.rdm_sound.proofs.Lists.{find_only}
@@ -43,7 +43,7 @@ use Rattle.rdm_sound.proofs.Orderly.{numbered, orderly_thinned, same_key}
 use Rattle.rdm_sound.proofs.Pairs.{taken}
 use Rattle.rdm_sound.proofs.Posts.{posts_one, lands_in_one}
 use Rattle.rdm_sound.proofs.Thinning.{enters_thin}
-use Rattle.rdm_state.specs.Counted.{IsCounted, accepted_count, known_count, PollsSome, BeginsCounted, StaysCounted, TellsCounts}
+use Rattle.rdm_state.specs.Counted.{IsCounted, accepted_count, known_count, BeginsCounted, StaysCounted, TellsCounts}
 use Rattle.rdm_state.proofs.Among.{one_fewer, as_many}
 use Rattle.rdm_state.proofs.Over.{completes}
 

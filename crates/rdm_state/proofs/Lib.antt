@@ -22,3 +22,6 @@ pub mod Inserted
 pub mod Heard
 -- each operation is counted
 pub mod Counted
+-- answers give bytes of live sends
+pub mod Giving
+pub mod GivingDeeds

@@ -24,7 +24,7 @@ number_is : (a b : ℕ) → (a == b) ≡ true → a ≡ b
 number_is a b h = grind (arith, h)
 
 -- a push leaves what is sent
-sent_same : (own : Own) (s : LiveSend) → (pushed own s).sent ≡ s.sent
+pub sent_same : (own : Own) (s : LiveSend) → (pushed own s).sent ≡ s.sent
 unfolding pushed
 sent_same own s = by_case (is_opened own s)
   where
@@ -33,7 +33,7 @@ sent_same own s = by_case (is_opened own s)
     by_case false = refl
 
 -- one that goes on in its place
-goes_on : (own : Own) (n : ℕ) (sends : List LiveSend) → ((t : LiveSend) → Member t sends → t.sent.number ≡ n → after_packet own t ≡ pushed own t ∷ [])
+pub goes_on : (own : Own) (n : ℕ) (sends : List LiveSend) → ((t : LiveSend) → Member t sends → t.sent.number ≡ n → after_packet own t ≡ pushed own t ∷ [])
     → flat_map (λ (t : LiveSend). cond (is_send n t) (after_packet own t) (t ∷ [])) sends ≡ change_where (is_send n) (pushed own) sends
 unfolding change_where
 goes_on own n [] h = refl
@@ -45,7 +45,7 @@ goes_on own n (t ∷ sends) h =
     ] refl
 
 -- one that is over goes
-goes_out : (own : Own) (n : ℕ) (sends : List LiveSend) → ((t : LiveSend) → Member t sends → t.sent.number ≡ n → after_packet own t ≡ [])
+pub goes_out : (own : Own) (n : ℕ) (sends : List LiveSend) → ((t : LiveSend) → Member t sends → t.sent.number ≡ n → after_packet own t ≡ [])
     → flat_map (λ (t : LiveSend). cond (is_send n t) (after_packet own t) (t ∷ [])) sends ≡ filter (λ (t : LiveSend). not (is_send n t)) sends
 goes_out own n [] h = refl
 goes_out own n (t ∷ sends) h =

@@ -16,3 +16,5 @@ pub mod MessageLaws
 pub mod LifeLaws
 -- that each operation is counted
 pub mod Counted
+-- and that answers give bytes of live sends
+pub mod Giving

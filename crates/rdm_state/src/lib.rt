@@ -2,6 +2,7 @@
 #![tactic(auto)]
 
 ghost use Rattle.rdm_state.specs.Counted.{BeginsCounted, StaysCounted, TellsCounts};
+ghost use Rattle.rdm_state.specs.Giving.{BeginsGiving, OwesNone, StaysGiving};
 ghost use Rattle.rdm_state.specs.LifeLaws.{Accepts, Begins, Greets, Inserts, Knows, Learns, Passes, Supersedes};
 ghost use Rattle.rdm_state.specs.MessageLaws.{Adds, Arrives, EntersAside, Hears, IsTaken, Meets, Owes, Posts, Takes};
 ghost use Rattle.rdm_state.specs.SendLaws.{AnswersGo, AsksCome, GrantsCome, PacketsGo, RepliesGo, SendsEnd, SendsLost};
@@ -78,4 +79,12 @@ pub fn counted_law()
     ensures begins { BeginsCounted }
     ensures stays { StaysCounted }
     ensures tells { TellsCounts }
+{}
+
+/// What is owed that gives bytes of a send goes to the life of that send, which is live and owes as many answers: before any deed, and
+/// after each deed that may be done. So nothing that is owed gives bytes of a send that owes no answer.
+pub fn giving_law()
+    ensures begins { BeginsGiving }
+    ensures stays { StaysGiving }
+    ensures none { OwesNone }
 {}
