@@ -25,3 +25,5 @@ pub mod Counted
 -- answers give bytes of live sends
 pub mod Giving
 pub mod GivingDeeds
+-- heads of messages fit
+pub mod Fitting

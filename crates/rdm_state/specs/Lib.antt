@@ -18,3 +18,5 @@ pub mod LifeLaws
 pub mod Counted
 -- and that answers give bytes of live sends
 pub mod Giving
+-- and that heads of messages are those of packets
+pub mod Fitting

@@ -2,6 +2,7 @@
 #![tactic(auto)]
 
 ghost use Rattle.rdm_state.specs.Counted.{BeginsCounted, StaysCounted, TellsCounts};
+ghost use Rattle.rdm_state.specs.Fitting.{BeginsFitting, StaysFitting};
 ghost use Rattle.rdm_state.specs.Giving.{BeginsGiving, OwesNone, StaysGiving};
 ghost use Rattle.rdm_state.specs.LifeLaws.{Accepts, Begins, Greets, Inserts, Knows, Learns, Passes, Supersedes};
 ghost use Rattle.rdm_state.specs.MessageLaws.{Adds, Arrives, EntersAside, Hears, IsTaken, Meets, Owes, Posts, Takes};
@@ -87,4 +88,11 @@ pub fn giving_law()
     ensures begins { BeginsGiving }
     ensures stays { StaysGiving }
     ensures none { OwesNone }
+{}
+
+/// The heads of early messages, and of messages that live receives take, are heads that packets carry: before any deed, and after each
+/// deed that may be done in which a packet that opens a message carries one.
+pub fn fitting_law()
+    ensures begins { BeginsFitting }
+    ensures stays { StaysFitting }
 {}
